@@ -5,15 +5,15 @@ use Rattle.tt_code.specs.Fonts.{Font}
 use Rattle.tt_code.specs.declared.limits.Limits.{Limits}
 use Rattle.tt_abs.specs.Settings.{programs_of}
 use Rattle.tt_abs.specs.declared.setting.Setting.{Setting}
-use Rattle.tt_family.specs.declared.fault.ProgramFault.{ProgramFault}
-use Rattle.tt_family.specs.declared.fault.ProgramFault.TheVariants as fault
+use Rattle.tt_abs.specs.declared.refusal.Refusal.{Refusal}
+use Rattle.tt_abs.specs.declared.refusal.Refusal.TheVariants as fault
 use Rattle.hintcheck.specs.BarePrograms.{IsJudged, font_around}
 use Rattle.hintcheck.specs.ProgramVerdicts.{IfRefused, IsAppendedRefusal}
 use Rattle.hintcheck.specs.Programs.{HasGoodFamily, HasLeastFamily, IsRefusal, Subject}
 use Rattle.hintcheck.specs.declared.report.Refused.{Refused}
 
 -- the fault refuses the program, which is listed
-pub judged_refused : (x : Subject) (f : ProgramFault) (rs : List Refused) → IfRefused x.name f (IsRefusal x) → IfRefused x.name f (λ _. HasGoodFamily x → ⊥) → IsAppendedRefusal x.name f [] rs → IsJudged x rs
+pub judged_refused : (x : Subject) (f : Refusal) (rs : List Refused) → IfRefused x.name f (IsRefusal x) → IfRefused x.name f (λ _. HasGoodFamily x → ⊥) → IsAppendedRefusal x.name f [] rs → IsJudged x rs
 judged_refused x (fault.Refused spot offset r) rs is none listed = let J : List Refused → Type 0 = λ t. IsJudged x t in subst J (sym listed) (is, none)
 judged_refused x (fault.OutOfMemory e) rs is none listed = absurd listed
 

@@ -12,10 +12,10 @@ use Rattle.tt_abs.specs.Settings.{setting_of}
 use Rattle.tt_abs.specs.StateFlow.{Place}
 use Rattle.tt_family.specs.Checks.{IsOutOfMemory, Names}
 use Rattle.tt_family.specs.Contents.{Contents, family_of}
-use Rattle.tt_family.specs.Spots.{spot_of}
-use Rattle.tt_family.specs.declared.fault.ProgramFault.{ProgramFault}
-use Rattle.tt_family.specs.declared.fault.ProgramFault.TheVariants as fault
-use Rattle.tt_family.specs.declared.spot.Spot.{Spot}
+use Rattle.tt_abs.specs.Spots.{spot_of}
+use Rattle.tt_abs.specs.declared.refusal.Refusal.{Refusal}
+use Rattle.tt_abs.specs.declared.refusal.Refusal.TheVariants as fault
+use Rattle.tt_abs.specs.declared.spot.Spot.{Spot}
 use Rattle.tt_cert.specs.declared.form.Form.{Form}
 use Rattle.tt_cert.specs.declared.form.Form.TheVariants.{Two, Three, Four}
 use Rattle.hintcheck.specs.Certificates.{IsBreak, IsCheckRefusal, IsGoodListing, IsListingBrokenFirst, Passes, PassesToEnd, not_good}
@@ -42,7 +42,7 @@ pub has_fault : (form : Form) (x : Subject) (family : Contents) (is : List Instr
 has_fault form x family is offset cut at instructions p = no_fault x.bytes is instructions offset cut p.cut.is_cut p.cut.structured at
 
 -- the family isn't good for the program
-pub broken_listing : (form : Form) (x : Subject) (s : Setting) (family : Contents) (f : ProgramFault) → IsSubjectOf x s
+pub broken_listing : (form : Form) (x : Subject) (s : Setting) (family : Contents) (f : Refusal) → IsSubjectOf x s
     → Names (IsListingBrokenFirst form (setting_of s) s.start.now family) f
     → (IsGoodListing form (setting_of s) s.start.now family → IsOutOfMemory f) → IsRefusedBy form x family f
 broken_listing form x s family (fault.OutOfMemory e) subject names exact = tt
@@ -61,7 +61,7 @@ broken_listing form x s family (fault.Refused spot offset r) subject (at, es, eo
     exact (subst S subject.setting (subst F subject.functions good)))
 
 -- the same of what a check returns
-pub broken_result : {T : Type 0} (form : Form) (x : Subject) (s : Setting) (family : Contents) (r : Result T ProgramFault) → IsSubjectOf x s
+pub broken_result : {T : Type 0} (form : Form) (x : Subject) (s : Setting) (family : Contents) (r : Result T Refusal) → IsSubjectOf x s
     → IfErr r (Names (IsListingBrokenFirst form (setting_of s) s.start.now family))
     → (IsGoodListing form (setting_of s) s.start.now family → IfErr r IsOutOfMemory) → IfErr r (IsRefusedBy form x family)
 broken_result form x s family (Ok y) subject names exact = tt

@@ -5,8 +5,8 @@ use Rattle.tt_code.specs.Cut.{Instruction}
 use Rattle.tt_font.specs.Reading.{FontData, GlyphData}
 use Rattle.tt_cert.specs.declared.name.Name.{Name}
 use Rattle.tt_cert.specs.declared.name.Name.TheVariants as name
-use Rattle.tt_family.specs.declared.fault.ProgramFault.{ProgramFault}
-use Rattle.tt_family.specs.declared.fault.ProgramFault.TheVariants.{OutOfMemory as NoMemory, Refused as RefusedAt}
+use Rattle.tt_abs.specs.declared.refusal.Refusal.{Refusal}
+use Rattle.tt_abs.specs.declared.refusal.Refusal.TheVariants.{OutOfMemory as NoMemory, Refused as RefusedAt}
 use Rattle.hintcheck_explain.specs.Faults.{TellsFailure as TellsExplained}
 use Rattle.hintcheck_explain.specs.declared.asked.ExplainFault.{ExplainFault}
 use Rattle.hintcheck_explain.specs.declared.asked.ExplainFault.TheVariants as explaining
@@ -36,11 +36,11 @@ fault_of_text explaining.NoInstruction (Err told) other is = absurd (other refl)
 fault_of_text (explaining.OutOfMemory error) (Err told) other is = rw is tt
 
 -- a program that a fault refuses
-pub refusal_of : (x : Subject) (fault : ProgramFault) → IsFaultOfProgram x fault → RefusesProgram fault → (r : Refused) × IsRefusal x r
+pub refusal_of : (x : Subject) (fault : Refusal) → IsFaultOfProgram x fault → RefusesProgram fault → (r : Refused) × IsRefusal x r
 refusal_of x (RefusedAt spot offset reason) is refuses = (reported_at x.name spot offset reason, is)
 refusal_of x (NoMemory e) is refuses = absurd refuses
 
-pub judged_refused : (x : Subject) (fault : ProgramFault) (accepted : Bool) → IsFaultOfProgram x fault → (accepted ≡ false) × RefusesProgram fault → IsAnswered x accepted
+pub judged_refused : (x : Subject) (fault : Refusal) (accepted : Bool) → IsFaultOfProgram x fault → (accepted ≡ false) × RefusesProgram fault → IsAnswered x accepted
 judged_refused x fault accepted is refuses = rw refuses.0 (refusal_of x fault is refuses.1)
 
 -- a program whose end is known has its least family
@@ -73,12 +73,12 @@ glyph_told d f p functions known id g false status ends cvt_ends there judged ze
 }
 
 -- what the exit status of a program tells before which one is refused
-pub font_before : (d : FontData) (called : Name) (fault : ProgramFault) (status : ℕ) → IsFaultOfProgram (font_subject d) fault → RefusesProgram fault → status ≡ 1 → TellsProgram d called status
+pub font_before : (d : FontData) (called : Name) (fault : Refusal) (status : ℕ) → IsFaultOfProgram (font_subject d) fault → RefusesProgram fault → status ≡ 1 → TellsProgram d called status
 font_before d called fault status is refuses one =
     let r = refusal_of (font_subject d) fault is refuses in
     record { accepted = λ zero. absurd (let bad = one in cc); refused = λ same. font_refused called r.0 r.1 }
 
-pub cvt_before : (d : FontData) (f : List Instruction) (functions : List (ℕ × ℕ)) (id : ℕ) (fault : ProgramFault) (status : ℕ) → EndsWith (font_subject d) f functions
+pub cvt_before : (d : FontData) (f : List Instruction) (functions : List (ℕ × ℕ)) (id : ℕ) (fault : Refusal) (status : ℕ) → EndsWith (font_subject d) f functions
     → IsFaultOfProgram (cvt_subject d f functions) fault → RefusesProgram fault → status ≡ 1 → TellsProgram d (name.Glyph id) status
 cvt_before d f functions id fault status ends is refuses one =
     let r = refusal_of (cvt_subject d f functions) fault is refuses in

@@ -6,8 +6,8 @@ use Rattle.std.specs.Io.KnownBytes.{Consumes, Keeps}
 use Rattle.std.proofs.KnownBytes.{Consumes-trans}
 use Rattle.std.proofs.lemmas.List.{length-append}
 use Rattle.tt_family.specs.Contents.{Contents}
-use Rattle.tt_family.specs.declared.fault.ProgramFault.{ProgramFault}
-use Rattle.tt_family.specs.declared.fault.ProgramFault.TheVariants as program
+use Rattle.tt_abs.specs.declared.refusal.Refusal.{Refusal}
+use Rattle.tt_abs.specs.declared.refusal.Refusal.TheVariants as program
 use Rattle.tt_cert.specs.Answers.{StopsAtEnd, input_at}
 use Rattle.tt_cert.specs.declared.fault.DecodeFault.{DecodeFault}
 use Rattle.tt_cert.specs.declared.fault.DecodeFault.TheVariants as decode
@@ -294,7 +294,7 @@ cut_short_after s form place old mid new check.Read reads has = λ told.
     )
 
 -- what is reported of a refused program is no failed read
-pub tells_no_read : (called : Name) (fault : ProgramFault) (r : Result Outcome CheckFontFault) (old new : Option (List ℕ)) (Is : List ℕ → Type 0) → TellsRefusal called fault r
+pub tells_no_read : (called : Name) (fault : Refusal) (r : Result Outcome CheckFontFault) (old new : Option (List ℕ)) (Is : List ℕ → Type 0) → TellsRefusal called fault r
     → IfErr r (HasRead old new Is)
 tells_no_read called (program.Refused spot offset reason) r old new Is told = rw told tt
 tells_no_read called (program.OutOfMemory e) r old new Is told = rw told tt

@@ -5,8 +5,8 @@ use Rattle.std.specs.declared.alloc.AllocError.{AllocError}
 use Rattle.std.proofs.lemmas.Option.{slice_get_within}
 use Rattle.tt_code.specs.Cut.{Instruction}
 use Rattle.tt_code.specs.Fonts.{Font}
-use Rattle.tt_family.specs.declared.fault.ProgramFault.{ProgramFault}
-use Rattle.tt_family.specs.declared.fault.ProgramFault.TheVariants as program
+use Rattle.tt_abs.specs.declared.refusal.Refusal.{Refusal}
+use Rattle.tt_abs.specs.declared.refusal.Refusal.TheVariants as program
 use Rattle.tt_cert.specs.declared.form.Form.{Form}
 use Rattle.tt_cert.specs.declared.name.Name.{Name}
 use Rattle.tt_cert.specs.declared.name.Name.TheVariants as name
@@ -26,7 +26,7 @@ use Rattle.hintcheck.proofs.FontEnds.{known_of_found}
 use Rattle.hintcheck.proofs.FontSafety.{good_end}
 
 -- what is reported of a refused program
-tells : (called : Name) (fault : ProgramFault) (o : Outcome) (Is : Refused → Type 0) → TellsOutcome called fault (Ok o) → IfRefused called fault Is
+tells : (called : Name) (fault : Refusal) (o : Outcome) (Is : Refused → Type 0) → TellsOutcome called fault (Ok o) → IfRefused called fault Is
     → (r : Refused) × Is r × (o ≡ refused_as called r)
 tells called (program.Refused spot offset reason) o Is told is = (reported_at called spot offset reason, is, one o (refused_as called (reported_at called spot offset reason)) told)
   where
@@ -44,7 +44,7 @@ pub first_found : (d : FontData) (f : List Instruction) (functions : List (ℕ �
 first_found d f functions found o is ends =
     let S : Outcome → Type 0 = λ x. IsOutcomeByFinding d at_start x (Some found) (after_font f functions) in subst S (sym is) (font_found f functions found ends)
 
-pub first_refused : (d : FontData) (fault : ProgramFault) (o : Outcome) → TellsOutcome name.Font fault (Ok o) → IfRefused name.Font fault (IsRefusal (font_subject d))
+pub first_refused : (d : FontData) (fault : Refusal) (o : Outcome) → TellsOutcome name.Font fault (Ok o) → IfRefused name.Font fault (IsRefusal (font_subject d))
     → IsOutcomeByFinding d at_start o None over
 first_refused d fault o told refused =
     let (r, is, same) = tells name.Font fault o (IsRefusal (font_subject d)) told refused in
@@ -58,7 +58,7 @@ second_found d f p functions known found o is ends =
     let S : Outcome → Type 0 = λ x. IsOutcomeByFinding d (after_font f functions) x (Some found) (at_glyph f p known 0) in
     subst S (sym is) (cvt_found f p functions known found ends)
 
-pub second_refused : (d : FontData) (f : List Instruction) (functions : List (ℕ × ℕ)) (fault : ProgramFault) (o : Outcome) → TellsOutcome name.Cvt fault (Ok o)
+pub second_refused : (d : FontData) (f : List Instruction) (functions : List (ℕ × ℕ)) (fault : Refusal) (o : Outcome) → TellsOutcome name.Cvt fault (Ok o)
     → IfRefused name.Cvt fault (IsRefusal (cvt_subject d f functions)) → IsOutcomeByFinding d (after_font f functions) o None over
 second_refused d f functions fault o told refused =
     let (r, is, same) = tells name.Cvt fault o (IsRefusal (cvt_subject d f functions)) told refused in
@@ -81,7 +81,7 @@ module _ (d : FontData) (f p : List Instruction) (known : List (ℕ × ℕ)) (fo
       let S : Outcome → Type 0 = λ x. IsOutcomeByFinding d (at_glyph f p known id) x (Some found) (at_glyph f p known (id + 1)) in
       subst S (sym is) (glyph_found f p known id g instructions found there (of_glyph (λ x. IsFoundFor x instructions found) is_found))
 
-  pub third_refused : (fault : ProgramFault) (o : Outcome) → TellsOutcome (name.Glyph id) fault (Ok o)
+  pub third_refused : (fault : Refusal) (o : Outcome) → TellsOutcome (name.Glyph id) fault (Ok o)
       → IfRefused (name.Glyph id) fault (IsRefusal (glyph_subject font kept id g)) → IsOutcomeByFinding d (at_glyph f p known id) o None (at_glyph f p known (id + 1))
   third_refused fault o told refused =
       let refusal = of_glyph (λ x. IfRefused (name.Glyph id) fault (IsRefusal x)) refused in

@@ -12,8 +12,8 @@ use Rattle.tt_abs.specs.Settings.{programs_of, setting_of}
 use Rattle.tt_abs.specs.StateFlow.{FunctionsFit, Place}
 use Rattle.tt_family.specs.Fillings.{HasGoodFilling, IsFilling}
 use Rattle.tt_family.specs.GoodFamilies.{EndsWell, HasEnd, IsGoodFamily}
-use Rattle.tt_family.specs.declared.fault.ProgramFault.{ProgramFault}
-use Rattle.tt_family.specs.declared.fault.ProgramFault.TheVariants.{Refused, OutOfMemory}
+use Rattle.tt_abs.specs.declared.refusal.Refusal.{Refusal}
+use Rattle.tt_abs.specs.declared.refusal.Refusal.TheVariants.{Refused, OutOfMemory}
 use Rattle.tt_family.proofs.FillingLaws.{ends_listed}
 use Rattle.tt_font.specs.Reading.{FontData}
 use Rattle.tt_family.specs.Contents.{family_of}
@@ -104,11 +104,11 @@ least_of x is family a = record { instructions = is; cut = a.cut; family = a.fil
 
 -- a refused font program and a refused CVT program end the verdict
 
-pub font_ends_verdict : (d : FontData) (fault : ProgramFault) (rs : List AnyRefused) → IfRefused name.Font fault (IsRefusal (font_subject d)) → IsAppendedRefusal name.Font fault [] rs → AreAllRefused d rs
+pub font_ends_verdict : (d : FontData) (fault : Refusal) (rs : List AnyRefused) → IfRefused name.Font fault (IsRefusal (font_subject d)) → IsAppendedRefusal name.Font fault [] rs → AreAllRefused d rs
 font_ends_verdict d (Refused spot offset r) rs is listed = let A : List AnyRefused → Type 0 = λ t. AreAllRefused d t in subst A (sym listed) (font_refused (reported_at name.Font spot offset r) is)
 font_ends_verdict d (OutOfMemory e) rs is listed = absurd listed
 
-pub cvt_ends_verdict : (d : FontData) (f : List Instruction) (functions : List (ℕ × ℕ)) (fault : ProgramFault) (rs : List AnyRefused) → EndsWith (font_subject d) f functions
+pub cvt_ends_verdict : (d : FontData) (f : List Instruction) (functions : List (ℕ × ℕ)) (fault : Refusal) (rs : List AnyRefused) → EndsWith (font_subject d) f functions
     → IfRefused name.Cvt fault (IsRefusal (cvt_subject d f functions)) → IsAppendedRefusal name.Cvt fault [] rs → AreAllRefused d rs
 cvt_ends_verdict d f functions (Refused spot offset r) rs ends is listed =
     let A : List AnyRefused → Type 0 = λ t. AreAllRefused d t in subst A (sym listed) (cvt_refused f functions (reported_at name.Cvt spot offset r) ends is)

@@ -13,8 +13,8 @@ use Rattle.hintcheck.specs.Programs.{HasLeastFamily, IsRefusal}
 use Rattle.hintcheck.specs.ProgramVerdicts.{IfRefused, IsAppendedRefusal, reported_at}
 use Rattle.tt_cert.specs.declared.name.Name.TheVariants as name
 use Rattle.hintcheck.specs.declared.report.Refused.{Refused}
-use Rattle.tt_family.specs.declared.fault.ProgramFault.{ProgramFault}
-use Rattle.tt_family.specs.declared.fault.ProgramFault.TheVariants as fault
+use Rattle.tt_abs.specs.declared.refusal.Refusal.{Refusal}
+use Rattle.tt_abs.specs.declared.refusal.Refusal.TheVariants as fault
 
 -- a number below that of the glyphs has its glyph
 pub glyph_there : (part : Option GlyphPart) (gs : List GlyphData) (id : ℕ) → option_map glyph_data part ≡ slice_get gs id → id < length gs → IsSome part
@@ -50,7 +50,7 @@ module _ (font : Font) (functions : List (ℕ × ℕ)) (gs : List GlyphData) whe
       subst Q (sym (append_assoc rs (r ∷ []) others)) (below (r ∷ others) (subst R (sym (dropped_next gs id g at)) (refused id g (drop (id + 1) gs) r others is h)))
 
   -- the refused one that is listed
-  pub listed_next : (id : ℕ) (g : GlyphData) (rs rs' : List Refused) (f : ProgramFault) → AreRefusedBelow font functions gs id rs → slice_get gs id ≡ Some g
+  pub listed_next : (id : ℕ) (g : GlyphData) (rs rs' : List Refused) (f : Refusal) → AreRefusedBelow font functions gs id rs → slice_get gs id ≡ Some g
       → IfRefused (name.Glyph id) f (IsRefusal (glyph_subject font functions id g)) → IsAppendedRefusal (name.Glyph id) f rs rs' → AreRefusedBelow font functions gs (id + 1) rs'
   listed_next id g rs rs' (fault.Refused spot offset r) below at is listed =
       let B : List Refused → Type 0 = λ t. AreRefusedBelow font functions gs (id + 1) t in

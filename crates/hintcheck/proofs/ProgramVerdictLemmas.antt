@@ -29,10 +29,10 @@ use Rattle.tt_family.specs.Puts.{number_at}
 use Rattle.tt_family.specs.Ascending.{IsFinished}
 use Rattle.tt_family.specs.Fillings.{IsFilling}
 use Rattle.tt_family.specs.GoodFamilies.{EndsWell, IsGoodFamily}
-use Rattle.tt_family.specs.Spots.{spot_of}
-use Rattle.tt_family.specs.declared.fault.ProgramFault.{ProgramFault}
-use Rattle.tt_family.specs.declared.fault.ProgramFault.TheVariants as fault
-use Rattle.tt_family.specs.declared.spot.Spot.{Spot}
+use Rattle.tt_abs.specs.Spots.{spot_of}
+use Rattle.tt_abs.specs.declared.refusal.Refusal.{Refusal}
+use Rattle.tt_abs.specs.declared.refusal.Refusal.TheVariants as fault
+use Rattle.tt_abs.specs.declared.spot.Spot.{Spot}
 use Rattle.tt_find.specs.Found.{AreLeastContexts, HasLeastFilling, IsJustified, IsLeast, IsNeverEnding, LacksEnd, NamesPlace, NeedsAll, NoneIsGood, too_long, refused, apart, too_many, never_ends}
 use Rattle.tt_find.specs.declared.finder.Found.{Found}
 use Rattle.hintcheck.specs.FindingSessions.{IsFoundFor}
@@ -193,30 +193,30 @@ found_for x is s fs found es ef accepted least contexts needed = record {
 }
 
 -- what passes the check is what was found
-pub still_found : (r : Result Found ProgramFault) (found : Found) (P : Found → Type 0) → IfOk r (λ a. a ≡ found) → P found → IfOk r P
+pub still_found : (r : Result Found Refusal) (found : Found) (P : Found → Type 0) → IfOk r (λ a. a ≡ found) → P found → IfOk r P
 still_found (Ok a) found P same h = subst P (sym same) h
 still_found (Err e) found P same h = tt
 
 -- a refusal that is reported
-pub reported : (called : Name) (f : ProgramFault) (spot : Spot) (offset : ℕ) (r : Reason) (Is : AnyRefused → Type 0) → f ≡ fault.Refused spot offset r → Is (reported_at called spot offset r)
+pub reported : (called : Name) (f : Refusal) (spot : Spot) (offset : ℕ) (r : Reason) (Is : AnyRefused → Type 0) → f ≡ fault.Refused spot offset r → Is (reported_at called spot offset r)
     → IfRefused called f Is
-reported called f spot offset r Is e h = let P : ProgramFault → Type 0 = λ t. IfRefused called t Is in subst P (sym e) h
+reported called f spot offset r Is e h = let P : Refusal → Type 0 = λ t. IfRefused called t Is in subst P (sym e) h
 
 -- a fault that is passed on
-pub passed_on : {T : Type 0} (r : Result T ProgramFault) (f : ProgramFault) (P : ProgramFault → Type 0) → IsErrAnd r (λ x. x ≡ f) → P f → IfErr r P
+pub passed_on : {T : Type 0} (r : Result T Refusal) (f : Refusal) (P : Refusal → Type 0) → IsErrAnd r (λ x. x ≡ f) → P f → IfErr r P
 passed_on (Ok x) f P is h = absurd is
 passed_on (Err x) f P is h = subst P (sym is) h
 
 -- what the finder tells, in a subject's words
 
-abbrev pub IsUnfound : Setting → List (ℕ × ℕ) → ProgramFault → Type 0
+abbrev pub IsUnfound : Setting → List (ℕ × ℕ) → Refusal → Type 0
 IsUnfound s fs f = IsOutOfMemory f ⊎ (IsNeverEnding f ⊎ NoneIsGood s fs)
 
 no_family_at : (s : Setting) (fs : List (ℕ × ℕ)) (spot : Spot) (offset : ℕ) (r : Reason) → IsUnfound s fs (fault.Refused spot offset r) → IsNoFamily s fs r
 no_family_at s fs spot offset r (inl h) = absurd h
 no_family_at s fs spot offset r (inr none) = none
 
-pub found_refusal : (x : Subject) (is : List Instruction) (s : Setting) (fs : List (ℕ × ℕ)) (f : ProgramFault) → IsCutInto x is → x.setting is ≡ s → x.functions ≡ fs → HasFlow s fs
+pub found_refusal : (x : Subject) (is : List Instruction) (s : Setting) (fs : List (ℕ × ℕ)) (f : Refusal) → IsCutInto x is → x.setting is ≡ s → x.functions ≡ fs → HasFlow s fs
     → NamesPlace (IsJustified s fs) f → IsUnfound s fs f → IfRefused x.name f (IsRefusal x)
 found_refusal x is s fs (fault.OutOfMemory e) c es ef h names unfound = tt
 found_refusal x is s fs (fault.Refused spot offset r) c es ef h (p, at_spot, at_offset, justified) unfound =
@@ -225,7 +225,7 @@ found_refusal x is s fs (fault.Refused spot offset r) c es ef h (p, at_spot, at_
     let none' = of_subject (λ t f. IsNoFamily t f r) x is s fs es ef (no_family_at s fs spot offset r unfound) in
     is_refusal x p spot offset r at_spot at_offset (no_family is p r c justified') (found_no_least x is c h' p r justified' none') (found_no_good x is c r none')
 
-pub glyph_without_good : (x : Subject) (is : List Instruction) (s : Setting) (fs : List (ℕ × ℕ)) (points contours : ℕ) (f : ProgramFault) → IsCutInto x is → x.setting is ≡ s
+pub glyph_without_good : (x : Subject) (is : List Instruction) (s : Setting) (fs : List (ℕ × ℕ)) (points contours : ℕ) (f : Refusal) → IsCutInto x is → x.setting is ≡ s
     → x.functions ≡ fs → s.kind ≡ GlyphProgram points contours → HasFlow s fs → NamesPlace (IsJustified s fs) f → IsUnfound s fs f → IfRefused x.name f (λ _. HasGoodFamily x → ⊥)
 glyph_without_good x is s fs points contours (fault.OutOfMemory e) c es ef k h names unfound = tt
 glyph_without_good x is s fs points contours (fault.Refused spot offset r) c es ef k h (p, at_spot, at_offset, justified) unfound =

@@ -6,8 +6,8 @@ use Rattle.std.proofs.lemmas.Option.{slice_get_within}
 use Rattle.tt_code.specs.Cut.{Instruction}
 use Rattle.tt_code.specs.Fonts.{Font}
 use Rattle.tt_family.specs.Contents.{Contents}
-use Rattle.tt_family.specs.declared.fault.ProgramFault.{ProgramFault}
-use Rattle.tt_family.specs.declared.fault.ProgramFault.TheVariants as program
+use Rattle.tt_abs.specs.declared.refusal.Refusal.{Refusal}
+use Rattle.tt_abs.specs.declared.refusal.Refusal.TheVariants as program
 use Rattle.tt_cert.specs.Answers.{GivesHeader, IsMore, input_at}
 use Rattle.tt_cert.specs.declared.fault.DecodeFault.{DecodeFault}
 use Rattle.tt_cert.specs.declared.fault.DecodeFault.TheVariants as decode
@@ -47,7 +47,7 @@ other_number_read d old new form sections gives differs told =
     another_number form sections (input_at read.1.0 new) read.1.1 differs
 
 -- what is reported of a refused program
-tells : (called : Name) (fault : ProgramFault) (o : Outcome) (Is : Refused → Type 0) → TellsRefusal called fault (Ok o) → IfRefused called fault Is
+tells : (called : Name) (fault : Refusal) (o : Outcome) (Is : Refused → Type 0) → TellsRefusal called fault (Ok o) → IfRefused called fault Is
     → (r : Refused) × Is r × (o ≡ refused_as called r)
 tells called (program.Refused spot offset reason) o Is told is = (reported_at called spot offset reason, is, one o (refused_as called (reported_at called spot offset reason)) told)
   where
@@ -58,7 +58,7 @@ tells called (program.OutOfMemory e) o Is told is = absurd (no o (check.OutOfMem
     no : (a : Outcome) (f : CheckFontFault) → ◌≡◌ {A = Result Outcome CheckFontFault} (Ok a) (Err f) → ⊥
     no a f e = absurd cc
 
-anything : (called : Name) (fault : ProgramFault) → IfRefused called fault (λ r. Unit {0})
+anything : (called : Name) (fault : Refusal) → IfRefused called fault (λ r. Unit {0})
 anything called (program.Refused spot offset reason) = tt
 anything called (program.OutOfMemory e) = tt
 
@@ -68,7 +68,7 @@ pub first_good : (d : FontData) (f : List Instruction) (functions : List (ℕ ×
     → IsSoundOutcome d at_start o (after_font f functions)
 first_good d f functions o is good = let S : Outcome → Type 0 = λ x. IsSoundOutcome d at_start x (after_font f functions) in subst S (sym is) (good_font f functions good)
 
-pub first_ends : (d : FontData) (fault : ProgramFault) (o : Outcome) → TellsRefusal name.Font fault (Ok o) → IsSoundOutcome d at_start o over
+pub first_ends : (d : FontData) (fault : Refusal) (o : Outcome) → TellsRefusal name.Font fault (Ok o) → IsSoundOutcome d at_start o over
 first_ends d fault o told =
     let (r, is, same) = tells name.Font fault o (λ r. Unit {0}) told (anything name.Font fault) in
     let S : Outcome → Type 0 = λ x. IsSoundOutcome d at_start x over in subst S (sym same) (font_ends r)
@@ -81,7 +81,7 @@ first_passes d form form' i after family f functions o same is section passes =
     let S : Outcome → Type 0 = λ x. IsOutcomeBySection d form i after at_start x (after_font f functions) in
     subst S (sym is) (font_passes family f functions section (subst P same passes))
 
-pub first_fails : (d : FontData) (form form' : Form) (i after : Input) (family : Contents) (fault : ProgramFault) (o : Outcome) → form' ≡ form
+pub first_fails : (d : FontData) (form form' : Form) (i after : Input) (family : Contents) (fault : Refusal) (o : Outcome) → form' ≡ form
     → TellsRefusal name.Font fault (Ok o) → IsSectionOf form i name.Font family after → IsRefusedBy form' (font_subject d) family fault
     → IsOutcomeBySection d form i after at_start o over
 first_fails d form form' i after family fault o same told section refused =
@@ -98,7 +98,7 @@ module _ (d : FontData) (f : List Instruction) (functions : List (ℕ × ℕ)) w
   second_good p known o is good =
       let S : Outcome → Type 0 = λ x. IsSoundOutcome d (after_font f functions) x (at_glyph f p known 0) in subst S (sym is) (good_cvt f p functions known good)
 
-  pub second_ends : (fault : ProgramFault) (o : Outcome) → TellsRefusal name.Cvt fault (Ok o) → IsSoundOutcome d (after_font f functions) o over
+  pub second_ends : (fault : Refusal) (o : Outcome) → TellsRefusal name.Cvt fault (Ok o) → IsSoundOutcome d (after_font f functions) o over
   second_ends fault o told =
       let (r, is, same) = tells name.Cvt fault o (λ r. Unit {0}) told (anything name.Cvt fault) in
       let S : Outcome → Type 0 = λ x. IsSoundOutcome d (after_font f functions) x over in subst S (sym same) (cvt_ends f functions r)
@@ -111,7 +111,7 @@ module _ (d : FontData) (f : List Instruction) (functions : List (ℕ × ℕ)) w
       let S : Outcome → Type 0 = λ x. IsOutcomeBySection d form i after (after_font f functions) x (at_glyph f p known 0) in
       subst S (sym is) (cvt_passes f p functions known family section (subst P same passes))
 
-  pub second_fails : (form form' : Form) (i after : Input) (family : Contents) (fault : ProgramFault) (o : Outcome) → form' ≡ form
+  pub second_fails : (form form' : Form) (i after : Input) (family : Contents) (fault : Refusal) (o : Outcome) → form' ≡ form
       → TellsRefusal name.Cvt fault (Ok o) → IsSectionOf form i name.Cvt family after → IsRefusedBy form' (cvt_subject d f functions) family fault
       → IsOutcomeBySection d form i after (after_font f functions) o over
   second_fails form form' i after family fault o same told section refused =
@@ -132,7 +132,7 @@ module _ (d : FontData) (f p : List Instruction) (known : List (ℕ × ℕ)) (fo
       let S : Outcome → Type 0 = λ x. IsSoundOutcome d (at_glyph f p known id) x (at_glyph f p known (id + 1)) in
       subst S (sym is) (good_glyph f p known id g there (subst K kept_is (subst F font_is good)))
 
-  pub third_goes_on : (fault : ProgramFault) (o : Outcome) → TellsRefusal (name.Glyph id) fault (Ok o)
+  pub third_goes_on : (fault : Refusal) (o : Outcome) → TellsRefusal (name.Glyph id) fault (Ok o)
       → IsSoundOutcome d (at_glyph f p known id) o (at_glyph f p known (id + 1))
   third_goes_on fault o told =
       let (r, is, same) = tells (name.Glyph id) fault o (λ r. Unit {0}) told (anything (name.Glyph id) fault) in
@@ -149,7 +149,7 @@ module _ (d : FontData) (f p : List Instruction) (known : List (ℕ × ℕ)) (fo
       let S : Outcome → Type 0 = λ x. IsOutcomeBySection d form i after (at_glyph f p known id) x (at_glyph f p known (id + 1)) in
       subst S (sym is) (glyph_passes f p known id g family instructions there section (subst K kept_is (subst F font_is (subst P same passes))))
 
-  pub third_fails : (form form' : Form) (i after : Input) (family : Contents) (fault : ProgramFault) (o : Outcome) → form' ≡ form
+  pub third_fails : (form form' : Form) (i after : Input) (family : Contents) (fault : Refusal) (o : Outcome) → form' ≡ form
       → TellsRefusal (name.Glyph id) fault (Ok o) → IsSectionOf form i (name.Glyph id) family after → IsRefusedBy form' (glyph_subject font kept id g) family fault
       → IsOutcomeBySection d form i after (at_glyph f p known id) o (at_glyph f p known (id + 1))
   third_fails form form' i after family fault o same told section refused =
@@ -163,14 +163,14 @@ module _ (d : FontData) (f p : List Instruction) (known : List (ℕ × ℕ)) (fo
 
 -- what is reported of a refused glyph program, whatever it comes to
 
-pub third_sound : (d : FontData) (f p : List Instruction) (known : List (ℕ × ℕ)) (id : ℕ) (g : GlyphData) (there : slice_get d.glyphs id ≡ Some g) (fault : ProgramFault)
+pub third_sound : (d : FontData) (f p : List Instruction) (known : List (ℕ × ℕ)) (id : ℕ) (g : GlyphData) (there : slice_get d.glyphs id ≡ Some g) (fault : Refusal)
     (r : Result Outcome CheckFontFault) → TellsRefusal (name.Glyph id) fault r → IfOk r (λ o. IsSoundOutcome d (at_glyph f p known id) o (at_glyph f p known (id + 1)))
 third_sound d f p known id g there fault (Ok o) told = third_goes_on d f p known (font_of d f p) known refl refl id g there fault o told
 third_sound d f p known id g there fault (Err x) told = tt
 
 module _ (d : FontData) (f p : List Instruction) (known : List (ℕ × ℕ)) (font : Font) (kept : List (ℕ × ℕ)) (font_is : font ≡ font_of d f p) (kept_is : kept ≡ known)
     (id : ℕ) (g : GlyphData) (there : slice_get d.glyphs id ≡ Some g) where
-  pub third_answers : (form form' : Form) (i after : Input) (family : Contents) (Told : Type 0) (At : ℕ → Type 0) (fault : ProgramFault) (r : Result Outcome CheckFontFault) → form' ≡ form
+  pub third_answers : (form form' : Form) (i after : Input) (family : Contents) (Told : Type 0) (At : ℕ → Type 0) (fault : Refusal) (r : Result Outcome CheckFontFault) → form' ≡ form
       → TellsRefusal (name.Glyph id) fault r → IsSectionOf form i (name.Glyph id) family after → IsRefusedBy form' (glyph_subject font kept id g) family fault → Told
       → Finds r (λ o. Told × IsOutcomeBySection d form i after (at_glyph f p known id) o (at_glyph f p known (id + 1))) At
   third_answers form form' i after family Told At fault (Ok o) same tells section refused told =

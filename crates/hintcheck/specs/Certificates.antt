@@ -14,7 +14,7 @@ use Rattle.tt_family.specs.Contents.{Contents, family_of}
 use Rattle.tt_family.specs.Fillings.{HasGoodFilling}
 use Rattle.tt_family.specs.GoodFamilies.{IsGoodFamily}
 use Rattle.tt_family.specs.Ascending.{IsFinished}
-use Rattle.tt_family.specs.Spots.{spot_of}
+use Rattle.tt_abs.specs.Spots.{spot_of}
 use Rattle.tt_cert.specs.declared.form.Form.{Form}
 use Rattle.tt_cert.specs.declared.form.Form.TheVariants.{One, Two, Three, Four}
 use Rattle.tt_cert.specs.declared.name.Name.{Name}

@@ -15,7 +15,7 @@ use Rattle.hintcheck.specs.declared.font_check.CheckFontFault.{CheckFontFault}
 use Rattle.hintcheck.specs.declared.font_check.CheckFontFault.TheVariants as fault
 use Rattle.hintcheck.specs.declared.report.Refused.{Refused}
 use Rattle.tt_family.specs.Contents.{Contents}
-use Rattle.tt_family.specs.declared.fault.ProgramFault.{ProgramFault}
+use Rattle.tt_abs.specs.declared.refusal.Refusal.{Refusal}
 use Rattle.tt_cert.specs.declared.form.Form.{Form}
 
 -- The program has these instructions, a family of abstract states is good for it, and these
@@ -71,7 +71,7 @@ all_refused rs (Ok others) = Ok (rs ++ others)
 all_refused rs (Err place) = Err place
 
 -- the fault refuses the program as the check of its section does; out of memory is unspecified
-abbrev pub IsRefusedBy : Form → Subject → Contents → ProgramFault → Type 0
+abbrev pub IsRefusedBy : Form → Subject → Contents → Refusal → Type 0
 IsRefusedBy form x family fault = IfRefused x.name fault (IsCheckRefusal form x family)
 
 -- the program passes the check by this family

@@ -10,9 +10,9 @@ use Rattle.tt_abs.specs.StateFlow.{FitsLimits, Place}
 use Rattle.tt_family.specs.Contents.{Contents, family_of}
 use Rattle.tt_family.specs.Fillings.{HasGoodFilling, IsFilling}
 use Rattle.tt_family.specs.GoodFamilies.{IsGoodFamily}
-use Rattle.tt_family.specs.declared.fault.ProgramFault.{ProgramFault}
-use Rattle.tt_family.specs.declared.fault.ProgramFault.TheVariants.{Refused, OutOfMemory}
-use Rattle.tt_family.specs.declared.spot.Spot.{Spot}
+use Rattle.tt_abs.specs.declared.refusal.Refusal.{Refusal}
+use Rattle.tt_abs.specs.declared.refusal.Refusal.TheVariants.{Refused, OutOfMemory}
+use Rattle.tt_abs.specs.declared.spot.Spot.{Spot}
 use Rattle.tt_find.specs.Found.{IsLeast}
 use Rattle.hintcheck.specs.Certificates.{IsGoodListing}
 use Rattle.hintcheck.specs.Programs.{HasGoodFamily, IsCutInto, IsRefusal, Subject, program_at}
@@ -47,16 +47,16 @@ reported_at called spot offset r =
 
 -- what holds of what is reported of a program by this name, where the fault refuses it; out of
 -- memory is unspecified
-abbrev pub IfRefused : Name → ProgramFault → (AnyRefused → Type 0) → Type 0
+abbrev pub IfRefused : Name → Refusal → (AnyRefused → Type 0) → Type 0
 IfRefused called (Refused spot offset r) Is = Is (reported_at called spot offset r)
 IfRefused called (OutOfMemory e) Is = Unit {0}
 
 -- the fault names why the program is refused; out of memory is unspecified
-abbrev pub IsFaultOfProgram : Subject → ProgramFault → Type 0
+abbrev pub IsFaultOfProgram : Subject → Refusal → Type 0
 IsFaultOfProgram x fault = IfRefused x.name fault (IsRefusal x)
 
 -- where the fault refuses the program, no family is good for it
-abbrev pub NoneIsGoodFor : Subject → ProgramFault → Type 0
+abbrev pub NoneIsGoodFor : Subject → Refusal → Type 0
 NoneIsGoodFor x fault = IfRefused x.name fault (λ _. HasGoodFamily x → ⊥)
 
 -- the family has a good filling in this setting
@@ -68,7 +68,7 @@ abbrev pub IsListedIn : Form → Setting → Contents → Type 0
 IsListedIn form s family = IsGoodListing form (setting_of s) s.start.now family
 
 -- the fault refuses a program by this name, and what is reported of it is appended to the list
-abbrev pub IsAppendedRefusal : Name → ProgramFault → List AnyRefused → List AnyRefused → Type 0
+abbrev pub IsAppendedRefusal : Name → Refusal → List AnyRefused → List AnyRefused → Type 0
 IsAppendedRefusal called (Refused spot offset r) old new =
     new ≡ old ++ reported_at called spot offset r ∷ []
 IsAppendedRefusal called (OutOfMemory e) old new = ⊥

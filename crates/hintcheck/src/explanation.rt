@@ -25,8 +25,8 @@ use crate::program::{Search, cut, reported};
 use crate::report::Name;
 use hintcheck_explain::{Asked, explain, explain_unread};
 use std::alloc::{AllocError, Global};
-use tt_abs::Setting;
-use tt_family::{Budget, ProgramFault};
+use tt_abs::{Refusal, Setting};
+use tt_family::Budget;
 use tt_find::Finder;
 use tt_font::{Font, GlyphPart};
 use tt_stream::Sink;
@@ -58,18 +58,18 @@ fn explain_in<O: Sink>(
 fn explain_uncut<O: Sink>(
     asked: Asked,
     bytes: &[u8],
-    fault: ProgramFault,
+    fault: Refusal,
     out: &mut O,
 ) -> Result<(), CommandFault>
     ensures failures { TellsFailure result (O.failures out.old) (O.failures out.new) }
     ensures faults { IfErr result IsFaultOfLines }
 {
     match fault {
-        ProgramFault::Refused { offset, reason, .. } => {
+        Refusal::Refused { offset, reason, .. } => {
             explain_unread(asked, bytes, offset, reason, out)?;
             Ok(())
         }
-        ProgramFault::OutOfMemory(AllocError) => Err(CommandFault::OutOfMemory),
+        Refusal::OutOfMemory(AllocError) => Err(CommandFault::OutOfMemory),
     }
 }
 
@@ -152,13 +152,13 @@ fn tell_glyph_program<O: Sink>(
 ///
 /// # Errors
 /// `OutOfMemory` where the fault is out of memory, which refuses nothing.
-fn refused_by(fault: ProgramFault) -> Result<bool, CommandFault>
+fn refused_by(fault: Refusal) -> Result<bool, CommandFault>
     ensures refused { IfOk result (λ accepted. (accepted ≡ false) × RefusesProgram fault) }
     ensures faults { IfErr result (λ fault. fault ≡ CommandFault.OutOfMemory) }
 {
     match fault {
-        ProgramFault::Refused { .. } => Ok(false),
-        ProgramFault::OutOfMemory(AllocError) => Err(CommandFault::OutOfMemory),
+        Refusal::Refused { .. } => Ok(false),
+        Refusal::OutOfMemory(AllocError) => Err(CommandFault::OutOfMemory),
     }
 }
 
@@ -252,18 +252,14 @@ fn called(program: Name) -> &'static str {
 ///
 /// # Errors
 /// `OutOfMemory` where the fault is out of memory, which refuses nothing; `Write`.
-fn tell_unchecked<O: Sink>(
-    before: Name,
-    fault: ProgramFault,
-    out: &mut O,
-) -> Result<u8, CommandFault>
+fn tell_unchecked<O: Sink>(before: Name, fault: Refusal, out: &mut O) -> Result<u8, CommandFault>
     ensures status { IfOk result (λ status. status ≡ 1) }
     ensures refused { OnOk result (RefusesProgram fault) }
     ensures failures { TellsFailure result (O.failures out.old) (O.failures out.new) }
     ensures faults { IfErr result IsFaultOfLines }
 {
     match fault {
-        ProgramFault::Refused {
+        Refusal::Refused {
             spot,
             offset,
             reason,
@@ -273,7 +269,7 @@ fn tell_unchecked<O: Sink>(
             writeln!(out, "not checked: the {program} is refused\n{refused}")?;
             Ok(REFUSED)
         }
-        ProgramFault::OutOfMemory(AllocError) => Err(CommandFault::OutOfMemory),
+        Refusal::OutOfMemory(AllocError) => Err(CommandFault::OutOfMemory),
     }
 }
 

@@ -21,9 +21,9 @@ use crate::program::{Search, cut, find_and_check, list_refused};
 use crate::report::{Name, Refused, Verdict};
 use std::alloc::{AllocError, Global};
 use thiserror::Error;
-use tt_abs::Setting;
+use tt_abs::{Refusal, Setting};
 use tt_code::Program;
-use tt_family::{Budget, ProgramFault};
+use tt_family::Budget;
 use tt_find::{Finder, Found};
 use tt_font::{Font, FontFault, GlyphPart};
 
@@ -35,7 +35,7 @@ fn find_to_end(
     setting: &Setting<'_>,
     search: Search,
     budget: &mut Budget,
-) -> Result<(Vec<(u16, u32)>, Found), ProgramFault>
+) -> Result<(Vec<(u16, u32)>, Found), Refusal>
     requires subject { HasSubject setting.now }
     requires ends { ComesToEnd (setting_of setting.now).kind }
     requires ascends { Ascends setting.now.start.now }
@@ -73,7 +73,7 @@ pub(crate) fn find_font_program<'a>(
     font: &Font<'a>,
     search: Search,
     budget: &mut Budget,
-) -> Result<(Ended<'a>, Found), ProgramFault>
+) -> Result<(Ended<'a>, Found), Refusal>
     requires { IsFontInRange font.now }
     ensures known { IfOk result (λ e. IsKnownEnd (font_subject font.now) e.0) }
     ensures found { IsForCertificate search
@@ -117,7 +117,7 @@ pub(crate) fn find_cvt_program<'a>(
     fpgm: &Ended<'_>,
     search: Search,
     budget: &mut Budget,
-) -> Result<(Ended<'a>, Found), ProgramFault>
+) -> Result<(Ended<'a>, Found), Refusal>
     requires range { IsFontInRange font.now }
     requires ended { IsKnownEnd (font_subject font.now) fpgm.now }
     ensures known { IfOk result (λ e. IsKnownEnd (cvt_after font.now fpgm.now) e.0) }
@@ -151,7 +151,7 @@ pub(crate) fn find_glyph_program(
     glyph: &GlyphPart<'_>,
     search: Search,
     budget: &mut Budget,
-) -> Result<Found, ProgramFault>
+) -> Result<Found, Refusal>
     requires few { length glyph.now.program.now < 2 ^ 31 }
     requires ascends { Ascends common.now.functions.now }
     requires fits { FunctionsFit (font_setting (font_in common.now)) common.now.functions.now }
@@ -183,7 +183,7 @@ pub(crate) fn judge_glyph(
     glyph: &GlyphPart<'_>,
     search: Search,
     budget: &mut Budget,
-) -> Result<(), ProgramFault>
+) -> Result<(), Refusal>
     requires few { length glyph.now.program.now < 2 ^ 31 }
     requires ascends { Ascends common.now.functions.now }
     requires fits { FunctionsFit (font_setting (font_in common.now)) common.now.functions.now }
@@ -232,7 +232,7 @@ fn refused_glyphs(
 
 /// Returns the program of this name as the only refused one: the fault refuses it, and ends the
 /// verdict.
-fn refused_alone(alloc: Global, name: Name, fault: ProgramFault) -> Result<Vec<Refused>, AllocError>
+fn refused_alone(alloc: Global, name: Name, fault: Refusal) -> Result<Vec<Refused>, AllocError>
     ensures { IfOk result (λ refused. IsAppendedRefusal name fault [] refused.items) }
 {
     let mut refused = Vec::new(alloc);

@@ -28,9 +28,9 @@ use crate::sections::{HEADER, Progress, SECTIONS};
 use crate::session::{Outcome, Session};
 use std::alloc::{AllocError, Global};
 use thiserror::Error;
-use tt_abs::Setting;
+use tt_abs::{Refusal, Setting};
 use tt_cert::{DecodeFault, Form, read_header};
-use tt_family::{Budget, Certificate, ProgramFault, check_full_within, check_within};
+use tt_family::{Budget, Certificate, check_full_within, check_within};
 use tt_font::{Font, FontFault, GlyphPart};
 use tt_stream::Source;
 
@@ -129,7 +129,7 @@ fn check_section(
     certificate: &Certificate,
     form: Form,
     budget: &mut Budget,
-) -> Result<(), ProgramFault>
+) -> Result<(), Refusal>
     requires { Ascends setting.now.start.now }
     ensures good { OnOk result (IsFilledIn setting.now certificate.now) }
     ensures listing { OnOk result (IsListedIn form setting.now certificate.now) }
@@ -154,7 +154,7 @@ fn certified_functions(
     certificate: &Certificate,
     form: Form,
     budget: &mut Budget,
-) -> Result<Vec<(u16, u32)>, ProgramFault>
+) -> Result<Vec<(u16, u32)>, Refusal>
     requires subject { HasSubject setting.now }
     requires ends { ComesToEnd (setting_of setting.now).kind }
     requires ascends { Ascends setting.now.start.now }
@@ -182,7 +182,7 @@ pub(crate) fn check_font_program<'a>(
     certificate: &Certificate,
     form: Form,
     budget: &mut Budget,
-) -> Result<Ended<'a>, ProgramFault>
+) -> Result<Ended<'a>, Refusal>
     requires { IsFontInRange font.now }
     ensures known { IfOk result (IsGoodEnd (font_subject font.now)) }
     ensures passed { IfOk result (IsPassedEnd form (font_subject font.now) certificate.now) }
@@ -206,7 +206,7 @@ pub(crate) fn check_cvt_program<'a>(
     certificate: &Certificate,
     form: Form,
     budget: &mut Budget,
-) -> Result<Ended<'a>, ProgramFault>
+) -> Result<Ended<'a>, Refusal>
     requires range { IsFontInRange font.now }
     requires ascends { Ascends fpgm.now.functions.items }
     ensures known { IfOk result (IsGoodEnd (cvt_after font.now fpgm.now)) }
@@ -232,7 +232,7 @@ pub(crate) fn check_glyph_program(
     certificate: &Certificate,
     form: Form,
     budget: &mut Budget,
-) -> Result<(), ProgramFault>
+) -> Result<(), Refusal>
     requires few { length glyph.now.program.now < 2 ^ 31 }
     requires ascends { Ascends common.now.functions.now }
     ensures good { (id : ℕ) → OnOk result (HasGoodFamily (glyph_in common.now id glyph.now)) }

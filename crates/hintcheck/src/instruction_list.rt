@@ -16,8 +16,8 @@ use crate::program::cut;
 use crate::report::{Name, Place, Refused};
 use std::alloc::{AllocError, Global};
 use std::fmt;
+use tt_abs::Refusal;
 use tt_code::{Instr, Program, Reason, name};
-use tt_family::ProgramFault;
 use tt_font::Font;
 use tt_stream::{PrintFailed, Sink};
 
@@ -194,12 +194,12 @@ fn list_named<O: Sink>(alloc: Global, named: Named<'_>, out: &mut O) -> Result<u
             print_program(out, &program)?;
             Ok(LISTED)
         }
-        Err(ProgramFault::Refused { offset, reason, .. }) => {
+        Err(Refusal::Refused { offset, reason, .. }) => {
             let refused = refused_at(named.name, offset, reason);
             writeln!(out, "{refused}")?;
             Ok(UNLISTED)
         }
-        Err(ProgramFault::OutOfMemory(AllocError)) => Err(CommandFault::OutOfMemory),
+        Err(Refusal::OutOfMemory(AllocError)) => Err(CommandFault::OutOfMemory),
     }
 }
 

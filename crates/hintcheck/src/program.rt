@@ -20,9 +20,9 @@ ghost use Rattle.hintcheck.specs.ProgramVerdicts.{IsAccepted, IsAppendedRefusal,
 
 use crate::report::{Name, Place, Refused};
 use std::alloc::{AllocError, Global};
-use tt_abs::Setting;
+use tt_abs::{Refusal, Setting, Spot};
 use tt_code::{CodeFault, Program, Reason};
-use tt_family::{Budget, ProgramFault, Spot, check_within};
+use tt_family::{Budget, check_within};
 use tt_find::{Finder, Found};
 
 /// Returns which program holds a place of this spot, seen from the program of this name.
@@ -58,12 +58,12 @@ pub(crate) fn reported(name: Name, spot: Spot, offset: u32, reason: Reason) -> R
 pub(crate) fn list_refused(
     refused: &mut Vec<Refused>,
     name: Name,
-    fault: ProgramFault,
+    fault: Refusal,
 ) -> Result<(), AllocError>
     ensures { OnOk result (IsAppendedRefusal name fault refused.old.items refused.new.items) }
 {
     match fault {
-        ProgramFault::Refused {
+        Refusal::Refused {
             spot,
             offset,
             reason,
@@ -71,15 +71,15 @@ pub(crate) fn list_refused(
             refused.push(reported(name, spot, offset, reason))?;
             Ok(())
         }
-        ProgramFault::OutOfMemory(error) => Err(error),
+        Refusal::OutOfMemory(error) => Err(error),
     }
 }
 
 /// Returns the fault of a program that is refused at this offset of its own bytes.
-fn refused_at(offset: u32, reason: Reason) -> ProgramFault
-    ensures { result ≡ ProgramFault.Refused Spot.Main offset reason }
+fn refused_at(offset: u32, reason: Reason) -> Refusal
+    ensures { result ≡ Refusal.Refused Spot.Main offset reason }
 {
-    ProgramFault::Refused {
+    Refusal::Refused {
         spot: Spot::Main,
         offset,
         reason,
@@ -90,7 +90,7 @@ fn refused_at(offset: u32, reason: Reason) -> ProgramFault
 ///
 /// # Errors
 /// `Refused` where they can't be cut or their structure is wrong; `OutOfMemory`.
-pub(crate) fn cut<'a>(alloc: Global, bytes: &'a [u8]) -> Result<Program<'a>, ProgramFault>
+pub(crate) fn cut<'a>(alloc: Global, bytes: &'a [u8]) -> Result<Program<'a>, Refusal>
     requires { length bytes.now < 2 ^ 31 }
     ensures cut { (x : Subject) → x.bytes ≡ bytes.entry.now
         → IfOk result (λ program. IsCutInto x program) }
@@ -107,7 +107,7 @@ pub(crate) fn cut<'a>(alloc: Global, bytes: &'a [u8]) -> Result<Program<'a>, Pro
         Ok(program) => Ok(program),
         Err(CodeFault::CannotCut(offset)) => Err(refused_at(offset, Reason::CannotCut)),
         Err(CodeFault::Structure(offset)) => Err(refused_at(offset, Reason::Structure)),
-        Err(CodeFault::OutOfMemory(error)) => Err(ProgramFault::OutOfMemory(error)),
+        Err(CodeFault::OutOfMemory(error)) => Err(Refusal::OutOfMemory(error)),
     }
 }
 
@@ -119,7 +119,7 @@ fn checked(
     setting: &Setting<'_>,
     found: Found,
     budget: &mut Budget,
-) -> Result<Found, ProgramFault>
+) -> Result<Found, Refusal>
     requires { Ascends setting.now.start.now }
     ensures same { IfOk result (λ accepted. accepted ≡ found) }
     // The check accepts it: this relies on no promise of the finder's.
@@ -162,7 +162,7 @@ fn find(
     setting: &Setting<'_>,
     search: Search,
     budget: &mut Budget,
-) -> Result<Found, ProgramFault>
+) -> Result<Found, Refusal>
     requires ascends { Ascends setting.now.start.now }
     requires fits { FunctionsFit (setting_of setting.now) setting.now.start.now }
     ensures filling { IfOk result (λ found. HasLeastFilling (setting_of setting.now)
@@ -198,7 +198,7 @@ pub(crate) fn find_and_check(
     setting: &Setting<'_>,
     search: Search,
     budget: &mut Budget,
-) -> Result<Found, ProgramFault>
+) -> Result<Found, Refusal>
     requires ascends { Ascends setting.now.start.now }
     requires fits { FunctionsFit (setting_of setting.now) setting.now.start.now }
     ensures accepted { (x : Subject) → IsSubjectOf x setting.now → IfOk result

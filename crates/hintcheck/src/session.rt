@@ -32,8 +32,9 @@ use crate::session::find::find_from;
 use std::alloc::{AllocError, Global};
 use std::marker::Model;
 use std::mem;
+use tt_abs::Refusal;
 use tt_cert::{Decoder, read_end};
-use tt_family::{Budget, ProgramFault};
+use tt_family::Budget;
 use tt_find::{Finder, Found};
 use tt_font::Font;
 use tt_stream::Source;
@@ -140,11 +141,11 @@ fn accepted(program: Name) -> Outcome
 ///
 /// # Errors
 /// `OutOfMemory` where the fault is out of memory, which refuses nothing.
-fn refused(program: Name, fault: ProgramFault) -> Result<Outcome, CheckFontFault>
+fn refused(program: Name, fault: Refusal) -> Result<Outcome, CheckFontFault>
     ensures { TellsRefusal program fault result }
 {
     match fault {
-        ProgramFault::Refused {
+        Refusal::Refused {
             spot,
             offset,
             reason,
@@ -152,7 +153,7 @@ fn refused(program: Name, fault: ProgramFault) -> Result<Outcome, CheckFontFault
             program,
             refused: Some(reported(program, spot, offset, reason)),
         }),
-        ProgramFault::OutOfMemory(error) => Err(CheckFontFault::OutOfMemory(error)),
+        Refusal::OutOfMemory(error) => Err(CheckFontFault::OutOfMemory(error)),
     }
 }
 

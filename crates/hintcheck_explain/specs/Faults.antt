@@ -4,8 +4,8 @@ use Rattle.std.specs.Prelude.{◌≡◌, ◌≢◌, ℕ, IfSome, None, Result, O
 use Rattle.tt_abs.specs.declared.setting.Setting.{Setting as Subject}
 use Rattle.tt_code.specs.Cut.{instruction_at}
 use Rattle.tt_code.specs.declared.reason.Reason.{Reason}
-use Rattle.tt_family.specs.declared.spot.Spot.{Spot}
-use Rattle.tt_family.specs.declared.fault.ProgramFault.TheVariants as program
+use Rattle.tt_abs.specs.declared.spot.Spot.{Spot}
+use Rattle.tt_abs.specs.declared.refusal.Refusal.TheVariants as program
 use Rattle.tt_find.specs.FoundSubjects.{IsJustifiedFor, IsLeastFor}
 use Rattle.tt_find.specs.declared.finder.Found.{Found}
 use Rattle.tt_stream.specs.Streams.{CountsPrintFailure}

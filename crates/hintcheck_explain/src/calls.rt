@@ -2,10 +2,10 @@
 
 use crate::place::{Place, program_at};
 use std::fmt;
+use tt_abs::Spot;
 use tt_abs::setting::body_offset;
 use tt_cert::Name;
 use tt_code::Frame;
-use tt_family::Spot;
 
 /// A function's number, where the functions that are known tell it.
 #[derive(Clone, Copy)]

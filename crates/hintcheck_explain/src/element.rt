@@ -37,9 +37,9 @@ impl Element {
                 Some(cell) => cell,
                 None => Cell::Unknown,
             },
-            Element::Rp0 => state.rp(Reference::Rp0),
-            Element::Rp1 => state.rp(Reference::Rp1),
-            Element::Rp2 => state.rp(Reference::Rp2),
+            Element::Rp0 => state.reference_point(Reference::Rp0),
+            Element::Rp1 => state.reference_point(Reference::Rp1),
+            Element::Rp2 => state.reference_point(Reference::Rp2),
             Element::Loop => state.loop_cell(),
             Element::Storage(index) => state.storage(index),
         }

@@ -14,9 +14,8 @@ use crate::reached::tell_contexts;
 use crate::refusal::tell_refusal;
 use crate::subject::Subject;
 use std::alloc::Global;
-use tt_abs::Setting;
+use tt_abs::{Refusal, Setting, Spot};
 use tt_code::Reason;
-use tt_family::{ProgramFault, Spot};
 use tt_find::explore;
 use tt_stream::Sink;
 
@@ -133,7 +132,7 @@ pub fn explain<O: Sink>(
             Ok(Explained::Accepted)
         }
         Some(
-            ProgramFault::Refused {
+            Refusal::Refused {
                 spot,
                 offset,
                 reason,
@@ -142,6 +141,6 @@ pub fn explain<O: Sink>(
             explain_refused(alloc, &subject, asked, spot, offset, reason, out)?;
             Ok(Explained::Refused)
         }
-        Some(ProgramFault::OutOfMemory(error)) => Err(ExplainFault::OutOfMemory(error)),
+        Some(Refusal::OutOfMemory(error)) => Err(ExplainFault::OutOfMemory(error)),
     }
 }

@@ -48,12 +48,12 @@ struct GraphicsText<'a>(&'a State);
 
 impl fmt::Display for GraphicsText<'_> {
     fn fmt<W: fmt::Write>(&self, f: &mut fmt::Formatter<W>) -> fmt::Result {
-        let rp0 = Shown(self.0.rp(Reference::Rp0));
-        let rp1 = Shown(self.0.rp(Reference::Rp1));
-        let rp2 = Shown(self.0.rp(Reference::Rp2));
-        let zp0 = zone_name(self.0.zone(Pointer::Zp0));
-        let zp1 = zone_name(self.0.zone(Pointer::Zp1));
-        let zp2 = zone_name(self.0.zone(Pointer::Zp2));
+        let rp0 = Shown(self.0.reference_point(Reference::Rp0));
+        let rp1 = Shown(self.0.reference_point(Reference::Rp1));
+        let rp2 = Shown(self.0.reference_point(Reference::Rp2));
+        let zp0 = zone_name(self.0.zone_pointer(Pointer::Zp0));
+        let zp1 = zone_name(self.0.zone_pointer(Pointer::Zp1));
+        let zp2 = zone_name(self.0.zone_pointer(Pointer::Zp2));
         let loop_number = Shown(self.0.loop_cell());
         write!(f, "rp0 {rp0}, rp1 {rp1}, rp2 {rp2}; ")?;
         write!(f, "zp0 {zp0}, zp1 {zp1}, zp2 {zp2}; loop {loop_number}")

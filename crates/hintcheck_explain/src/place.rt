@@ -1,9 +1,9 @@
 //! Places of programs, as they are printed.
 
 use std::fmt;
+use tt_abs::Spot;
 use tt_cert::Name;
 use tt_code::Reason;
-use tt_family::Spot;
 
 /// An offset in a program. A function's instruction is in the program that has the function's body.
 #[derive(Clone, Copy)]

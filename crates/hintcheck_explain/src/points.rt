@@ -28,7 +28,7 @@ fn points_in(setting: &Setting<'_>, zone: ZoneCell) -> u32 {
 
 /// Returns how many points the zone of a pointer has at least.
 pub(crate) fn points_of(setting: &Setting<'_>, state: &State, pointer: Pointer) -> u32 {
-    points_in(setting, state.zone(pointer))
+    points_in(setting, state.zone_pointer(pointer))
 }
 
 /// Returns how many points there are in the smallest of the zones in which a point number is

@@ -21,9 +21,9 @@ use crate::stepping::{Outcome, outcome_at};
 use crate::subject::Subject;
 use crate::trouble::Trouble;
 use std::alloc::{AllocError, Global};
-use tt_abs::{Point, State};
+use tt_abs::{Point, Spot, State};
 use tt_code::{Frame, Reason};
-use tt_family::{PointKey, Spot};
+use tt_family::PointKey;
 use tt_stream::{PrintFailed, Sink};
 
 /// Where a program is refused, what is known there, and which test fails.

@@ -1,7 +1,7 @@
 //! What an instruction makes of what is known at its place.
 
 use std::alloc::AllocError;
-use tt_abs::{Moves, Point, Refusal, Setting, State, step_at};
+use tt_abs::{Moves, Point, Setting, State, StepFault, step_at};
 use tt_code::{Frame, Reason};
 
 /// What comes of the instruction at a point.
@@ -29,13 +29,13 @@ pub(crate) fn outcome_at(
     if setting.is_end(&point, offset) {
         return Ok(Outcome::Ends);
     }
-    let mut next = state.copied()?;
+    let mut next = state.copy()?;
     match step_at(setting, &point, &mut next) {
         Ok(step) => Ok(Outcome::Goes {
             moves: step.moves,
             state: next,
         }),
-        Err(Refusal::Refused(reason)) => Ok(Outcome::Refused(reason)),
-        Err(Refusal::OutOfMemory(error)) => Err(error),
+        Err(StepFault::Refused(reason)) => Ok(Outcome::Refused(reason)),
+        Err(StepFault::OutOfMemory(error)) => Err(error),
     }
 }

@@ -4,10 +4,10 @@ use crate::instruction_text::name_of;
 use crate::place::{Place, program_at};
 use std::alloc::{AllocError, Global};
 use tt_abs::setting::body_offset;
-use tt_abs::{Move, Setting};
+use tt_abs::{Move, Setting, Spot};
 use tt_cert::Name;
 use tt_code::{Frame, Instr, Program};
-use tt_family::{Certificate, PointKey, Spot};
+use tt_family::{Certificate, PointKey};
 
 /// A program that is explained: its name, what it is checked against, and the contexts and states
 /// that the search has found of it.

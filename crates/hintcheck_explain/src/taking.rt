@@ -128,7 +128,7 @@ fn take_operand(
         }
         Operand::Zone => take_zone(setting, state, taken),
         Operand::Contour => {
-            let bound = contours_in(setting, state.zone(Pointer::Zp2));
+            let bound = contours_in(setting, state.zone_pointer(Pointer::Zp2));
             take_index(state, taken, Role::Contour, bound)
         }
         Operand::LoopPoints(within) => take_loop_points(state, taken, points(within)),

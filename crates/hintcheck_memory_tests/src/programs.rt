@@ -15,7 +15,7 @@ use std::test::Fail;
 use tt_abs::Cell::Known;
 use tt_abs::{Kind, Point, Refusal, Setting, State, transfer};
 use tt_code::{CodeFault, Program};
-use tt_family::{ProgramFault, check, check_full};
+use tt_family::{check, check_full};
 use tt_find::find;
 
 /// A call on the program of the last glyph.
@@ -70,7 +70,7 @@ fn told_of_copy(heap: &mut Heap) -> Told {
         return Told::Wrong;
     };
     heap.take_room();
-    let copied = state.copied();
+    let copied = state.copy();
     heap.give_back();
     match copied {
         Ok(copy) if copy.is_same(&state) => Told::Answer(0),
@@ -102,10 +102,10 @@ fn told_of_transfer(heap: &mut Heap, setting: &Setting<'_>) -> Told {
 }
 
 /// Returns what the fault of a program tells; a refusal comes to its place and its reason.
-fn told_of_fault(fault: &ProgramFault) -> Told {
+fn told_of_fault(fault: &Refusal) -> Told {
     match fault {
-        ProgramFault::OutOfMemory(_) => Told::OutOfMemory,
-        ProgramFault::Refused { offset, reason, .. } => {
+        Refusal::OutOfMemory(_) => Told::OutOfMemory,
+        Refusal::Refused { offset, reason, .. } => {
             Told::Answer(u64::from(*offset) * 100 + u64::from(reason.number()))
         }
     }

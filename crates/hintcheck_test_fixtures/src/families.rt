@@ -40,12 +40,12 @@ pub const GRAPHICS: Graphics<Cell, ZoneCell> = Graphics {
 /// Returns what a state tells of the graphics state.
 pub fn graphics_of(state: &State) -> Graphics<Cell, ZoneCell> {
     Graphics {
-        rp0: state.rp(Reference::Rp0),
-        rp1: state.rp(Reference::Rp1),
-        rp2: state.rp(Reference::Rp2),
-        zp0: state.zone(Pointer::Zp0),
-        zp1: state.zone(Pointer::Zp1),
-        zp2: state.zone(Pointer::Zp2),
+        rp0: state.reference_point(Reference::Rp0),
+        rp1: state.reference_point(Reference::Rp1),
+        rp2: state.reference_point(Reference::Rp2),
+        zp0: state.zone_pointer(Pointer::Zp0),
+        zp1: state.zone_pointer(Pointer::Zp1),
+        zp2: state.zone_pointer(Pointer::Zp2),
         loop_number: state.loop_cell(),
     }
 }

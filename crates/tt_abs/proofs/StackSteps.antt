@@ -12,8 +12,8 @@ use Rattle.tt_code.specs.declared.kinds.Arithmetic.TheVariants.{Add, Sub, Abs, N
 use Rattle.tt_abs.specs.Moves.{ForReason}
 use Rattle.tt_abs.specs.declared.cells.Cell.{Cell}
 use Rattle.tt_abs.specs.declared.cells.Cell.TheVariants.{Known}
-use Rattle.tt_abs.specs.declared.refusal.Refusal.{Refusal}
-use Rattle.tt_abs.specs.declared.refusal.Refusal.TheVariants.{Refused, OutOfMemory}
+use Rattle.tt_abs.specs.declared.step_fault.StepFault.{StepFault}
+use Rattle.tt_abs.specs.declared.step_fault.StepFault.TheVariants.{Refused, OutOfMemory}
 use Rattle.tt_abs.specs.Cells.{Abstract}
 use Rattle.tt_abs.specs.Stacks.{first}
 use Rattle.tt_abs.specs.Representation.Steps.{Restacks, RefusesStack, takes_one}
@@ -27,12 +27,12 @@ found_under stack n c e =
     found.1 ∙ ap (λ l. c ∷ l) (sym (left_after n stack found.0 c found.1))
 
 -- another name for what is done on the stack
-pub restacks_same : (r : Result (Unit {0}) Refusal) (f g : Abstract → Tested Abstract) (old new : List Cell) → ((a : Abstract) → g a ≡ f a)
+pub restacks_same : (r : Result (Unit {0}) StepFault) (f g : Abstract → Tested Abstract) (old new : List Cell) → ((a : Abstract) → g a ≡ f a)
     → OnOk r (Restacks f old new) → OnOk r (Restacks g old new)
 restacks_same (Ok u) f g old new same h = λ a. same (record a { stack = old }) ∙ h a
 restacks_same (Err e) f g old new same h = tt
 
-pub refuses_same : (r : Result (Unit {0}) Refusal) (f g : Abstract → Tested Abstract) (old : List Cell) → ((a : Abstract) → g a ≡ f a)
+pub refuses_same : (r : Result (Unit {0}) StepFault) (f g : Abstract → Tested Abstract) (old : List Cell) → ((a : Abstract) → g a ≡ f a)
     → IfErr r (λ e. ForReason e (RefusesStack f old)) → IfErr r (λ e. ForReason e (RefusesStack g old))
 refuses_same (Ok u) f g old same h = tt
 refuses_same (Err (Refused r)) f g old same h = λ a. same (record a { stack = old }) ∙ h a

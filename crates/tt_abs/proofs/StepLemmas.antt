@@ -15,8 +15,8 @@ use Rattle.tt_code.specs.declared.machine.Body.TheVariants as body
 use Rattle.tt_code.specs.declared.machine.Frame.{Frame}
 use Rattle.tt_code.specs.declared.reason.Reason.{Reason}
 use Rattle.tt_code.specs.declared.reason.Reason.TheVariants as reason
-use Rattle.tt_abs.specs.declared.refusal.Refusal.{Refusal}
-use Rattle.tt_abs.specs.declared.refusal.Refusal.TheVariants.{Refused, OutOfMemory}
+use Rattle.tt_abs.specs.declared.step_fault.StepFault.{StepFault}
+use Rattle.tt_abs.specs.declared.step_fault.StepFault.TheVariants.{Refused, OutOfMemory}
 use Rattle.tt_abs.specs.declared.cells.Cell.{Cell}
 use Rattle.tt_abs.specs.declared.cells.Cell.TheVariants.{Known}
 use Rattle.tt_abs.specs.declared.state.State.{State}
@@ -32,11 +32,11 @@ use Rattle.tt_abs.specs.Cells.{Abstract}
 use Rattle.tt_abs.specs.Transfers.{Next, cells_on, pushed_cells, one_way, does_cells, goes_on_cells, performs_cells, within_cells, are_within, instruction_of, outcome_on_cells}
 
 -- a refusal that is passed on
-pub passed_on : {A : Type 0} (r : Result A Refusal) (e : Refusal) (P : Refusal → Type 0) → P e → IsErrAnd r (λ x. x ≡ e) → IfErr r P
+pub passed_on : {A : Type 0} (r : Result A StepFault) (e : StepFault) (P : StepFault → Type 0) → P e → IsErrAnd r (λ x. x ≡ e) → IfErr r P
 passed_on (Ok a) e P h k = tt
 passed_on (Err x) e P h k = subst P (sym k) h
 
-pub for_reason : (e : Refusal) (P Q : Reason → Type 0) → ((r : Reason) → P r → Q r) → ForReason e P → ForReason e Q
+pub for_reason : (e : StepFault) (P Q : Reason → Type 0) → ((r : Reason) → P r → Q r) → ForReason e P → ForReason e Q
 for_reason (Refused r) P Q f h = f r h
 for_reason (OutOfMemory m) P Q f h = tt
 

@@ -3,7 +3,10 @@ pub mod Cells
 pub mod Entries
 pub mod Transfers
 pub mod Covers
+pub mod Registers
 pub mod Settings
+pub mod Spots
+pub mod Successors
 pub mod Stacks
 pub mod Moves
 pub mod CellOrders

@@ -11,8 +11,8 @@ use Rattle.tt_abs.specs.declared.moves.Moves.{Moves}
 use Rattle.tt_abs.specs.declared.moves.Moves.TheVariants as moves
 use Rattle.tt_code.specs.declared.kinds.Control.{Control}
 use Rattle.tt_code.specs.declared.reason.Reason.{Reason}
-use Rattle.tt_abs.specs.declared.refusal.Refusal.{Refusal}
-use Rattle.tt_abs.specs.declared.refusal.Refusal.TheVariants.{Refused, OutOfMemory}
+use Rattle.tt_abs.specs.declared.step_fault.StepFault.{StepFault}
+use Rattle.tt_abs.specs.declared.step_fault.StepFault.TheVariants.{Refused, OutOfMemory}
 use Rattle.tt_abs.specs.declared.setting.Setting.{Setting}
 use Rattle.tt_abs.specs.declared.setting.Point.{Point}
 use Rattle.tt_abs.specs.declared.state.State.{State}
@@ -81,12 +81,12 @@ abbrev pub LeadsBy : Point → Tested (List Next) → Moves → State → Type 0
 LeadsBy point outcome moves new = outcome ≡ Ok (nexts_of (frames_of point) moves (abstract_of new))
 
 -- what holds of a refusal's reason; where memory ran out, nothing has to hold
-abbrev pub ForReason : Refusal → (Reason → Type 0) → Type 0
+abbrev pub ForReason : StepFault → (Reason → Type 0) → Type 0
 ForReason (Refused r) P = P r
 ForReason (OutOfMemory e) P = Unit {0}
 
 -- the outcome is refused for this reason
-abbrev pub IsRefusedFor : {A : Type 0} → Tested A → Refusal → Type 0
+abbrev pub IsRefusedFor : {A : Type 0} → Tested A → StepFault → Type 0
 IsRefusedFor outcome e = ForReason e (λ r. outcome ≡ Err r)
 
 -- the instruction at the point turns the old state into the new one and leads by these moves
@@ -94,7 +94,7 @@ abbrev pub StepsTo : Setting → Point → State → State → Moves → Type 0
 StepsTo setting point old new moves = LeadsBy point (outcome_at setting point old) moves new
 
 -- the instruction at the point is refused for this reason
-abbrev pub IsStepRefusedFor : Setting → Point → State → Refusal → Type 0
+abbrev pub IsStepRefusedFor : Setting → Point → State → StepFault → Type 0
 IsStepRefusedFor setting point old e = IsRefusedFor (outcome_at setting point old) e
 
 -- a control instruction at the point turns the old state into the new one and leads by these moves
@@ -103,7 +103,7 @@ ControlsTo setting point op old new moves =
     LeadsBy point (control_at setting point old op) moves new
 
 -- a control instruction at the point is refused for this reason
-abbrev pub IsControlRefusedFor : Setting → Point → Control → State → Refusal → Type 0
+abbrev pub IsControlRefusedFor : Setting → Point → Control → State → StepFault → Type 0
 IsControlRefusedFor setting point op old e = IsRefusedFor (control_at setting point old op) e
 
 -- of the machines that the old state covers, none faults at the point or comes to run a body twice;
@@ -116,6 +116,6 @@ GivesByMachines setting point old new moves =
 
 -- some machine that the state covers faults at the point, or comes to run a body twice, or they
 -- come to too many lists of calls
-abbrev pub IsRefusedByMachines : Setting → Point → State → Refusal → Type 0
+abbrev pub IsRefusedByMachines : Setting → Point → State → StepFault → Type 0
 IsRefusedByMachines setting point old e = ForReason e
     (λ r. IsRefused (abstract_of old) (frames_of point) point.offset (outcome (setting_of setting)))

@@ -7,9 +7,9 @@ ghost use Rattle.tt_abs.specs.Transfers.{computed_cells};
 
 use crate::arithmetic;
 use crate::cells::Cell;
-use crate::refusal::Refusal;
 use crate::shuffle::cell_under;
 use crate::stack::Stack;
+use crate::step_fault::StepFault;
 use tt_code::kinds::Arithmetic;
 
 /// Whether the instruction takes only one operand.
@@ -55,7 +55,7 @@ fn result_of_two(operation: Arithmetic, second: Cell, top: Cell) -> Cell
 }
 
 /// Replaces the top of the stack by the result of an instruction of one operand.
-fn compute_of_one(stack: &mut Stack, operation: Arithmetic) -> Result<(), Refusal>
+fn compute_of_one(stack: &mut Stack, operation: Arithmetic) -> Result<(), StepFault>
     ensures ok { OnOk result (Restacks (one_computed operation) stack.old stack.new) }
     ensures refused { IfErr result (IsStackRefusedFor (one_computed operation) stack.old) }
 {
@@ -66,7 +66,7 @@ fn compute_of_one(stack: &mut Stack, operation: Arithmetic) -> Result<(), Refusa
 }
 
 /// Replaces the two upper cells by the result of an instruction of two operands.
-fn compute_of_two(stack: &mut Stack, operation: Arithmetic) -> Result<(), Refusal>
+fn compute_of_two(stack: &mut Stack, operation: Arithmetic) -> Result<(), StepFault>
     ensures ok { OnOk result (Restacks (two_computed operation) stack.old stack.new) }
     ensures refused { IfErr result (IsStackRefusedFor (two_computed operation) stack.old) }
 {
@@ -82,7 +82,7 @@ fn compute_of_two(stack: &mut Stack, operation: Arithmetic) -> Result<(), Refusa
 /// # Errors
 /// `Refused` with `Underflow` where the stack has too few cells; then it stays as it is.
 /// `OutOfMemory`; then its cells are unspecified.
-pub fn compute(stack: &mut Stack, operation: Arithmetic) -> Result<(), Refusal>
+pub fn compute(stack: &mut Stack, operation: Arithmetic) -> Result<(), StepFault>
     ensures ok { OnOk result (Restacks (computed_cells operation) stack.old stack.new) }
     ensures refused { IfErr result (IsStackRefusedFor (computed_cells operation) stack.old) }
 {

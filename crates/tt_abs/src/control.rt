@@ -10,10 +10,10 @@ use crate::arithmetic::is_true;
 use crate::cells::Cell;
 use crate::moves::{Move, Moves};
 use crate::operands::number;
-use crate::refusal::Refusal;
 use crate::setting::{Point, Setting, is_index};
 use crate::shuffle::cell_under;
 use crate::state::State;
+use crate::step_fault::StepFault;
 use tt_code::kinds::Control;
 use tt_code::{Frame, Reason};
 
@@ -52,7 +52,7 @@ fn ways_of_if(setting: &Setting<'_>, point: &Point<'_>, cell: Cell) -> Result<Mo
 }
 
 /// Carries out IF.
-fn branch(setting: &Setting<'_>, point: &Point<'_>, state: &mut State) -> Result<Moves, Refusal>
+fn branch(setting: &Setting<'_>, point: &Point<'_>, state: &mut State) -> Result<Moves, StepFault>
     requires { point.now.offset < 2 ^ 31 }
     ensures ok { IfOk result (ControlsTo setting.now point.now control.If state.old state.new) }
     ensures refused { IfErr result
@@ -65,14 +65,18 @@ fn branch(setting: &Setting<'_>, point: &Point<'_>, state: &mut State) -> Result
 }
 
 /// Carries out ELSE, where it is reached.
-fn skip_else(setting: &Setting<'_>, point: &Point<'_>, state: &mut State) -> Result<Moves, Refusal>
+fn skip_else(
+    setting: &Setting<'_>,
+    point: &Point<'_>,
+    state: &mut State,
+) -> Result<Moves, StepFault>
     ensures ok { IfOk result (ControlsTo setting.now point.now control.Else state.old state.new) }
     ensures refused { IfErr result
         (IsControlRefusedFor setting.now point.now control.Else state.old) }
 {
     match setting.program(point).after_else(point.offset) {
         Some(offset) => Ok(Moves::One(Move::To(offset))),
-        None => Err(Refusal::Refused(Reason::Target)),
+        None => Err(StepFault::Refused(Reason::Target)),
     }
 }
 
@@ -101,7 +105,7 @@ fn jump_target(
 }
 
 /// Carries out JMPR.
-fn jump(setting: &Setting<'_>, point: &Point<'_>, state: &mut State) -> Result<Moves, Refusal>
+fn jump(setting: &Setting<'_>, point: &Point<'_>, state: &mut State) -> Result<Moves, StepFault>
     requires { point.now.offset < 2 ^ 31 }
     ensures ok { IfOk result (ControlsTo setting.now point.now control.Jump state.old state.new) }
     ensures refused { IfErr result
@@ -151,7 +155,7 @@ fn jump_if(
     point: &Point<'_>,
     state: &mut State,
     asked: bool,
-) -> Result<Moves, Refusal>
+) -> Result<Moves, StepFault>
     requires { point.now.offset < 2 ^ 31 }
     ensures ok { IfOk result
         (λ m. LeadsBy point.now (jump_if_at setting.now point.now asked state.old) m state.new) }
@@ -167,7 +171,7 @@ fn jump_if(
 
 /// Carries out FDEF, to which only the font program and the CVT program may come: it defines the
 /// function whose number it pops, with the body just after it.
-fn define(setting: &Setting<'_>, point: &Point<'_>, state: &mut State) -> Result<Moves, Refusal>
+fn define(setting: &Setting<'_>, point: &Point<'_>, state: &mut State) -> Result<Moves, StepFault>
     requires { point.now.offset + 1 < 2 ^ 31 }
     ensures ok { IfOk result
         (ControlsTo setting.now point.now control.FunctionDefinition state.old state.new) }
@@ -175,15 +179,15 @@ fn define(setting: &Setting<'_>, point: &Point<'_>, state: &mut State) -> Result
         (IsControlRefusedFor setting.now point.now control.FunctionDefinition state.old) }
 {
     if !setting.may_define() {
-        return Err(Refusal::Refused(Reason::Definition));
+        return Err(StepFault::Refused(Reason::Definition));
     }
     let top = cell_under(&state.stack, 0)?;
     let function = number(top)?;
     if !is_index(function, u32::from(setting.limits.functions)) {
-        return Err(Refusal::Refused(Reason::Function));
+        return Err(StepFault::Refused(Reason::Function));
     }
     let Some(after) = setting.program(point).after_fdef(point.offset) else {
-        return Err(Refusal::Refused(Reason::Target));
+        return Err(StepFault::Refused(Reason::Target));
     };
     state.stack.cut(1);
     state.define(function as u16, setting.body_name(next_offset(point)))?;
@@ -247,7 +251,7 @@ fn enter(
 }
 
 /// Carries out CALL.
-fn call(setting: &Setting<'_>, point: &Point<'_>, state: &mut State) -> Result<Moves, Refusal>
+fn call(setting: &Setting<'_>, point: &Point<'_>, state: &mut State) -> Result<Moves, StepFault>
     ensures ok { IfOk result (ControlsTo setting.now point.now control.Call state.old state.new) }
     ensures refused { IfErr result
         (IsControlRefusedFor setting.now point.now control.Call state.old) }
@@ -280,7 +284,11 @@ fn repeat(
 }
 
 /// Carries out LOOPCALL.
-fn loop_call(setting: &Setting<'_>, point: &Point<'_>, state: &mut State) -> Result<Moves, Refusal>
+fn loop_call(
+    setting: &Setting<'_>,
+    point: &Point<'_>,
+    state: &mut State,
+) -> Result<Moves, StepFault>
     requires { point.now.offset < 2 ^ 31 }
     ensures ok { IfOk result
         (ControlsTo setting.now point.now control.LoopCall state.old state.new) }
@@ -297,14 +305,14 @@ fn loop_call(setting: &Setting<'_>, point: &Point<'_>, state: &mut State) -> Res
 }
 
 /// Carries out ENDF: goes on to the next turn, or to just after the call.
-fn end_function(setting: &Setting<'_>, point: &Point<'_>, state: &State) -> Result<Moves, Refusal>
+fn end_function(setting: &Setting<'_>, point: &Point<'_>, state: &State) -> Result<Moves, StepFault>
     ensures ok { IfOk result
         (ControlsTo setting.now point.now control.EndFunction state.now state.now) }
     ensures refused { IfErr result
         (IsControlRefusedFor setting.now point.now control.EndFunction state.now) }
 {
     match point.frames {
-        [] => Err(Refusal::Refused(Reason::Target)),
+        [] => Err(StepFault::Refused(Reason::Target)),
         [.., frame] => {
             if frame.turn < frame.count {
                 Ok(Moves::One(Move::NextTurn))
@@ -325,7 +333,7 @@ pub fn execute_control(
     point: &Point<'_>,
     state: &mut State,
     operation: Control,
-) -> Result<Moves, Refusal>
+) -> Result<Moves, StepFault>
     requires { point.now.offset + 1 < 2 ^ 31 }
     ensures ok { IfOk result (ControlsTo setting.now point.now operation state.old state.new) }
     ensures refused { IfErr result (IsControlRefusedFor setting.now point.now operation state.old) }
@@ -340,6 +348,6 @@ pub fn execute_control(
         Control::LoopCall => loop_call(setting, point, state),
         Control::FunctionDefinition => define(setting, point, state),
         Control::EndFunction => end_function(setting, point, state),
-        Control::InstructionDefinition => Err(Refusal::Refused(Reason::InstructionDefinition)),
+        Control::InstructionDefinition => Err(StepFault::Refused(Reason::InstructionDefinition)),
     }
 }

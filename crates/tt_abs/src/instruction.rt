@@ -12,10 +12,10 @@ use crate::control::execute_control;
 use crate::moves::{Move, Moves};
 use crate::plain::execute_plain;
 use crate::push::push_data;
-use crate::refusal::Refusal;
 use crate::setting::{Point, Setting, body_of, is_same_body};
 use crate::shuffle::shuffle;
 use crate::state::State;
+use crate::step_fault::StepFault;
 use tt_code::kinds::Effect;
 use tt_code::{Instr, Reason, entry};
 
@@ -26,13 +26,13 @@ fn dispatch(
     point: &Point<'_>,
     state: &mut State,
     instr: &Instr<'_>,
-) -> Result<Moves, Refusal>
+) -> Result<Moves, StepFault>
     requires { point.now.offset + length instr.now < 2 ^ 31 }
     ensures ok { IfOk result (DoesTo setting.now point.now instr.now state.old state.new) }
     ensures refused { IfErr result (IsDoingRefusedFor setting.now point.now instr.now state.old) }
 {
     match entry(instr.code()) {
-        Effect::NoEntry => return Err(Refusal::Refused(Reason::Opcode)),
+        Effect::NoEntry => return Err(StepFault::Refused(Reason::Opcode)),
         Effect::Plain(line) => execute_plain(setting, state, line)?,
         Effect::Push(push) => push_data(&mut state.stack, *push, instr.data())?,
         Effect::Stack(operation) => shuffle(&mut state.stack, *operation)?,
@@ -49,7 +49,7 @@ fn execute(
     point: &Point<'_>,
     state: &mut State,
     instr: &Instr<'_>,
-) -> Result<Moves, Refusal>
+) -> Result<Moves, StepFault>
     requires short { point.now.offset + length instr.now < 2 ^ 31 }
     requires found { point_instruction setting.now point.now ≡ Some instr.now }
     ensures ok { IfOk result (StepsTo setting.now point.now state.old state.new) }
@@ -61,7 +61,7 @@ fn execute(
     prove!(u32::from(instr.code()) < 256);
     let moves = dispatch(setting, point, state, instr)?;
     if state.stack.len() > usize::from(setting.limits.stack) {
-        return Err(Refusal::Refused(Reason::Overflow));
+        return Err(StepFault::Refused(Reason::Overflow));
     }
     state.order_facts();
     Ok(moves)
@@ -72,7 +72,7 @@ fn execute(
 ///
 /// # Errors
 /// `Refused` with the reason of the first test of the instruction that fails; `OutOfMemory`.
-pub fn step(setting: &Setting<'_>, point: &Point<'_>, state: &mut State) -> Result<Moves, Refusal>
+pub fn step(setting: &Setting<'_>, point: &Point<'_>, state: &mut State) -> Result<Moves, StepFault>
     requires { StartsAt setting.now point.now }
     ensures ok { IfOk result (StepsTo setting.now point.now state.old state.new) }
     ensures refused { IfErr result (IsStepRefusedFor setting.now point.now state.old) }
@@ -81,7 +81,7 @@ pub fn step(setting: &Setting<'_>, point: &Point<'_>, state: &mut State) -> Resu
 {
     let program = setting.program(point);
     let Some(instr) = program.at(point.offset) else {
-        return Err(Refusal::Refused(Reason::Target));
+        return Err(StepFault::Refused(Reason::Target));
     };
     prove!(point.offset < program.len());
     execute(setting, point, state, &instr)
@@ -105,7 +105,7 @@ pub fn step_at(
     setting: &Setting<'_>,
     point: &Point<'_>,
     state: &mut State,
-) -> Result<Stepped, Refusal>
+) -> Result<Stepped, StepFault>
     ensures ok { IfOk result
         (λ step. StepsTo setting.now point.now state.old state.new step.moves) }
     ensures end { IfOk result
@@ -116,10 +116,10 @@ pub fn step_at(
 {
     let program = setting.program(point);
     let Some((instr, body)) = program.found_at(point.offset) else {
-        return Err(Refusal::Refused(Reason::Target));
+        return Err(StepFault::Refused(Reason::Target));
     };
     if !is_same_body(body_of(point), body) {
-        return Err(Refusal::Refused(Reason::Target));
+        return Err(StepFault::Refused(Reason::Target));
     }
     prove!(point.offset < program.len());
     prove!(instr.len() > 0);

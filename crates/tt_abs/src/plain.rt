@@ -9,9 +9,9 @@ ghost use Rattle.tt_abs.specs.Representation.Stored.{is_of_one_kind, is_tested_l
 use crate::changes::{pushed_cells, update_all};
 use crate::operands::{take_operands, test_uses};
 use crate::push::push_cells;
-use crate::refusal::Refusal;
 use crate::setting::Setting;
 use crate::state::State;
+use crate::step_fault::StepFault;
 use tt_code::kinds::Row;
 
 /// Carries out a plain line: its operands are taken and its reference points tested, and then it
@@ -20,7 +20,7 @@ use tt_code::kinds::Row;
 /// # Errors
 /// `Refused` with the reason of the first test that fails; then the state stays as it is.
 /// `OutOfMemory`; then the state's content is unspecified.
-pub fn execute_plain(setting: &Setting<'_>, state: &mut State, line: &Row) -> Result<(), Refusal>
+pub fn execute_plain(setting: &Setting<'_>, state: &mut State, line: &Row) -> Result<(), StepFault>
     requires tested { is_tested_line (line_of line.now) ≡ true }
     requires one_kind { is_of_one_kind (line_of line.now) ≡ true }
     ensures ok { OnOk result

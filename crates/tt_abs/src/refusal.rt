@@ -1,29 +1,26 @@
-//! Why an instruction is refused.
+//! Why a program is refused, and where.
 
+use crate::spot::Spot;
 use std::alloc::AllocError;
 use thiserror::Error;
 use tt_code::Reason;
 
-/// Why an instruction is refused at its place.
+/// Why a program isn't accepted: it is refused by the finder, since no family is good for it, or by
+/// the check, since its certificate's family isn't; or memory ran out, or the budget is exceeded.
 #[derive(Debug, Drop, Error)]
 pub enum Refusal {
-    /// A test of the instruction fails.
-    #[error(transparent)]
-    Refused(Reason),
-    /// Memory ran out, which is no fault of the program.
+    /// What is broken first, and where: in which program, and at which offset there. An offset
+    /// above 4,294,967,295 is given as that number.
+    #[error("{reason}")]
+    Refused {
+        spot: Spot,
+        offset: u32,
+        reason: Reason,
+    },
+    /// A growth of memory was refused, or the budget is exceeded, as the budget tells.
+    /// Neither tells anything of the program.
     #[error(transparent)]
     OutOfMemory(AllocError),
-}
-
-impl From<Reason> for Refusal {
-    ghost use Rattle.std.specs.Prelude.{◌≡◌};
-    ghost use Rattle.tt_abs.specs.declared.refusal.Refusal.{Refusal};
-
-    ghost from_gives = { λ r e. e ≡ Refusal.Refused r };
-
-    fn from(reason: Reason) -> Refusal {
-        Refusal::Refused(reason)
-    }
 }
 
 impl From<AllocError> for Refusal {

@@ -2,6 +2,7 @@
 
 ghost use Rattle.std.specs.Prelude.{◌≡◌};
 ghost use Rattle.tt_code.specs.States.{pointer as pointer_of, reference as reference_of, with_pointer, with_reference};
+ghost use Rattle.tt_abs.specs.Registers.{pointer_numbered, reference_numbered};
 
 use crate::cells::{Cell, ZoneCell};
 use tt_code::Graphics;
@@ -48,5 +49,27 @@ pub fn set_pointer(graphics: &mut Graphics<Cell, ZoneCell>, pointer: Pointer, zo
         Pointer::Zp0 => graphics.zp0 = zone,
         Pointer::Zp1 => graphics.zp1 = zone,
         Pointer::Zp2 => graphics.zp2 = zone,
+    }
+}
+
+/// Returns the reference point with a number: 0 for rp0, 1 for rp1, and any other for rp2.
+pub fn reference_with_number(i: usize) -> Reference
+    ensures { result ≡ reference_numbered i }
+{
+    match i {
+        0 => Reference::Rp0,
+        1 => Reference::Rp1,
+        _ => Reference::Rp2,
+    }
+}
+
+/// Returns the zone pointer with a number: 0 for zp0, 1 for zp1, and any other for zp2.
+pub fn pointer_with_number(i: usize) -> Pointer
+    ensures { result ≡ pointer_numbered i }
+{
+    match i {
+        0 => Pointer::Zp0,
+        1 => Pointer::Zp1,
+        _ => Pointer::Zp2,
     }
 }

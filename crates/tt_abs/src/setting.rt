@@ -9,11 +9,13 @@ ghost use Rattle.tt_code.specs.Operands.{is_zone as is_zone_number};
 ghost use Rattle.tt_code.specs.States.{is_below};
 ghost use Rattle.tt_abs.specs.Ranges.{IsSettingInRange};
 ghost use Rattle.tt_abs.specs.Settings.{frames_of, programs_of, setting_of};
+ghost use Rattle.tt_abs.specs.Spots.{spot_of};
 ghost use Rattle.tt_abs.specs.StateFlow.{AreProgramsShort};
 ghost use Rattle.tt_abs.specs.Transfers.{is_below_in, is_point_in};
 
 use crate::cells::{Cell, ZoneCell};
 use crate::registers::pointer;
+use crate::spot::Spot;
 use tt_code::kinds::Within;
 use tt_code::{Body, Frame, Graphics, Limits, Program};
 
@@ -65,6 +67,18 @@ pub struct Point<'a> {
     /// The offset in the program that has the innermost frame's body; without frames, in the main
     /// program.
     pub offset: u32,
+}
+
+impl Point<'_> {
+    /// Returns in which program the point is.
+    pub fn spot(&self) -> Spot
+        ensures { result ≡ spot_of (frames_of self.now) }
+    {
+        match self.frames {
+            [] => Spot::Main,
+            [.., frame] => Spot::of_body(frame.body),
+        }
+    }
 }
 
 /// Returns the offset of a body in its program.

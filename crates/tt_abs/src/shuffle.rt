@@ -10,8 +10,8 @@ ghost use Rattle.tt_abs.specs.declared.cells.Cell.{Cell as AnyCell};
 
 use crate::cells::Cell;
 use crate::operands::number;
-use crate::refusal::Refusal;
 use crate::stack::Stack;
+use crate::step_fault::StepFault;
 use tt_code::Reason;
 use tt_code::kinds::StackOp;
 
@@ -30,7 +30,7 @@ pub fn cell_under(stack: &Stack, taken: usize) -> Result<Cell, Reason>
 }
 
 /// Carries out DUP: copies the top.
-fn duplicate(stack: &mut Stack) -> Result<(), Refusal>
+fn duplicate(stack: &mut Stack) -> Result<(), StepFault>
     ensures ok { OnOk result (Restacks (shuffled_cells op.Dup) stack.old stack.new) }
     ensures refused { IfErr result (IsStackRefusedFor (shuffled_cells op.Dup) stack.old) }
 {
@@ -40,7 +40,7 @@ fn duplicate(stack: &mut Stack) -> Result<(), Refusal>
 }
 
 /// Carries out POP: removes the top.
-fn discard(stack: &mut Stack) -> Result<(), Refusal>
+fn discard(stack: &mut Stack) -> Result<(), StepFault>
     ensures ok { OnOk result (Restacks (shuffled_cells op.Pop) stack.old stack.new) }
     ensures refused { IfErr result (IsStackRefusedFor (shuffled_cells op.Pop) stack.old) }
 {
@@ -50,7 +50,7 @@ fn discard(stack: &mut Stack) -> Result<(), Refusal>
 }
 
 /// Carries out SWAP: exchanges the two upper cells.
-fn swap(stack: &mut Stack) -> Result<(), Refusal>
+fn swap(stack: &mut Stack) -> Result<(), StepFault>
     ensures ok { OnOk result (Restacks (shuffled_cells op.Swap) stack.old stack.new) }
     ensures refused { IfErr result (IsStackRefusedFor (shuffled_cells op.Swap) stack.old) }
 {
@@ -63,7 +63,7 @@ fn swap(stack: &mut Stack) -> Result<(), Refusal>
 }
 
 /// Carries out DEPTH: pushes how many cells there are.
-fn push_depth(stack: &mut Stack) -> Result<(), Refusal>
+fn push_depth(stack: &mut Stack) -> Result<(), StepFault>
     ensures ok { OnOk result (Restacks (shuffled_cells op.Depth) stack.old stack.new) }
     ensures refused { IfErr result (IsStackRefusedFor (shuffled_cells op.Depth) stack.old) }
 {
@@ -97,7 +97,7 @@ fn indexed(stack: &Stack) -> Result<(usize, Cell), Reason>
 }
 
 /// Carries out CINDEX: copies the cell that the top names.
-fn copy_indexed(stack: &mut Stack) -> Result<(), Refusal>
+fn copy_indexed(stack: &mut Stack) -> Result<(), StepFault>
     ensures ok { OnOk result (Restacks (shuffled_cells op.CopyIndexed) stack.old stack.new) }
     ensures refused { IfErr result (IsStackRefusedFor (shuffled_cells op.CopyIndexed) stack.old) }
 {
@@ -108,7 +108,7 @@ fn copy_indexed(stack: &mut Stack) -> Result<(), Refusal>
 }
 
 /// Carries out MINDEX: moves the cell that the top names to the top.
-fn move_indexed(stack: &mut Stack) -> Result<(), Refusal>
+fn move_indexed(stack: &mut Stack) -> Result<(), StepFault>
     ensures ok { OnOk result (Restacks (shuffled_cells op.MoveIndexed) stack.old stack.new) }
     ensures refused { IfErr result (IsStackRefusedFor (shuffled_cells op.MoveIndexed) stack.old) }
 {
@@ -120,7 +120,7 @@ fn move_indexed(stack: &mut Stack) -> Result<(), Refusal>
 }
 
 /// Carries out ROLL: brings the third cell to the top.
-fn roll(stack: &mut Stack) -> Result<(), Refusal>
+fn roll(stack: &mut Stack) -> Result<(), StepFault>
     ensures ok { OnOk result (Restacks (shuffled_cells op.Roll) stack.old stack.new) }
     ensures refused { IfErr result (IsStackRefusedFor (shuffled_cells op.Roll) stack.old) }
 {
@@ -140,7 +140,7 @@ fn roll(stack: &mut Stack) -> Result<(), Refusal>
 /// `Refused` with `Underflow` where the stack has too few cells, with `UnknownOperand` where an
 /// index isn't known, with `Count` where it is below 1; then the stack stays as it is.
 /// `OutOfMemory`; then its cells are unspecified.
-pub fn shuffle(stack: &mut Stack, operation: StackOp) -> Result<(), Refusal>
+pub fn shuffle(stack: &mut Stack, operation: StackOp) -> Result<(), StepFault>
     ensures ok { OnOk result (Restacks (shuffled_cells operation) stack.old stack.new) }
     ensures refused { IfErr result (IsStackRefusedFor (shuffled_cells operation) stack.old) }
 {

@@ -3,6 +3,7 @@
 use crate::cells::{Cell, ZoneCell};
 use crate::graphics::{is_same_graphics, joined_graphics};
 use crate::order::{AbsFault, Order};
+use crate::registers::{self, pointer_with_number, reference_with_number};
 use crate::sorted_map::SortedMap;
 use crate::stack::Stack;
 use std::alloc::{AllocError, Global};
@@ -37,6 +38,7 @@ impl State {
     ghost use Rattle.std.specs.Prelude.{◌≡◌, ◌<◌, ◌≤◌, ◌+◌, ◌∷◌, ◌↔◌, length, reverse, slice_get, IsTrue, IfOk, OnOk, OnErr, [], drop};
     ghost use Rattle.tt_code.specs.States.{pointer, reference, with_pointer, with_reference};
     ghost use Rattle.tt_abs.specs.Entries.{Ascends, storage_of, with_cell, with_entry};
+    ghost use Rattle.tt_abs.specs.Registers.{pointer_numbered, reference_numbered};
     ghost use Rattle.tt_abs.specs.Stacks.{ShareBottom};
     ghost use Rattle.tt_abs.specs.States.{KeepsRange, start_of, state_order};
     ghost use Rattle.tt_abs.specs.Transfers.{cells_on};
@@ -64,7 +66,7 @@ impl State {
     ///
     /// # Errors
     /// If memory runs out.
-    pub fn copied(&self) -> Result<State, AllocError>
+    pub fn copy(&self) -> Result<State, AllocError>
         ensures { IfOk result (λ copy. copy ≡ self.now) }
     {
         let alloc = self.stack.allocator();
@@ -129,26 +131,34 @@ impl State {
         self.stack.above(place)
     }
 
+    /// Returns what is known of the reference point with number `i`, which is below 3.
+    pub fn rp(&self, i: usize) -> Cell
+        requires { i < 3 }
+        ensures { result ≡ reference (reference_numbered i) self.now.graphics }
+    {
+        self.reference_point(reference_with_number(i))
+    }
+
     /// Returns what is known of a reference point.
-    pub fn rp(&self, which: Reference) -> Cell
+    pub fn reference_point(&self, which: Reference) -> Cell
         ensures { result ≡ reference which self.now.graphics }
     {
-        match which {
-            Reference::Rp0 => self.graphics.rp0,
-            Reference::Rp1 => self.graphics.rp1,
-            Reference::Rp2 => self.graphics.rp2,
-        }
+        registers::reference(&self.graphics, which)
+    }
+
+    /// Returns what is known of the zone pointer with number `i`, which is below 3.
+    pub fn zone(&self, i: usize) -> ZoneCell
+        requires { i < 3 }
+        ensures { result ≡ pointer (pointer_numbered i) self.now.graphics }
+    {
+        self.zone_pointer(pointer_with_number(i))
     }
 
     /// Returns what is known of a zone pointer.
-    pub fn zone(&self, which: Pointer) -> ZoneCell
+    pub fn zone_pointer(&self, which: Pointer) -> ZoneCell
         ensures { result ≡ pointer which self.now.graphics }
     {
-        match which {
-            Pointer::Zp0 => self.graphics.zp0,
-            Pointer::Zp1 => self.graphics.zp1,
-            Pointer::Zp2 => self.graphics.zp2,
-        }
+        registers::pointer(&self.graphics, which)
     }
 
     /// Returns what is known of the loop number.
@@ -229,30 +239,42 @@ impl State {
         self.stack.cut(count);
     }
 
+    /// Sets what is known of the reference point with number `i`, which is below 3.
+    pub fn set_rp(&mut self, i: usize, cell: Cell)
+        requires { i < 3 }
+        ensures value { self.new ≡ record self.old
+            { graphics = with_reference (reference_numbered i) cell self.old.graphics } }
+        ensures in_range { KeepsRange self.old self.new }
+    {
+        self.set_reference_point(reference_with_number(i), cell);
+    }
+
     /// Sets what is known of a reference point.
-    pub fn set_rp(&mut self, which: Reference, cell: Cell)
+    pub fn set_reference_point(&mut self, which: Reference, cell: Cell)
         ensures value { self.new
             ≡ record self.old { graphics = with_reference which cell self.old.graphics } }
         ensures in_range { KeepsRange self.old self.new }
     {
-        match which {
-            Reference::Rp0 => self.graphics.rp0 = cell,
-            Reference::Rp1 => self.graphics.rp1 = cell,
-            Reference::Rp2 => self.graphics.rp2 = cell,
-        }
+        registers::set_reference(&mut self.graphics, which, cell);
+    }
+
+    /// Sets what is known of the zone pointer with number `i`, which is below 3.
+    pub fn set_zone(&mut self, i: usize, zone: ZoneCell)
+        requires { i < 3 }
+        ensures value { self.new ≡ record self.old
+            { graphics = with_pointer (pointer_numbered i) zone self.old.graphics } }
+        ensures in_range { KeepsRange self.old self.new }
+    {
+        self.set_zone_pointer(pointer_with_number(i), zone);
     }
 
     /// Sets what is known of a zone pointer.
-    pub fn set_zone(&mut self, which: Pointer, zone: ZoneCell)
+    pub fn set_zone_pointer(&mut self, which: Pointer, zone: ZoneCell)
         ensures value { self.new
             ≡ record self.old { graphics = with_pointer which zone self.old.graphics } }
         ensures in_range { KeepsRange self.old self.new }
     {
-        match which {
-            Pointer::Zp0 => self.graphics.zp0 = zone,
-            Pointer::Zp1 => self.graphics.zp1 = zone,
-            Pointer::Zp2 => self.graphics.zp2 = zone,
-        }
+        registers::set_pointer(&mut self.graphics, which, zone);
     }
 
     /// Sets what is known of the loop number.

@@ -5,36 +5,46 @@ ghost use Rattle.tt_abs.specs.Covers.{has_body_twice};
 ghost use Rattle.tt_abs.specs.Moves.{GivesByMachines, IsRefusedByMachines, IsStepRefusedFor, StartsAt, StepsTo};
 ghost use Rattle.tt_abs.specs.Settings.{frames_of};
 ghost use Rattle.tt_abs.specs.States.{state_order};
+ghost use Rattle.tt_abs.specs.Successors.{AreInRange, IsRefusalBy, LeadTo, PassMachinesTo, RefuseMachines};
 
 use crate::instruction::step;
-use crate::moves::Moves;
+use crate::moves::{Move, Moves};
 use crate::refusal::Refusal;
 use crate::setting::{Point, Setting};
 use crate::state::State;
+use crate::step_fault::StepFault;
 
-/// Where a program goes on, and what is known of the machine's state there.
+/// A way on, and what is known of the machine's state there.
 #[derive(Drop)]
-pub struct Successors {
-    /// Where the program goes on.
-    pub moves: Moves,
+pub struct Successor {
+    /// How the place changes.
+    pub way: Move,
     /// What is known of the machine's state there.
     pub state: State,
 }
 
-/// Computes what an abstract state becomes by the instruction that starts at the point, in the
-/// point's body. The state is refused exactly if one of the machine states that it covers faults
-/// there or comes to have two open calls of one body, or if these come to more lists of calls than
-/// a program may have. Otherwise there is a way to each place to which one of them comes by the
-/// instruction, and the new state is the smallest that covers those there.
+/// Where a program goes on, and what is known of the machine's state at each place.
+#[derive(Drop)]
+pub enum Successors {
+    /// To one place.
+    One(Successor),
+    /// To one of two offsets of the same body, the smaller one first.
+    Two(Successor, Successor),
+}
+
+/// The ways on, and what is known of the machine's state wherever they lead.
+#[derive(Drop)]
+struct Moved {
+    moves: Moves,
+    state: State,
+}
+
+/// Computes what a copy of an abstract state becomes by the instruction that starts at the point,
+/// as `transfer` does, with one state for all ways.
 ///
 /// # Errors
-/// `Refused` with the reason of the first test of the instruction that fails, read on cells;
-/// `OutOfMemory`.
-pub fn transfer(
-    setting: &Setting<'_>,
-    point: &Point<'_>,
-    state: &State,
-) -> Result<Successors, Refusal>
+/// `Refused` with the reason of the first test of the instruction that fails; `OutOfMemory`.
+fn moved(setting: &Setting<'_>, point: &Point<'_>, state: &State) -> Result<Moved, StepFault>
     requires starts { StartsAt setting.now point.now }
     requires once { has_body_twice (frames_of point.now) ≡ false }
     requires in_range { state_order.InRange state.now }
@@ -47,7 +57,59 @@ pub fn transfer(
     ensures refused { IfErr result (IsRefusedByMachines setting.now point.now state.now) }
 {
     prove!(setting.program(point).len() < 1 << 31);
-    let mut next = state.copied()?;
+    let mut next = state.copy()?;
     let moves = step(setting, point, &mut next)?;
-    Ok(Successors { moves, state: next })
+    Ok(Moved { moves, state: next })
+}
+
+/// Computes what an abstract state becomes by the instruction that starts at the point, in the
+/// point's body. The state is refused exactly if one of the machine states that it covers faults
+/// there or comes to have two open calls of one body, or if these come to more lists of calls than
+/// a program may have. Otherwise there is a way to each place to which one of them comes by the
+/// instruction, and the state given with it is the smallest that covers those there.
+///
+/// # Errors
+/// `Refused` with the point's place and the reason of the first test of the instruction that
+/// fails, read on cells; `OutOfMemory`.
+pub fn transfer(
+    setting: &Setting<'_>,
+    point: &Point<'_>,
+    state: &State,
+) -> Result<Successors, Refusal>
+    requires starts { StartsAt setting.now point.now }
+    requires once { has_body_twice (frames_of point.now) ≡ false }
+    requires in_range { state_order.InRange state.now }
+    ensures outcome { IfOk result (LeadTo setting.now point.now state.now) }
+    ensures gives { IfOk result (PassMachinesTo setting.now point.now state.now) }
+    ensures in_range { IfOk result AreInRange }
+    ensures reason { IfErr result (IsRefusalBy setting.now point.now state.now) }
+    ensures refused { IfErr result (RefuseMachines setting.now point.now state.now) }
+{
+    match moved(setting, point, state) {
+        Ok(
+            Moved {
+                moves: Moves::One(way),
+                state,
+            },
+        ) => Ok(Successors::One(Successor { way, state })),
+        Ok(
+            Moved {
+                moves: Moves::Two(offset, other),
+                state,
+            },
+        ) => {
+            let first = Successor {
+                way: Move::To(offset),
+                state: state.copy()?,
+            };
+            let way = Move::To(other);
+            Ok(Successors::Two(first, Successor { way, state }))
+        }
+        Err(StepFault::Refused(reason)) => Err(Refusal::Refused {
+            spot: point.spot(),
+            offset: point.offset,
+            reason,
+        }),
+        Err(StepFault::OutOfMemory(error)) => Err(Refusal::OutOfMemory(error)),
+    }
 }

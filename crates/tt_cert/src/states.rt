@@ -27,12 +27,12 @@ fn set_graphics(state: &mut State, graphics: &Graphics<Cell, ZoneCell>)
     ensures set { state.new ≡ record state.old { graphics = graphics.now } }
     ensures in_range { KeepsRange state.old state.new }
 {
-    state.set_rp(Reference::Rp0, graphics.rp0);
-    state.set_rp(Reference::Rp1, graphics.rp1);
-    state.set_rp(Reference::Rp2, graphics.rp2);
-    state.set_zone(Pointer::Zp0, graphics.zp0);
-    state.set_zone(Pointer::Zp1, graphics.zp1);
-    state.set_zone(Pointer::Zp2, graphics.zp2);
+    state.set_reference_point(Reference::Rp0, graphics.rp0);
+    state.set_reference_point(Reference::Rp1, graphics.rp1);
+    state.set_reference_point(Reference::Rp2, graphics.rp2);
+    state.set_zone_pointer(Pointer::Zp0, graphics.zp0);
+    state.set_zone_pointer(Pointer::Zp1, graphics.zp1);
+    state.set_zone_pointer(Pointer::Zp2, graphics.zp2);
     state.set_loop(graphics.loop_number);
 }
 

@@ -241,12 +241,12 @@ fn push_stack(
 fn push_graphics(out: &mut Vec<u8>, state: &State) -> Result<(), AllocError>
     ensures { Pushes (graphics_text state.now.graphics) result out.old.items out.new.items }
 {
-    push_cell(out, state.rp(Reference::Rp0))?;
-    push_cell(out, state.rp(Reference::Rp1))?;
-    push_cell(out, state.rp(Reference::Rp2))?;
-    push_zone(out, state.zone(Pointer::Zp0))?;
-    push_zone(out, state.zone(Pointer::Zp1))?;
-    push_zone(out, state.zone(Pointer::Zp2))?;
+    push_cell(out, state.reference_point(Reference::Rp0))?;
+    push_cell(out, state.reference_point(Reference::Rp1))?;
+    push_cell(out, state.reference_point(Reference::Rp2))?;
+    push_zone(out, state.zone_pointer(Pointer::Zp0))?;
+    push_zone(out, state.zone_pointer(Pointer::Zp1))?;
+    push_zone(out, state.zone_pointer(Pointer::Zp2))?;
     push_cell(out, state.loop_cell())
 }
 

@@ -23,11 +23,11 @@ use Rattle.tt_abs.specs.Transfers.{Next, outcome_on_cells}
 use Rattle.tt_abs.proofs.StateParts.{one_state}
 use Rattle.tt_family.specs.Checks.{AreCovered, AreMet, BreaksAt, IsFirstGap, IsGap, IsMet, IsSoundAt, Names, NamesAt, place_of_next, saturated_offset, stores, refused, leaves}
 use Rattle.tt_family.specs.GoodFamilies.{IsStoredWithin}
-use Rattle.tt_family.specs.Spots.{spot_of}
+use Rattle.tt_abs.specs.Spots.{spot_of}
 use Rattle.tt_family.specs.Representation.Cursors.{AreMetBy, IsLeftOut, IsMetBy, IsNextState, IsPassed, coverage_of_both}
 use Rattle.tt_family.specs.Fillings.{IsAfter}
-use Rattle.tt_family.specs.declared.fault.ProgramFault.{ProgramFault}
-use Rattle.tt_family.specs.declared.fault.ProgramFault.TheVariants.{Refused, OutOfMemory}
+use Rattle.tt_abs.specs.declared.refusal.Refusal.{Refusal}
+use Rattle.tt_abs.specs.declared.refusal.Refusal.TheVariants.{Refused, OutOfMemory}
 use Rattle.tt_family.specs.declared.meeting.Coverage.{Coverage}
 use Rattle.tt_family.specs.declared.meeting.Coverage.TheVariants as coverage
 
@@ -53,7 +53,7 @@ gap_same family L L' q t f MissingPoint (none, not) = (none, λ may. not (f may)
 gap_same family L L' q t f NotCovered gap = gap
 gap_same family L L' q t f _ gap = absurd gap
 
-pub named_gap_same : (family : Place → Option State) (L L' : Type 0) (q : Place) (t : State) → (L' → L) → (fault : ProgramFault) → NamesAt q (IsGap family L q t) fault
+pub named_gap_same : (family : Place → Option State) (L L' : Type 0) (q : Place) (t : State) → (L' → L) → (fault : Refusal) → NamesAt q (IsGap family L q t) fault
     → NamesAt q (IsGap family L' q t) fault
 named_gap_same family L L' q t f (Refused spot offset r) (a, b, gap) = (a, b, gap_same family L L' q t f r gap)
 named_gap_same family L L' q t f (OutOfMemory e) h = tt
@@ -71,7 +71,7 @@ leads_elsewhere [] Return after other forward (same, is) = let lt = forward 0 is
 leads_elsewhere (f ∷ fs) Return after other forward (same, is) = let long = ap length same in omega arith
 
 -- where no state may be left out, in other words for the same place
-module _ (family : Place → Option State) (L : Type 0) (next : Option (ℕ × ℕ × Bor State)) (q q' : Place) (t : State) (r : Result Coverage ProgramFault) (same : q ≡ q') where
+module _ (family : Place → Option State) (L : Type 0) (next : Option (ℕ × ℕ × Bor State)) (q q' : Place) (t : State) (r : Result Coverage Refusal) (same : q ≡ q') where
   pub elsewhere_met : IfOk r (IsMetBy family (IsTrue false) next q t) → IfOk r (IsMetBy family L next q' t)
   elsewhere_met h =
       let A : Place → Type 0 = λ x. IfOk r (IsMetBy family L next x t) in
@@ -138,7 +138,7 @@ module _ (family : Place → Option State) (fs : List Frame) (after : Option ℕ
     met_more coverage.Listed coverage.Listed first second = one_more IsCoveredAt second first
 
     -- it isn't met at the next one
-    pub gap_next : AreAllBelow IsMetThere ns k → (fault : ProgramFault) → NamesAt (place_of_next n) (IsGap family (IsAfter fs after (place_of_next n)) (place_of_next n) t) fault
+    pub gap_next : AreAllBelow IsMetThere ns k → (fault : Refusal) → NamesAt (place_of_next n) (IsGap family (IsAfter fs after (place_of_next n)) (place_of_next n) t) fault
         → Names (IsFirstGap family (IsAfter fs after) ns t) fault
     gap_next before (Refused spot offset r) h =
         (place_of_next n, h.0, h.1, record { index = k; here = record { next = n; found = at; place = refl; gap = h.2 }; before = before })
@@ -184,8 +184,8 @@ same_states fs ways b i n e =
     let (way, found, same) = map_found (next_by fs b) (ways_of ways) i n e in ap (λ (x : Next). x.state) same
 
 module _ (s : Setting) (family : Place → Option State) (L : Place → Type 0) (p : Place) (a : State) where
-  pub stores_here : (fault : ProgramFault) → fault ≡ Refused (spot_of p.0) (saturated_offset p.1) Storage → (IsStoredWithin s a → ⊥) → Names (BreaksAt s family L p a) fault
-  stores_here fault e above = let N : ProgramFault → Type 0 = λ x. Names (BreaksAt s family L p a) x in subst N (sym e) (p, refl, refl, stores above)
+  pub stores_here : (fault : Refusal) → fault ≡ Refused (spot_of p.0) (saturated_offset p.1) Storage → (IsStoredWithin s a → ⊥) → Names (BreaksAt s family L p a) fault
+  stores_here fault e above = let N : Refusal → Type 0 = λ x. Names (BreaksAt s family L p a) x in subst N (sym e) (p, refl, refl, stores above)
 
   -- at the end only storage indexes are checked
   pub passed_at_end : (carried : Option ℕ) (t : State) → carried ≡ None → IsStoredWithin s a → is_main_end s p.0 p.1 ≡ true → IsPassed s family L p a carried t
@@ -267,7 +267,7 @@ module _ (s : Setting) (family : Place → Option State) (L : Place → Type 0) 
     gap_where : (q : Place) (u : State) (r : Reason) → IsGap family (IsAfter p.0 after q) q u r → IsGap family (L q) q u r
     gap_where q u r gap = gap_same family (IsAfter p.0 after q) (L q) q u (same_places q).1 r gap
 
-    pub broken_here : (fault : ProgramFault) → Names (IsFirstGap family (IsAfter p.0 after) (nexts_of p.0 ways (abstract_of t)) t) fault → Names (BreaksAt s family L p a) fault
+    pub broken_here : (fault : Refusal) → Names (IsFirstGap family (IsAfter p.0 after) (nexts_of p.0 ways (abstract_of t)) t) fault → Names (BreaksAt s family L p a) fault
     broken_here (Refused spot offset r) (q, e, f, first) = (
       q,
       e,
@@ -288,10 +288,10 @@ module _ (s : Setting) (family : Place → Option State) (L : Place → Type 0) 
     )
     broken_here (OutOfMemory error) h = tt
 
-  pub refused_here : IsStoredWithin s a → is_main_end s p.0 p.1 ≡ false → (fault : ProgramFault) (r : Reason) → fault ≡ Refused (spot_of p.0) (saturated_offset p.1) r
+  pub refused_here : IsStoredWithin s a → is_main_end s p.0 p.1 ≡ false → (fault : Refusal) (r : Reason) → fault ≡ Refused (spot_of p.0) (saturated_offset p.1) r
       → outcome_on_cells s p.0 p.1 (abstract_of a) ≡ Err r → Names (BreaksAt s family L p a) fault
   refused_here stored running fault r e h =
-      let N : ProgramFault → Type 0 = λ x. Names (BreaksAt s family L p a) x in
+      let N : Refusal → Type 0 = λ x. Names (BreaksAt s family L p a) x in
       subst N (sym e) (p, refl, refl, refused r stored (record { running = running; refused = h }))
 
 -- frames that were turned round twice

@@ -18,8 +18,8 @@ use Rattle.tt_family.specs.Fillings.{HasGoodFilling, HasSafeFilling}
 use Rattle.tt_family.specs.GoodFamilies.{EndsWell, HasFewContexts, IsGoodFamily, IsShortEnough}
 use Rattle.tt_family.specs.Checks.{AreSound, IsBrokenBy, IsBrokenFirst, IsFilledBy, IsFillingBrokenFirst, IsFirstBreak, IsFirstBreakOnTheWay, IsGap, IsMet, IsSoundAt, IsOutOfMemory, Names, NamesAt, Nowhere, too_long, no_start, no_end, no_way}
 use Rattle.tt_family.specs.Representation.Cursors.{IsFoundSound, IsWalkedThrough, MayLeaveOut}
-use Rattle.tt_family.specs.declared.fault.ProgramFault.{ProgramFault}
-use Rattle.tt_family.specs.declared.fault.ProgramFault.TheVariants.{Refused, OutOfMemory}
+use Rattle.tt_abs.specs.declared.refusal.Refusal.{Refusal}
+use Rattle.tt_abs.specs.declared.refusal.Refusal.TheVariants.{Refused, OutOfMemory}
 use Rattle.tt_family.specs.declared.listing.Listing.TheVariants.{Whole, Sparse}
 use Rattle.tt_family.proofs.FillingLaws.{broken_way, ends_kept, ends_listed, filling_from_walk, gap_not_met, good_from_walk, some_or_none, sound_not_broken, start_listed}
 use Rattle.tt_family.proofs.Walking.{line_of}
@@ -32,11 +32,11 @@ start_gap : (family : Place → Option State) (t : State) (r : Reason) → IsGap
 start_gap family t r gap covered = gap_not_met family ⊥ ([], 0) t r gap (inl covered)
 
 module _ (s : Setting) (functions : List (ℕ × ℕ)) (v : Contents) (IsFirst : Place → Reason → Type 0) where
-  pub start_broken : IsShortEnough s s.kind → (fault : ProgramFault) → NamesAt ([], 0) (IsGap (family_of v) ⊥ ([], 0) (start_of functions)) fault → Names (IsBrokenBy s functions v IsFirst) fault
+  pub start_broken : IsShortEnough s s.kind → (fault : Refusal) → NamesAt ([], 0) (IsGap (family_of v) ⊥ ([], 0) (start_of functions)) fault → Names (IsBrokenBy s functions v IsFirst) fault
   start_broken short (Refused spot offset r) h = (([], 0), h.0, h.1, no_start r short h.2)
   start_broken short (OutOfMemory e) h = tt
 
-  pub way_broken : IsShortEnough s s.kind → CoversAt state_order (family_of v) ([], 0) (start_of functions) → EndsWell s s.kind (family_of v) → (fault : ProgramFault)
+  pub way_broken : IsShortEnough s s.kind → CoversAt state_order (family_of v) ([], 0) (start_of functions) → EndsWell s s.kind (family_of v) → (fault : Refusal)
       → Names IsFirst fault → Names (IsBrokenBy s functions v IsFirst) fault
   way_broken short start ends (Refused spot offset r) (q, e, f, h) = (q, e, f, no_way q r short start ends h)
   way_broken short start ends (OutOfMemory e) h = tt
@@ -50,12 +50,12 @@ module _ (s : Setting) (functions : List (ℕ × ℕ)) (v : Contents) (IsFirst :
     not_broken q r (no_end short' start' n) = n ends
     not_broken q r (no_way q' r' short' start' ends' h) = none q' r' h
 
-    only_memory : (fault : ProgramFault) → Names (IsBrokenBy s functions v IsFirst) fault → IsOutOfMemory fault
+    only_memory : (fault : Refusal) → Names (IsBrokenBy s functions v IsFirst) fault → IsOutOfMemory fault
     only_memory (Refused spot offset r) (q, e, f, h) = not_broken q r h
     only_memory (OutOfMemory e) h = tt
 
 -- what is broken for the one is broken for the other
-broken_map : (s : Setting) (functions : List (ℕ × ℕ)) (v : Contents) (A B : Place → Reason → Type 0) → ((q : Place) (r : Reason) → A q r → B q r) → (fault : ProgramFault)
+broken_map : (s : Setting) (functions : List (ℕ × ℕ)) (v : Contents) (A B : Place → Reason → Type 0) → ((q : Place) (r : Reason) → A q r → B q r) → (fault : Refusal)
     → Names (IsBrokenBy s functions v A) fault → Names (IsBrokenBy s functions v B) fault
 broken_map s functions v A B f (Refused spot offset r) (q, e, g, h) = (q, e, g, go q r h)
   where
@@ -116,13 +116,13 @@ module _ (s : Setting) (functions : List (ℕ × ℕ)) (v : Contents) (family : 
     before = λ p a less at. h.filled_by.sound p a less (h.filled_by.keeps p a at);
   }
 
-  pub broken_whole : (fault : ProgramFault) → Names (IsBrokenBy s functions v (IsFirstBreakOnTheWay s (MayLeaveOut Whole s) v)) fault → Names (IsBrokenFirst s functions v) fault
+  pub broken_whole : (fault : Refusal) → Names (IsBrokenBy s functions v (IsFirstBreakOnTheWay s (MayLeaveOut Whole s) v)) fault → Names (IsBrokenFirst s functions v) fault
   broken_whole = broken_map s functions v (IsFirstBreakOnTheWay s (MayLeaveOut Whole s) v) (IsFirstBreak s v) first_of_whole
 
   sound_here : IsGood state_order (flow_of s functions) (family_of v) → ((p : Place) (a : State) → family_of v p ≡ Some a → IsGoodFamily s functions (family_of v) → IsSoundAt s (family_of v) Nowhere p a)
   sound_here good p a at whole = record { stored = whole.storage p a at; safe = λ r x. good.safe p a r at x; closed = λ q t g. inl (good.closed p a q t at g) }
 
-  pub whole_memory : IsGoodFamily s functions (family_of v) → (fault : ProgramFault) → Names (IsBrokenFirst s functions v) fault → IsOutOfMemory fault
+  pub whole_memory : IsGoodFamily s functions (family_of v) → (fault : Refusal) → Names (IsBrokenFirst s functions v) fault → IsOutOfMemory fault
   whole_memory good =
       only_memory s functions v (IsFirstBreak s v) good.short good.good.start good.ends
       (λ q r h. sound_not_broken s (family_of v) Nowhere h.place h.state (sound_here good.good h.place h.state h.here good) q r h.breaks)
@@ -148,7 +148,7 @@ module _ (s : Setting) (functions : List (ℕ × ℕ)) (v : Contents) (family : 
     good_is_safe s range short functions ascends found.through.filled (filling_good found).good,
   )
 
-  pub filling_memory : HasGoodFilling s functions (family_of v) → (fault : ProgramFault) → Names (IsFillingBrokenFirst s functions v) fault → IsOutOfMemory fault
+  pub filling_memory : HasGoodFilling s functions (family_of v) → (fault : Refusal) → Names (IsFillingBrokenFirst s functions v) fault → IsOutOfMemory fault
   filling_memory (filling, is, good) =
       only_memory s functions v (IsFirstBreakOnTheWay s (Precedes s) v) good.short (start_listed s functions (family_of v) filling is (start_of functions) good.good.start)
       (ends_listed s (family_of v) filling is s.kind good.ends)

@@ -25,8 +25,8 @@ use Rattle.tt_family.specs.Puts.{number_at, place_of}
 use Rattle.tt_family.specs.Checks.{FitOffsetsBefore, BreaksAt, IsFilledBy, IsFirstBreakOnTheWay, IsSoundAt, Names, WasAdded, point_key_of}
 use Rattle.tt_family.specs.Representation.Cursors.{Entry, IsAtPoint, IsCarried, IsComingAfter, IsEntry, IsOnWay, IsPassed, IsRead, IsUnlisted, IsWalkedThrough, IsWalkedTo, MayLeaveOut, to_come}
 use Rattle.tt_family.specs.Fillings.{IsAfter}
-use Rattle.tt_family.specs.declared.fault.ProgramFault.{ProgramFault}
-use Rattle.tt_family.specs.declared.fault.ProgramFault.TheVariants.{Refused, OutOfMemory}
+use Rattle.tt_abs.specs.declared.refusal.Refusal.{Refusal}
+use Rattle.tt_abs.specs.declared.refusal.Refusal.TheVariants.{Refused, OutOfMemory}
 use Rattle.tt_family.specs.declared.listing.Listing.{Listing}
 use Rattle.tt_family.specs.declared.listing.Listing.TheVariants.{Whole, Sparse}
 use Rattle.tt_family.specs.declared.cursor.Cursor.{Cursor}
@@ -529,7 +529,7 @@ module _ (s : Setting) (listing : Listing) (v : Contents) (family : IsFamily v) 
     here_is = place_of v walk.context offset
 
     -- what is broken there is broken first
-    pub first_on_way : (fault : ProgramFault) → Names (BreaksAt s (family_of v) (MayLeaveOut listing s here_is) here_is walk.made) fault
+    pub first_on_way : (fault : Refusal) → Names (BreaksAt s (family_of v) (MayLeaveOut listing s here_is) here_is walk.made) fault
         → Names (IsFirstBreakOnTheWay s (MayLeaveOut listing s) v) fault
     first_on_way (Refused spot o r) (q, e, f, breaks) = (
       q,

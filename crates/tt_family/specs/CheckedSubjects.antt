@@ -7,7 +7,7 @@ use Rattle.tt_family.specs.Checks.{IsBrokenFirst, IsFillingBrokenFirst, Names}
 use Rattle.tt_family.specs.Contents.{Contents, family_of}
 use Rattle.tt_family.specs.Fillings.{HasGoodFilling, HasSafeFilling}
 use Rattle.tt_family.specs.GoodFamilies.{EndsWell, IsGoodFamily, IsShortEnough}
-use Rattle.tt_family.specs.declared.fault.ProgramFault.{ProgramFault}
+use Rattle.tt_abs.specs.declared.refusal.Refusal.{Refusal}
 
 -- the program, if it is a glyph program, has at most maxSizeOfInstructions bytes
 abbrev pub IsShortFor : Subject → Type 0
@@ -34,10 +34,10 @@ abbrev pub HasSafeFillingFor : Subject → Contents → Type 0
 HasSafeFillingFor x contents = HasSafeFilling (setting_of x) x.start.now (family_of contents)
 
 -- the fault names what is broken first of a whole family
-abbrev pub NamesBrokenFirst : Subject → Contents → ProgramFault → Type 0
+abbrev pub NamesBrokenFirst : Subject → Contents → Refusal → Type 0
 NamesBrokenFirst x contents = Names (IsBrokenFirst (setting_of x) x.start.now contents)
 
 -- the fault names what is broken first of a family that may leave states out
-abbrev pub NamesFillingBrokenFirst : Subject → Contents → ProgramFault → Type 0
+abbrev pub NamesFillingBrokenFirst : Subject → Contents → Refusal → Type 0
 NamesFillingBrokenFirst x contents =
     Names (IsFillingBrokenFirst (setting_of x) x.start.now contents)

@@ -14,9 +14,9 @@ use Rattle.tt_abs.specs.Transfers.{Next, outcome_on_cells}
 use Rattle.tt_family.specs.Contents.{Contents, family_of, number_of}
 use Rattle.tt_family.specs.GoodFamilies.{EndsWell, IsShortEnough, IsStoredWithin}
 use Rattle.tt_family.specs.Places.{IsLess, states_of}
-use Rattle.tt_family.specs.Spots.{spot_of}
-use Rattle.tt_family.specs.declared.fault.ProgramFault.{ProgramFault}
-use Rattle.tt_family.specs.declared.fault.ProgramFault.TheVariants.{Refused, OutOfMemory}
+use Rattle.tt_abs.specs.Spots.{spot_of}
+use Rattle.tt_abs.specs.declared.refusal.Refusal.{Refusal}
+use Rattle.tt_abs.specs.declared.refusal.Refusal.TheVariants.{Refused, OutOfMemory}
 
 -- a place as its context's number and its offset
 abbrev pub point_key_of : Contents → Place → ℕ × ℕ
@@ -43,17 +43,17 @@ IsGap family MayBeLeftOut q t NotCovered =
 IsGap family MayBeLeftOut q t _ = ⊥
 
 -- the fault names the place and such a reason, or it is out of memory, which names none
-abbrev pub NamesAt : Place → (Reason → Type 0) → ProgramFault → Type 0
+abbrev pub NamesAt : Place → (Reason → Type 0) → Refusal → Type 0
 NamesAt p Is (Refused spot offset reason) =
     (spot ≡ spot_of p.0) × (offset ≡ saturated_offset p.1) × Is reason
 NamesAt p Is (OutOfMemory e) = Unit {0}
 
 -- the fault names the place, at which the family doesn't cover the state, and says why
-abbrev pub NamesGap : (Place → Option State) → Type 0 → Place → State → ProgramFault → Type 0
+abbrev pub NamesGap : (Place → Option State) → Type 0 → Place → State → Refusal → Type 0
 NamesGap family MayBeLeftOut q t = NamesAt q (IsGap family MayBeLeftOut q t)
 
 -- the fault names such a place and reason, or it is out of memory, which names none
-abbrev pub Names : (Place → Reason → Type 0) → ProgramFault → Type 0
+abbrev pub Names : (Place → Reason → Type 0) → Refusal → Type 0
 Names Is (Refused spot offset reason) =
     (p : Place) × (spot ≡ spot_of p.0) × (offset ≡ saturated_offset p.1) × Is p reason
 Names Is (OutOfMemory e) = Unit {0}
@@ -208,6 +208,6 @@ IsFillingBrokenFirst s functions contents =
     IsBrokenBy s functions contents (IsFirstBreakOnTheWay s (Precedes s) contents)
 
 -- the fault is out of memory: a growth of memory was refused, or the budget is exceeded
-abbrev pub IsOutOfMemory : ProgramFault → Type 0
+abbrev pub IsOutOfMemory : Refusal → Type 0
 IsOutOfMemory (Refused spot offset reason) = ⊥
 IsOutOfMemory (OutOfMemory e) = Unit {0}

@@ -8,9 +8,9 @@ use Rattle.tt_abs.specs.StateFlow.{Place}
 use Rattle.tt_abs.specs.declared.moves.Move.{Move}
 use Rattle.tt_family.specs.Checks.{saturated_offset}
 use Rattle.tt_family.specs.Contents.{Contents, family_of, frames_at}
-use Rattle.tt_family.specs.Spots.{spot_of}
-use Rattle.tt_family.specs.declared.fault.ProgramFault.{ProgramFault}
-use Rattle.tt_family.specs.declared.fault.ProgramFault.TheVariants.{Refused}
+use Rattle.tt_abs.specs.Spots.{spot_of}
+use Rattle.tt_abs.specs.declared.refusal.Refusal.{Refusal}
+use Rattle.tt_abs.specs.declared.refusal.Refusal.TheVariants.{Refused}
 use Rattle.tt_family.specs.declared.landing.Landing.{Landing}
 use Rattle.tt_family.specs.declared.landing.Landing.TheVariants.{In, Body, Beyond}
 
@@ -44,7 +44,7 @@ IsLanding contexts from place (Beyond context) =
     × IsCalledLast (frames_at contexts from)
 
 -- the family has no state at the place, and the fault says so
-abbrev pub IsMissing : Contents → Place → ProgramFault → Type 0
+abbrev pub IsMissing : Contents → Place → Refusal → Type 0
 IsMissing contents place fault =
     (family_of contents place ≡ None)
     × (fault ≡ Refused (spot_of place.0) (saturated_offset place.1) MissingPoint)

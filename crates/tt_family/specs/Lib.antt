@@ -7,7 +7,6 @@ pub mod Puts
 pub mod Joins
 pub mod Ascending
 pub mod GoodFamilies
-pub mod Spots
 pub mod Fillings
 pub mod Checks
 pub mod Budgets

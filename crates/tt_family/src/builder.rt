@@ -15,17 +15,16 @@ ghost use Rattle.tt_family.specs.Representation.FileOrder.{IsFileOrder, children
 ghost use Rattle.tt_family.specs.Ascending.{IsFinished, IsContextAt};
 ghost use Rattle.tt_family.specs.Ends.{AreDefinedAtEnd, AreKnownAtEnd};
 ghost use Rattle.tt_family.specs.Contents.{AddsChild, HasChild, IsChild, IsFamily, family_of, frames_at, points_of, state_at};
-ghost use Rattle.tt_family.specs.Spots.{spot_of};
+ghost use Rattle.tt_abs.specs.Spots.{spot_of};
 
 use crate::fault::{ContextFault, JoinFault};
 use crate::joined::Joined;
-use crate::spot::Spot;
 use crate::state_store::StateStore;
 use crate::states::States;
 use std::alloc::{AllocError, Global};
 use std::collections::BTreeMap;
 use std::marker::Model;
-use tt_abs::State;
+use tt_abs::{Spot, State};
 use tt_code::Frame;
 
 /// How many contexts are kept at most, including the empty one.

@@ -10,14 +10,13 @@ ghost use Rattle.tt_family.specs.Puts.{family_state};
 ghost use Rattle.tt_family.specs.Ends.{AreDefinedAtEnd, AreKnownAtEnd};
 ghost use Rattle.tt_family.specs.Contents.{HasChild, IsChild, IsFamily, family_of, frames_at, points_of, state_at};
 ghost use Rattle.tt_family.specs.Ascending.{IsFinished, IsContextAt};
-ghost use Rattle.tt_family.specs.Spots.{spot_of};
+ghost use Rattle.tt_abs.specs.Spots.{spot_of};
 
 use crate::builder::Builder;
-use crate::spot::Spot;
 use crate::states::States;
 use std::alloc::{AllocError, Global};
 use std::marker::Model;
-use tt_abs::State;
+use tt_abs::{Spot, State};
 use tt_code::Frame;
 
 /// A family of states whose contexts have their numbers in order: the empty one is number 0, and

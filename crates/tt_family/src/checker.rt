@@ -20,13 +20,11 @@ use crate::budget::Budget;
 use crate::builder::Builder;
 use crate::certificate::Certificate;
 use crate::cursor::Cursor;
-use crate::fault::ProgramFault;
 use crate::listing::{Listing, added_after};
 use crate::meeting::{Coverage, check_covered, check_successors, fault_in};
-use crate::spot::Spot;
 use crate::states::States;
 use std::alloc::Global;
-use tt_abs::{Kind, Point, Refusal, Setting, step_at};
+use tt_abs::{Kind, Point, Refusal, Setting, Spot, StepFault, step_at};
 use tt_code::Reason;
 
 /// Whether the indexes of these storage cells are below the limit.
@@ -67,7 +65,7 @@ pub fn ends_well(setting: &Setting<'_>, builder: &Builder) -> bool
 
 /// Checks that the state with which the walk begins is covered at the program's start, and notes in
 /// the walk whether the first listed state is this one, as it mostly is: then nothing is copied.
-fn check_start(certificate: &Certificate, walk: &mut Cursor<'_>) -> Result<(), ProgramFault>
+fn check_start(certificate: &Certificate, walk: &mut Cursor<'_>) -> Result<(), Refusal>
     requires walk { IsWalk certificate.now walk.old }
     requires not_next { IsFalse walk.old.is_next }
     ensures covered { IfOk result (λ _.
@@ -112,7 +110,7 @@ fn check_point(
     walk: &mut Cursor<'_>,
     offset: u32,
     budget: &mut Budget,
-) -> Result<(), ProgramFault>
+) -> Result<(), Refusal>
     requires walk { IsWalk certificate.now walk.old }
     requires fit { FitOffsetsBefore certificate.now walk.old.context }
     requires in_range { state_order.InRange walk.old.made }
@@ -143,10 +141,10 @@ fn check_point(
     }
     let step = match step_at(setting, &point, &mut walk.made) {
         Ok(step) => step,
-        Err(Refusal::Refused(reason)) => {
+        Err(StepFault::Refused(reason)) => {
             return Err(fault_in(certificate, walk.context, offset, reason));
         }
-        Err(Refusal::OutOfMemory(error)) => return Err(ProgramFault::OutOfMemory(error)),
+        Err(StepFault::OutOfMemory(error)) => return Err(Refusal::OutOfMemory(error)),
     };
     let after = left_out_after(setting, listing, &point, step.end);
     match check_successors(certificate, walk, step.moves, after) {
@@ -167,7 +165,7 @@ fn check_points<'a>(
     walk: &mut Cursor<'a>,
     mut states: States<'a>,
     budget: &mut Budget,
-) -> Result<(), ProgramFault>
+) -> Result<(), Refusal>
     requires walk { IsWalk certificate.now walk.old }
     requires to_come { AreToCome certificate.now walk.old.next states }
     requires all { certificate.now.states ≡ to_come walk.old.next states }
@@ -199,7 +197,7 @@ fn check_listed(
     listing: Listing,
     certificate: &Certificate,
     budget: &mut Budget,
-) -> Result<(), ProgramFault>
+) -> Result<(), Refusal>
     requires ascends { Ascends setting.now.start.now }
     ensures sound { IfOk result (λ _. IsFoundSoundFor setting.now listing certificate.now) }
     ensures first { IfErr result (NamesFirstFor setting.now listing certificate.now) }
@@ -209,7 +207,7 @@ fn check_listed(
 {
     certificate.order_facts();
     if !is_short(setting) {
-        return Err(ProgramFault::Refused {
+        return Err(Refusal::Refused {
             spot: Spot::Main,
             offset: u32::from(setting.limits.program_size),
             reason: Reason::ProgramTooLong,
@@ -221,7 +219,7 @@ fn check_listed(
         return Err(fault);
     }
     if !ends_well(setting, certificate.builder()) {
-        return Err(ProgramFault::Refused {
+        return Err(Refusal::Refused {
             spot: Spot::Main,
             offset: setting.main.len(),
             reason: Reason::MissingPoint,
@@ -245,7 +243,7 @@ pub fn check_full(
     alloc: Global,
     setting: &Setting<'_>,
     certificate: &Certificate,
-) -> Result<(), ProgramFault>
+) -> Result<(), Refusal>
     requires ascends { Ascends setting.now.start.now }
     ensures family { IfOk result (λ _. IsGoodFor setting.now certificate.now) }
     ensures safe { IfOk result (λ _. IsSafeFor setting.now certificate.now) }
@@ -265,7 +263,7 @@ pub fn check_full_within(
     setting: &Setting<'_>,
     certificate: &Certificate,
     budget: &mut Budget,
-) -> Result<(), ProgramFault>
+) -> Result<(), Refusal>
     requires ascends { Ascends setting.now.start.now }
     ensures family { IfOk result (λ _. IsGoodFor setting.now certificate.now) }
     ensures safe { IfOk result (λ _. IsSafeFor setting.now certificate.now) }
@@ -288,11 +286,7 @@ pub fn check_full_within(
 ///
 /// # Errors
 /// `Refused` with what is broken first; `OutOfMemory`.
-pub fn check(
-    alloc: Global,
-    setting: &Setting<'_>,
-    certificate: &Certificate,
-) -> Result<(), ProgramFault>
+pub fn check(alloc: Global, setting: &Setting<'_>, certificate: &Certificate) -> Result<(), Refusal>
     requires ascends { Ascends setting.now.start.now }
     ensures filling { IfOk result (λ _. HasGoodFillingFor setting.now certificate.now) }
     ensures safe { IfOk result (λ _. HasSafeFillingFor setting.now certificate.now) }
@@ -312,7 +306,7 @@ pub fn check_within(
     setting: &Setting<'_>,
     certificate: &Certificate,
     budget: &mut Budget,
-) -> Result<(), ProgramFault>
+) -> Result<(), Refusal>
     requires ascends { Ascends setting.now.start.now }
     ensures filling { IfOk result (λ _. HasGoodFillingFor setting.now certificate.now) }
     ensures safe { IfOk result (λ _. HasSafeFillingFor setting.now certificate.now) }

@@ -7,11 +7,9 @@ ghost use Rattle.tt_family.specs.Landings.{IsLanding, IsMissing, IsPointOf, IsTu
 
 use crate::builder::Builder;
 use crate::certificate::Certificate;
-use crate::fault::ProgramFault;
 use crate::slot_index::PointKey;
-use crate::spot::Spot;
-use tt_abs::Move;
 use tt_abs::setting::body_offset;
+use tt_abs::{Move, Refusal, Spot};
 use tt_code::{Frame, Reason};
 
 /// The landing of a way: the context and the offset to which it leads from a context.
@@ -70,10 +68,10 @@ pub fn landing_of(builder: &Builder, context: u32, way: Move) -> Landing
 }
 
 /// Returns the fault that names a place where the certificate has no state.
-fn missing(spot: Spot, offset: u32) -> ProgramFault
-    ensures { result ≡ ProgramFault.Refused spot offset Reason.MissingPoint }
+fn missing(spot: Spot, offset: u32) -> Refusal
+    ensures { result ≡ Refusal.Refused spot offset Reason.MissingPoint }
 {
-    ProgramFault::Refused {
+    Refusal::Refused {
         spot,
         offset,
         reason: Reason::MissingPoint,
@@ -89,7 +87,7 @@ pub(crate) fn look_up_successor(
     certificate: &Certificate,
     context: u32,
     way: Move,
-) -> Result<PointKey, ProgramFault>
+) -> Result<PointKey, Refusal>
     requires there { context < length certificate.now.contexts }
     requires fit { FitOffsetsBefore certificate.now context }
     requires turn { way ≡ Move.NextTurn → HasNextTurn (frames_at certificate.now.contexts context) }

@@ -15,7 +15,6 @@ mod listing;
 mod meeting;
 mod offset_list;
 mod slot_index;
-pub mod spot;
 mod state_store;
 pub mod states;
 
@@ -25,10 +24,10 @@ pub use certificate::Certificate;
 pub use checker::{
     check, check_full, check_full_within, check_within, ends_well, is_short, one_good_filling,
 };
-pub use fault::{ContextFault, JoinFault, ProgramFault, ProgramFault as CheckFault};
+pub use fault::{ContextFault, JoinFault};
 pub use joined::Joined;
 pub use landing::{Landing, landing_of};
 pub use listing::added_after;
 pub use slot_index::PointKey;
-pub use spot::Spot;
 pub use states::States;
+pub use tt_abs::{Refusal, Refusal as CheckFault, Spot};

@@ -4,14 +4,13 @@ ghost use Rattle.std.specs.Prelude.{◌≡◌, ◌<◌, IfErr, IfOk, IsTrue, Som
 ghost use Rattle.tt_family.specs.Checks.{FitOffsetsBefore, HasNextTurn, NamesGap, saturated_offset};
 ghost use Rattle.tt_family.specs.Contents.{family_of, frames_at};
 ghost use Rattle.tt_family.specs.Puts.{place_of};
-ghost use Rattle.tt_family.specs.Spots.{spot_of};
+ghost use Rattle.tt_abs.specs.Spots.{spot_of};
 ghost use Rattle.tt_family.specs.Representation.Cursors.{AreMadeMet, IsEntry, IsMadeMet, IsMetBy, IsPastStart, IsUnlisted, IsUnlistedAfter, IsWalk, MayTurn, NamesFirstGapMade, NamesGapMade, calls_of, coverage_of_both, place_of_way as place_of_move, point_of};
 
 use crate::certificate::Certificate;
 use crate::cursor::{Cursor, is_coming, is_coming_after};
-use crate::fault::ProgramFault;
 use crate::landing::look_up_successor;
-use tt_abs::{Move, Moves, Order, State};
+use tt_abs::{Move, Moves, Order, Refusal, State};
 use tt_code::Reason;
 
 /// How a state is covered at a place to which it goes, or added there.
@@ -44,12 +43,12 @@ pub(crate) fn fault_in(
     context: u32,
     offset: u32,
     reason: Reason,
-) -> ProgramFault
+) -> Refusal
     requires { context < length certificate.now.contexts }
-    ensures { result ≡ ProgramFault.Refused (spot_of (frames_at certificate.now.contexts context))
+    ensures { result ≡ Refusal.Refused (spot_of (frames_at certificate.now.contexts context))
         (saturated_offset offset) reason }
 {
-    ProgramFault::Refused {
+    Refusal::Refused {
         spot: certificate.spot(context),
         offset,
         reason,
@@ -70,7 +69,7 @@ pub(crate) fn check_covered(
     offset: u32,
     state: &State,
     may_be_left_out: bool,
-) -> Result<Coverage, ProgramFault>
+) -> Result<Coverage, Refusal>
     requires there { context < length certificate.now.contexts }
     requires next { IsEntry certificate.now next }
     requires unlisted { IsTrue may_be_left_out → IsUnlisted certificate.now next context offset }
@@ -114,7 +113,7 @@ fn check_offset(
     walk: &Cursor<'_>,
     offset: u32,
     after: Option<u32>,
-) -> Result<Coverage, ProgramFault>
+) -> Result<Coverage, Refusal>
     requires walk { IsWalk certificate.now walk.now }
     requires unlisted { IsUnlistedAfter certificate.now walk.now after }
     ensures met { IfOk result (IsMetBy (family_of certificate.now) (after ≡ Some offset)
@@ -143,7 +142,7 @@ fn check_successor(
     walk: &Cursor<'_>,
     way: Move,
     after: Option<u32>,
-) -> Result<Coverage, ProgramFault>
+) -> Result<Coverage, Refusal>
     requires walk { IsWalk certificate.now walk.now }
     requires fit { FitOffsetsBefore certificate.now walk.now.context }
     requires turn { way ≡ Move.NextTurn → HasNextTurn (calls_of certificate.now walk.now) }
@@ -176,7 +175,7 @@ pub(crate) fn check_successors(
     walk: &Cursor<'_>,
     moves: Moves,
     after: Option<u32>,
-) -> Result<Coverage, ProgramFault>
+) -> Result<Coverage, Refusal>
     requires walk { IsWalk certificate.now walk.now }
     requires fit { FitOffsetsBefore certificate.now walk.now.context }
     requires turn { MayTurn (calls_of certificate.now walk.now) moves }

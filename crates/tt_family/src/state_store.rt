@@ -58,7 +58,7 @@ fn write_slot(slots: &mut Vec<State>, number: usize, state: &State) -> Result<()
         let slot = &mut slots[number];
         return slot.copy_from(state);
     }
-    let copy = state.copied()?;
+    let copy = state.copy()?;
     slots.push(copy)?;
     Ok(())
 }

@@ -23,8 +23,8 @@ use Rattle.tt_family.specs.Numbers.{at-number_of}
 use Rattle.tt_family.specs.Places.{has_point}
 use Rattle.tt_family.specs.Ascending.{family_without}
 use Rattle.tt_family.proofs.FillingLaws.{ends_kept, ends_listed, some_or_none}
-use Rattle.tt_family.specs.declared.fault.ProgramFault.{ProgramFault}
-use Rattle.tt_family.specs.declared.fault.ProgramFault.TheVariants.{Refused, OutOfMemory}
+use Rattle.tt_abs.specs.declared.refusal.Refusal.{Refusal}
+use Rattle.tt_abs.specs.declared.refusal.Refusal.TheVariants.{Refused, OutOfMemory}
 use Rattle.tt_find.specs.declared.solver.Solver.{Solver}
 use Rattle.tt_find.specs.Found.{AreDerivedContexts, AreLeastContexts, HasLeastFilling, KeepsBodies, IsDerived, IsJustified, IsLeast, IsNeverEnding, LacksEnd, NamesPlace, NeedsAll, NoneIsGood, too_long, refused, apart, too_many, never_ends}
 use Rattle.tt_find.specs.Representation.Solvers.{HasLaws, IsAmong, IsListed, IsWhole, MayLead}
@@ -277,7 +277,7 @@ module _ (s : Setting) (functions : List (ℕ × ℕ)) (laws : HasLaws s functio
   none_or_endless p r (too_many q h) = inr (λ family short good few. none_where_many h.contexts h.derived h.many family good few)
   none_or_endless p r (never_ends family h) = inl refl
 
-  pub none_good_from : (fault : ProgramFault) → NamesPlace (IsJustified s functions) fault → IsOutOfMemory fault ⊎ IsNeverEnding fault ⊎ NoneIsGood s functions
+  pub none_good_from : (fault : Refusal) → NamesPlace (IsJustified s functions) fault → IsOutOfMemory fault ⊎ IsNeverEnding fault ⊎ NoneIsGood s functions
   none_good_from (Refused spot offset r) (p, e, f, h) = elim (none_or_endless p r h) [ inl ends ↦ inr (inl ends) | inr none ↦ inr (inr none) ]
   none_good_from (OutOfMemory e) h = inl tt
 
@@ -287,7 +287,7 @@ module _ (s : Setting) (functions : List (ℕ × ℕ)) (laws : HasLaws s functio
   lacks_short CvtProgram family endless = tt
   lacks_short (GlyphProgram points contours) family endless = absurd (endless tt)
 
-  pub never_ends_from : (family : Place → Option State) → LacksEnd s functions family → (fault : ProgramFault) → NamesPlace (IsJustified s functions) fault → IsOutOfMemory fault ⊎ IsNeverEnding fault
+  pub never_ends_from : (family : Place → Option State) → LacksEnd s functions family → (fault : Refusal) → NamesPlace (IsJustified s functions) fault → IsOutOfMemory fault ⊎ IsNeverEnding fault
   never_ends_from family lacks fault h = elim (none_good_from fault h) [
     | inl memory ↦ inl memory
     | inr (inl ends) ↦ inr ends

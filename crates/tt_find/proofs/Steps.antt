@@ -21,11 +21,11 @@ use Rattle.tt_family.specs.Contents.{AddsContext, Contents, HasContext, IsFamily
 use Rattle.tt_family.specs.Numbers.{at-number_of, number_of-place}
 use Rattle.tt_family.specs.Places.{PutGives, PutsAt, has_point, states_of}
 use Rattle.tt_family.specs.Puts.{family_at, number_at, place_of}
-use Rattle.tt_family.specs.Spots.{spot_of}
-use Rattle.tt_family.specs.declared.spot.Spot.{Spot}
+use Rattle.tt_abs.specs.Spots.{spot_of}
+use Rattle.tt_abs.specs.declared.spot.Spot.{Spot}
 use Rattle.tt_family.proofs.Puts.{cases_place}
-use Rattle.tt_family.specs.declared.fault.ProgramFault.{ProgramFault}
-use Rattle.tt_family.specs.declared.fault.ProgramFault.TheVariants.{Refused, OutOfMemory}
+use Rattle.tt_abs.specs.declared.refusal.Refusal.{Refusal}
+use Rattle.tt_abs.specs.declared.refusal.Refusal.TheVariants.{Refused, OutOfMemory}
 use Rattle.tt_find.specs.Representation.OffsetMarks.{SetsMark, mark_of}
 use Rattle.tt_find.specs.declared.marks.Mark.TheVariants.{Kept, Passed}
 use Rattle.tt_find.specs.declared.marks.OffsetMarks.{OffsetMarks}
@@ -44,7 +44,7 @@ use Rattle.tt_find.proofs.Visits.{more_elsewhere, more_here, more_ascends, one_m
 use Rattle.tt_find.proofs.Waits.{point_behind, point_here}
 use Rattle.tt_find.proofs.Ways.{end_gives, end_safe, ways_give, ways_safe}
 
-pub names_map : (A B : Place → Reason → Type 0) → ((p : Place) (r : Reason) → A p r → B p r) → (fault : ProgramFault) → NamesPlace A fault → NamesPlace B fault
+pub names_map : (A B : Place → Reason → Type 0) → ((p : Place) (r : Reason) → A p r → B p r) → (fault : Refusal) → NamesPlace A fault → NamesPlace B fault
 names_map A B turn (Refused spot offset r) (p, e, f, h) = (p, e, f, turn p r h)
 names_map A B turn (OutOfMemory e) h = tt
 
@@ -54,8 +54,8 @@ stop_map A B everywhere everywhere' same turn (Fault fault) h = names_map A B tu
 stop_map A B everywhere everywhere' same turn Restart h = sym same ∙ h
 
 -- a fault that is at a place
-pub names_at : (Is : Place → Reason → Type 0) (p : Place) (r : Reason) (fault : ProgramFault) → fault ≡ Refused (spot_of p.0) p.1 r → Is p r → NamesPlace Is fault
-names_at Is p r fault e h = let N : ProgramFault → Type 0 = λ x. NamesPlace Is x in subst N (sym e) (p, refl, refl, h)
+pub names_at : (Is : Place → Reason → Type 0) (p : Place) (r : Reason) (fault : Refusal) → fault ≡ Refused (spot_of p.0) p.1 r → Is p r → NamesPlace Is fault
+names_at Is p r fault e h = let N : Refusal → Type 0 = λ x. NamesPlace Is x in subst N (sym e) (p, refl, refl, h)
 
 -- a state that is put makes at most one update
 pub stored_updates : (old new : Solver) (context offset : ℕ) (a : State) (source : Origin) → IsStored old new context offset a source → updates_of new ≤ updates_of old + 1
@@ -619,7 +619,7 @@ module _ (s : Setting) (functions : List (ℕ × ℕ)) (laws : HasLaws s functio
   -- What justifies refusals.
 
   -- a derived state that is refused
-  pub refused_left : (p : Place) (a : State) → IsDerived s functions p a → (fault : ProgramFault) → NamesPlace (IsRefusedAt s p a) fault → NamesPlace (IsJustified s functions) fault
+  pub refused_left : (p : Place) (a : State) → IsDerived s functions p a → (fault : Refusal) → NamesPlace (IsRefusedAt s p a) fault → NamesPlace (IsJustified s functions) fault
   refused_left p a derived fault h =
       names_map (IsRefusedAt s p a) (IsJustified s functions) (λ q r x.
       let J : Place → Type 0 = λ y. IsJustified s functions y r in

@@ -17,9 +17,9 @@ use Rattle.tt_family.specs.Checks.{IsFillingBrokenFirst}
 use Rattle.tt_family.specs.Contents.{Contents, HasContext, family_of, frames_at}
 use Rattle.tt_family.specs.Fillings.{HasGoodFilling, IsFilling}
 use Rattle.tt_family.specs.GoodFamilies.{EndsWell, HasFewContexts, IsGoodFamily, IsShortEnough}
-use Rattle.tt_family.specs.Spots.{spot_of}
-use Rattle.tt_family.specs.declared.fault.ProgramFault.{ProgramFault}
-use Rattle.tt_family.specs.declared.fault.ProgramFault.TheVariants.{Refused, OutOfMemory}
+use Rattle.tt_abs.specs.Spots.{spot_of}
+use Rattle.tt_abs.specs.declared.refusal.Refusal.{Refusal}
+use Rattle.tt_abs.specs.declared.refusal.Refusal.TheVariants.{Refused, OutOfMemory}
 use Rattle.tt_find.specs.declared.stop.Stop.{Stop}
 use Rattle.tt_find.specs.declared.stop.Stop.TheVariants.{Fault, Restart}
 
@@ -171,7 +171,7 @@ pub data IsJustified (s : Setting) (functions : List (ℕ × ℕ)) : Place → R
       → IsJustified s functions ([], 0) NeverEnds
 
 -- the fault names such a place, and the reason; out of memory is unspecified
-abbrev pub NamesPlace : (Place → Reason → Type 0) → ProgramFault → Type 0
+abbrev pub NamesPlace : (Place → Reason → Type 0) → Refusal → Type 0
 NamesPlace Is (Refused spot offset reason) =
     (p : Place) × (spot ≡ spot_of p.0) × (offset ≡ p.1) × Is p reason
 NamesPlace Is (OutOfMemory e) = Unit {0}
@@ -183,6 +183,6 @@ NamesStop Is everywhere (Fault fault) = NamesPlace Is fault
 NamesStop Is everywhere Restart = everywhere ≡ false
 
 -- the fault is that the end isn't reached
-abbrev pub IsNeverEnding : ProgramFault → Type 0
+abbrev pub IsNeverEnding : Refusal → Type 0
 IsNeverEnding (Refused spot offset reason) = reason ≡ NeverEnds
 IsNeverEnding (OutOfMemory e) = ⊥

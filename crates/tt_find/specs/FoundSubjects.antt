@@ -9,7 +9,7 @@ use Rattle.tt_family.specs.Budgets.{counted_from}
 use Rattle.tt_family.specs.Checks.{IsOutOfMemory}
 use Rattle.tt_family.specs.declared.budget.Budget.{Budget}
 use Rattle.tt_family.specs.Contents.{family_of}
-use Rattle.tt_family.specs.declared.fault.ProgramFault.{ProgramFault}
+use Rattle.tt_abs.specs.declared.refusal.Refusal.{Refusal}
 use Rattle.tt_find.specs.Found.{AreLeastContexts, HasLeastFilling, IsJustified, IsNeverEnding, LacksEnd, NamesPlace, NeedsAll, NoneIsGood}
 use Rattle.tt_find.specs.declared.finder.Found.{Found}
 
@@ -31,16 +31,16 @@ abbrev pub HasOnlyNeeded : Subject → Found → Type 0
 HasOnlyNeeded x found = NeedsAll (setting_of x) x.start.now (family_of found.certificate)
 
 -- the fault names a place and a reason that are right, unless memory ran out
-abbrev pub IsJustifiedFor : Subject → ProgramFault → Type 0
+abbrev pub IsJustifiedFor : Subject → Refusal → Type 0
 IsJustifiedFor x = NamesPlace (IsJustified (setting_of x) x.start.now)
 
 -- no family is good (`NoneIsGood`), unless memory ran out, or the end alone isn't reached
-abbrev pub TellsNoneIsGood : Subject → ProgramFault → Type 0
+abbrev pub TellsNoneIsGood : Subject → Refusal → Type 0
 TellsNoneIsGood x fault =
     IsOutOfMemory fault ⊎ IsNeverEnding fault ⊎ NoneIsGood (setting_of x) x.start.now
 
 -- where the least family is good except for the end, the answer says so, unless memory ran out
-abbrev pub TellsNoEnd : Subject → Result Found ProgramFault → Type 0
+abbrev pub TellsNoEnd : Subject → Result Found Refusal → Type 0
 TellsNoEnd x answer =
     (family : Place → Option State) → LacksEnd (setting_of x) x.start.now family
     → IfOk answer (λ _. ⊥) × IfErr answer (λ fault. IsOutOfMemory fault ⊎ IsNeverEnding fault)

@@ -14,9 +14,9 @@ use crate::stop::Stop;
 use crate::successor::resolve_successor;
 use crate::walk::Walk;
 use std::alloc::AllocError;
-use tt_abs::{Moves, Point, Refusal, Setting, Stepped, step_at};
+use tt_abs::{Moves, Point, Refusal, Setting, StepFault, Stepped, step_at};
 use tt_code::Reason;
-use tt_family::{Budget, Builder, ContextFault, ProgramFault, added_after};
+use tt_family::{Budget, Builder, ContextFault, added_after};
 
 /// Returns where the state at an offset of the walk's context leads; the walk then holds what it
 /// leads there. None at the main program's end.
@@ -28,7 +28,7 @@ fn step_state(
     walk: &mut Walk,
     setting: &Setting<'_>,
     offset: u32,
-) -> Result<Option<Stepped>, ProgramFault>
+) -> Result<Option<Stepped>, Refusal>
     requires walk { IsWalk builder.now walk.old }
     requires in_range { state_order.InRange walk.old.state }
     ensures stepped { IfOk result (IsSteppedAt setting.now builder.now walk.old walk.new offset) }
@@ -46,8 +46,8 @@ fn step_state(
     walk.known = None;
     match step_at(setting, &point, &mut walk.state) {
         Ok(step) => Ok(Some(step)),
-        Err(Refusal::Refused(reason)) => Err(refused_at(builder, walk.context, offset, reason)),
-        Err(Refusal::OutOfMemory(error)) => Err(ProgramFault::OutOfMemory(error)),
+        Err(StepFault::Refused(reason)) => Err(refused_at(builder, walk.context, offset, reason)),
+        Err(StepFault::OutOfMemory(error)) => Err(Refusal::OutOfMemory(error)),
     }
 }
 
@@ -94,7 +94,7 @@ pub(crate) fn store(
         Err(fault) => return Err(Stop::Fault(fault)),
     };
     if let Err(error) = solver.note(context, offset, source, joined) {
-        return Err(Stop::Fault(ProgramFault::OutOfMemory(error)));
+        return Err(Stop::Fault(Refusal::OutOfMemory(error)));
     }
     Ok(())
 }
@@ -136,7 +136,7 @@ fn step_over(
     let context = walk.context;
     if solver.may_pass(context, walk.spot, next) {
         if let Err(error) = solver.pass(walk.spot, next) {
-            return Err(Stop::Fault(ProgramFault::OutOfMemory(error)));
+            return Err(Stop::Fault(Refusal::OutOfMemory(error)));
         }
         return Ok(Some(next));
     }
@@ -147,7 +147,7 @@ fn step_over(
 }
 
 /// Returns the fault that a context can't be entered from an offset of another one.
-fn not_entered(builder: &Builder, context: u32, offset: u32, fault: ContextFault) -> ProgramFault
+fn not_entered(builder: &Builder, context: u32, offset: u32, fault: ContextFault) -> Refusal
     requires { context < length builder.now.contexts }
     ensures full { fault ≡ ContextFault.TooManyContexts
         → result ≡ refused_in builder.now context offset Reason.TooManyContexts }
@@ -157,7 +157,7 @@ fn not_entered(builder: &Builder, context: u32, offset: u32, fault: ContextFault
         ContextFault::TooManyContexts => {
             refused_at(builder, context, offset, Reason::TooManyContexts)
         }
-        ContextFault::OutOfMemory => ProgramFault::OutOfMemory(AllocError),
+        ContextFault::OutOfMemory => Refusal::OutOfMemory(AllocError),
     }
 }
 

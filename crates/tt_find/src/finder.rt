@@ -18,10 +18,10 @@ use crate::stop::Stop;
 use crate::walk::Walk;
 use std::alloc::{AllocError, Global};
 use std::mem;
-use tt_abs::Setting;
 use tt_abs::laws::flow_laws;
+use tt_abs::{Refusal, Setting, Spot};
 use tt_code::Reason;
-use tt_family::{Budget, Builder, Certificate, ProgramFault, Spot, ends_well, is_short};
+use tt_family::{Budget, Builder, Certificate, ends_well, is_short};
 
 /// How often the finder starts with the marks that it has found. After that it keeps states
 /// everywhere.
@@ -43,7 +43,7 @@ pub struct Explored {
     /// found when it came to the fault, and no count of updates.
     pub found: Found,
     /// Why the program is refused, if it is.
-    pub fault: Option<ProgramFault>,
+    pub fault: Option<Refusal>,
 }
 
 /// At which points the solver keeps the states that come there.
@@ -108,7 +108,7 @@ fn fill_everywhere(
     solver: &mut Solver,
     setting: &Setting<'_>,
     budget: &mut Budget,
-) -> Result<(), ProgramFault>
+) -> Result<(), Refusal>
     requires ascends { Ascends setting.now.start.now }
     requires laws { HasLawsFor setting.now }
     ensures whole { IfOk result (λ _. IsWholeFor setting.now solver.new) }
@@ -137,7 +137,7 @@ fn restart_to_fixpoint(
     solver: &mut Solver,
     setting: &Setting<'_>,
     budget: &mut Budget,
-) -> Result<(), ProgramFault>
+) -> Result<(), Refusal>
     requires ascends { Ascends setting.now.start.now }
     requires laws { HasLawsFor setting.now }
     ensures whole { IfOk result (λ _. IsWholeFor setting.now solver.new) }
@@ -169,7 +169,7 @@ fn fill(
     setting: &Setting<'_>,
     kept: KeptStates,
     budget: &mut Budget,
-) -> Result<(), ProgramFault>
+) -> Result<(), Refusal>
     requires ascends { Ascends setting.now.start.now }
     requires laws { HasLawsFor setting.now }
     ensures whole { IfOk result (λ _. IsWholeFor setting.now solver.new) }
@@ -186,10 +186,10 @@ fn fill(
 }
 
 /// Returns the fault at a place of the main program.
-fn refused_in_main(offset: u32, reason: Reason) -> ProgramFault
-    ensures { result ≡ ProgramFault.Refused Spot.Main offset reason }
+fn refused_in_main(offset: u32, reason: Reason) -> Refusal
+    ensures { result ≡ Refusal.Refused Spot.Main offset reason }
 {
-    ProgramFault::Refused {
+    Refusal::Refused {
         spot: Spot::Main,
         offset,
         reason,
@@ -206,7 +206,7 @@ fn find_fixpoint(
     setting: &Setting<'_>,
     kept: KeptStates,
     budget: &mut Budget,
-) -> Result<u64, ProgramFault>
+) -> Result<u64, Refusal>
     requires ascends { Ascends setting.now.start.now }
     requires fits { FunctionsFit (setting_of setting.now) setting.now.start.now }
     ensures laws { HasLawsFor setting.now }
@@ -228,7 +228,7 @@ fn find_fixpoint(
     }
     match solver.changes.checked_add(solver.passes) {
         Some(updates) => Ok(updates),
-        None => Err(ProgramFault::OutOfMemory(AllocError)),
+        None => Err(Refusal::OutOfMemory(AllocError)),
     }
 }
 
@@ -275,7 +275,7 @@ impl Finder {
     ///
     /// # Errors
     /// As `find`.
-    pub fn find(&mut self, alloc: Global, setting: &Setting<'_>) -> Result<Found, ProgramFault>
+    pub fn find(&mut self, alloc: Global, setting: &Setting<'_>) -> Result<Found, Refusal>
         requires ascends { Ascends setting.now.start.now }
         requires fits { FunctionsFit (setting_of setting.now) setting.now.start.now }
         ensures filling { IfOk result (IsLeastFor setting.now) }
@@ -297,7 +297,7 @@ impl Finder {
         alloc: Global,
         setting: &Setting<'_>,
         budget: &mut Budget,
-    ) -> Result<Found, ProgramFault>
+    ) -> Result<Found, Refusal>
         requires ascends { Ascends setting.now.start.now }
         requires fits { FunctionsFit (setting_of setting.now) setting.now.start.now }
         ensures filling { IfOk result (IsLeastFor setting.now) }
@@ -324,7 +324,7 @@ impl Finder {
                     updates,
                 })
             }
-            Err(_) => Err(ProgramFault::OutOfMemory(AllocError)),
+            Err(_) => Err(Refusal::OutOfMemory(AllocError)),
         }
     }
 
@@ -333,11 +333,7 @@ impl Finder {
     ///
     /// # Errors
     /// As `find`.
-    pub fn find_needed(
-        &mut self,
-        alloc: Global,
-        setting: &Setting<'_>,
-    ) -> Result<Found, ProgramFault>
+    pub fn find_needed(&mut self, alloc: Global, setting: &Setting<'_>) -> Result<Found, Refusal>
         requires ascends { Ascends setting.now.start.now }
         requires fits { FunctionsFit (setting_of setting.now) setting.now.start.now }
         ensures filling { IfOk result (IsLeastFor setting.now) }
@@ -360,7 +356,7 @@ impl Finder {
         alloc: Global,
         setting: &Setting<'_>,
         budget: &mut Budget,
-    ) -> Result<Found, ProgramFault>
+    ) -> Result<Found, Refusal>
         requires ascends { Ascends setting.now.start.now }
         requires fits { FunctionsFit (setting_of setting.now) setting.now.start.now }
         ensures filling { IfOk result (IsLeastFor setting.now) }
@@ -388,7 +384,7 @@ impl Finder {
                     updates,
                 })
             }
-            Err(_) => Err(ProgramFault::OutOfMemory(AllocError)),
+            Err(_) => Err(Refusal::OutOfMemory(AllocError)),
         }
     }
 }
@@ -403,7 +399,7 @@ impl Finder {
 /// that an instruction refuses, with its reason, at that instruction; for two states of different
 /// depths, where they meet; for more than 65,535 contexts, at the instruction that enters one more;
 /// for a font program or a CVT program that never comes to its end, at its start. `OutOfMemory`.
-pub fn find(alloc: Global, setting: &Setting<'_>) -> Result<Found, ProgramFault>
+pub fn find(alloc: Global, setting: &Setting<'_>) -> Result<Found, Refusal>
     requires ascends { Ascends setting.now.start.now }
     requires fits { FunctionsFit (setting_of setting.now) setting.now.start.now }
     ensures filling { IfOk result (IsLeastFor setting.now) }
@@ -450,7 +446,7 @@ pub fn explore(alloc: Global, setting: &Setting<'_>) -> Result<Explored, AllocEr
             },
             fault: None,
         }),
-        Err(ProgramFault::OutOfMemory(error)) => Err(error),
+        Err(Refusal::OutOfMemory(error)) => Err(error),
         Err(fault) => Ok(Explored {
             found: Found {
                 certificate,

@@ -4,8 +4,7 @@ ghost use Rattle.std.specs.Prelude.{◌≡◌, ◌≢◌, IsTrue, slice_index_or
 ghost use Rattle.tt_find.specs.Representation.OffsetMarks.{SetsMark, mark_of};
 
 use std::alloc::{AllocError, Global};
-use tt_abs::Setting;
-use tt_family::Spot;
+use tt_abs::{Setting, Spot};
 
 /// What is known of an offset of a program.
 #[derive(Clone, Copy)]

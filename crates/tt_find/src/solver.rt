@@ -14,9 +14,9 @@ use crate::origin::Origin;
 use crate::worklist::Worklist;
 use std::alloc::{AllocError, Global};
 use std::collections::BTreeSet;
-use tt_abs::State;
+use tt_abs::{Refusal, Spot, State};
 use tt_code::Reason;
-use tt_family::{Builder, JoinFault, Joined, PointKey, ProgramFault, Spot};
+use tt_family::{Builder, JoinFault, Joined, PointKey};
 
 /// The family so far. Its states are kept at the points where ways meet; those in between are made
 /// again each time that a state is carried on there.
@@ -37,16 +37,11 @@ pub(crate) struct Solver {
 }
 
 /// Returns the fault that names a point and this reason.
-pub(crate) fn refused_at(
-    builder: &Builder,
-    context: u32,
-    offset: u32,
-    reason: Reason,
-) -> ProgramFault
+pub(crate) fn refused_at(builder: &Builder, context: u32, offset: u32, reason: Reason) -> Refusal
     requires { context < length builder.now.contexts }
     ensures { result ≡ refused_in builder.now context offset reason }
 {
-    ProgramFault::Refused {
+    Refusal::Refused {
         spot: builder.spot(context),
         offset,
         reason,
@@ -91,7 +86,7 @@ impl Solver {
         context: u32,
         offset: u32,
         state: &State,
-    ) -> Result<Joined, ProgramFault>
+    ) -> Result<Joined, Refusal>
         requires there { context < length self.old.builder.contexts }
         requires in_range { state_order.InRange state.now }
         requires room { self.old.changes < 18446744073709551615 }
@@ -107,13 +102,13 @@ impl Solver {
             Err(JoinFault::DepthMismatch) => {
                 return Err(refused_at(&self.builder, context, offset, Reason::DepthMismatch));
             }
-            Err(JoinFault::OutOfMemory) => return Err(ProgramFault::OutOfMemory(AllocError)),
+            Err(JoinFault::OutOfMemory) => return Err(Refusal::OutOfMemory(AllocError)),
         };
         if !joined.is_change() {
             return Ok(joined);
         }
         if let Err(_) = self.worklist.insert((context, offset)) {
-            return Err(ProgramFault::OutOfMemory(AllocError));
+            return Err(Refusal::OutOfMemory(AllocError));
         }
         self.changes += 1;
         Ok(joined)

@@ -1,37 +1,37 @@
 //! Why the finder stops.
 
 use std::alloc::AllocError;
-use tt_family::ProgramFault;
+use tt_abs::Refusal;
 
 /// Why the finder stops before it is done.
 #[derive(Drop)]
 pub(crate) enum Stop {
     /// No family is found.
-    Fault(ProgramFault),
+    Fault(Refusal),
     /// A state is to be kept at an offset over which states have passed. From then on states are
     /// kept there, and the finder starts again.
     Restart,
 }
 
-impl From<ProgramFault> for Stop {
+impl From<Refusal> for Stop {
     ghost use Rattle.std.specs.Prelude.{◌≡◌};
     ghost use Rattle.tt_find.specs.declared.stop.Stop.{Stop};
 
     ghost from_gives = { λ fault stop. stop ≡ Stop.Fault fault };
 
-    fn from(fault: ProgramFault) -> Stop {
+    fn from(fault: Refusal) -> Stop {
         Stop::Fault(fault)
     }
 }
 
 impl From<AllocError> for Stop {
     ghost use Rattle.std.specs.Prelude.{◌≡◌};
-    ghost use Rattle.tt_family.specs.declared.fault.ProgramFault.{ProgramFault};
+    ghost use Rattle.tt_abs.specs.declared.refusal.Refusal.{Refusal};
     ghost use Rattle.tt_find.specs.declared.stop.Stop.{Stop};
 
-    ghost from_gives = { λ error stop. stop ≡ Stop.Fault (ProgramFault.OutOfMemory error) };
+    ghost from_gives = { λ error stop. stop ≡ Stop.Fault (Refusal.OutOfMemory error) };
 
     fn from(error: AllocError) -> Stop {
-        Stop::Fault(ProgramFault::OutOfMemory(error))
+        Stop::Fault(Refusal::OutOfMemory(error))
     }
 }

@@ -9,9 +9,9 @@ ghost use Rattle.tt_find.specs.Representation.Solvers.{IsPut, IsWalk, KeepsRest,
 
 use crate::solver::Solver;
 use std::alloc::{AllocError, Global};
-use tt_abs::State;
+use tt_abs::{Refusal, Spot, State};
 use tt_code::Frame;
-use tt_family::{Builder, Joined, PointKey, ProgramFault, Spot};
+use tt_family::{Builder, Joined, PointKey};
 
 /// Where the finder is: a context and its calls, the outermost first, and the state that is carried
 /// on, always in the same memory.
@@ -116,7 +116,7 @@ impl Walk {
         solver: &mut Solver,
         context: u32,
         offset: u32,
-    ) -> Result<Joined, ProgramFault>
+    ) -> Result<Joined, Refusal>
         requires there { context < length solver.old.builder.contexts }
         requires in_range { state_order.InRange self.old.state }
         requires room { solver.old.changes < 18446744073709551615 }

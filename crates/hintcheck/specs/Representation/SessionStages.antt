@@ -2,8 +2,8 @@
 use Rattle.std.specs.Prelude.{◌≡◌, ℕ, ◌+◌, ◌≤◌, List, [], ◌∷◌, ◌++◌, Option, Some, None, alloc_error, length, Result, Ok, Err, slice_get}
 use Rattle.std.specs.declared.alloc.AllocError.{AllocError}
 use Rattle.tt_code.specs.Cut.{Instruction}
-use Rattle.tt_family.specs.declared.fault.ProgramFault.{ProgramFault}
-use Rattle.tt_family.specs.declared.fault.ProgramFault.TheVariants as program
+use Rattle.tt_abs.specs.declared.refusal.Refusal.{Refusal}
+use Rattle.tt_abs.specs.declared.refusal.Refusal.TheVariants as program
 use Rattle.tt_cert.specs.Answers.{input_at}
 use Rattle.tt_cert.specs.Reading.{header_at}
 use Rattle.tt_cert.specs.declared.form.Form.{Form}
@@ -92,13 +92,13 @@ HasHeader d form old new =
 
 -- the answer is the outcome of a program of this name that the fault refuses; or that memory ran
 -- out, where it did
-abbrev pub TellsRefusal : Name → ProgramFault → Result Outcome CheckFontFault → Type 0
+abbrev pub TellsRefusal : Name → Refusal → Result Outcome CheckFontFault → Type 0
 TellsRefusal called (program.Refused spot offset r) answer =
     answer ≡ Ok (refused_as called (reported_at called spot offset r))
 TellsRefusal called (program.OutOfMemory e) answer = answer ≡ Err (fault.OutOfMemory e)
 
 -- the same of an answer whose only error is that memory ran out
-abbrev pub TellsOutcome : Name → ProgramFault → Result Outcome AllocError → Type 0
+abbrev pub TellsOutcome : Name → Refusal → Result Outcome AllocError → Type 0
 TellsOutcome called (program.Refused spot offset r) answer =
     answer ≡ Ok (refused_as called (reported_at called spot offset r))
 TellsOutcome called (program.OutOfMemory e) answer = answer ≡ Err e

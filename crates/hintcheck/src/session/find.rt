@@ -20,7 +20,8 @@ use crate::program::{Search, reported};
 use crate::report::Name;
 use std::alloc::{AllocError, Global};
 use std::mem;
-use tt_family::{Budget, ProgramFault};
+use tt_abs::Refusal;
+use tt_family::Budget;
 use tt_find::{Finder, Found};
 use tt_font::Font;
 
@@ -35,11 +36,11 @@ struct FoundStep<'a> {
 ///
 /// # Errors
 /// If memory ran out, which refuses nothing.
-fn refused(program: Name, fault: ProgramFault) -> Result<Outcome, AllocError>
+fn refused(program: Name, fault: Refusal) -> Result<Outcome, AllocError>
     ensures { TellsOutcome program fault result }
 {
     match fault {
-        ProgramFault::Refused {
+        Refusal::Refused {
             spot,
             offset,
             reason,
@@ -47,7 +48,7 @@ fn refused(program: Name, fault: ProgramFault) -> Result<Outcome, AllocError>
             program,
             refused: Some(reported(program, spot, offset, reason)),
         }),
-        ProgramFault::OutOfMemory(error) => Err(error),
+        Refusal::OutOfMemory(error) => Err(error),
     }
 }
 

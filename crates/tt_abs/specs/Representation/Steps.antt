@@ -14,7 +14,7 @@ use Rattle.tt_code.specs.declared.kinds.Update.{Update}
 use Rattle.tt_code.specs.declared.reason.Reason.{Reason}
 use Rattle.tt_abs.specs.declared.cells.Cell.{Cell}
 use Rattle.tt_abs.specs.declared.moves.Moves.{Moves}
-use Rattle.tt_abs.specs.declared.refusal.Refusal.{Refusal}
+use Rattle.tt_abs.specs.declared.step_fault.StepFault.{StepFault}
 use Rattle.tt_abs.specs.declared.setting.Setting.{Setting}
 use Rattle.tt_abs.specs.declared.setting.Point.{Point}
 use Rattle.tt_abs.specs.declared.state.State.{State}
@@ -37,7 +37,7 @@ abbrev pub RefusesStack : (Abstract → Tested Abstract) → List Cell → Reaso
 RefusesStack does old r = (a : Abstract) → does (record a { stack = old }) ≡ Err r
 
 -- the same, where the answer is a refusal; where memory ran out, nothing has to hold
-abbrev pub IsStackRefusedFor : (Abstract → Tested Abstract) → List Cell → Refusal → Type 0
+abbrev pub IsStackRefusedFor : (Abstract → Tested Abstract) → List Cell → StepFault → Type 0
 IsStackRefusedFor does old e = ForReason e (RefusesStack does old)
 
 -- the top names this cell; between the two are this many cells
@@ -177,7 +177,7 @@ DoesTo setting point bytes old new moves =
     → LeadsBy point (done_at setting point old code rest) moves new
 
 -- the instruction of these bytes is refused for this reason
-abbrev pub IsDoingRefusedFor : Setting → Point → List ℕ → State → Refusal → Type 0
+abbrev pub IsDoingRefusedFor : Setting → Point → List ℕ → State → StepFault → Type 0
 IsDoingRefusedFor setting point bytes old e = ForReason e
     (λ r. (code : ℕ) (rest : List ℕ) → bytes ≡ code ∷ rest
     → done_at setting point old code rest ≡ Err r)

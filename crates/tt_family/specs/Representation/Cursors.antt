@@ -25,7 +25,7 @@ use Rattle.tt_family.specs.GoodFamilies.{EndsWell, IsShortEnough}
 use Rattle.tt_family.specs.Places.{IsLess, place_cmp, states_of}
 use Rattle.tt_family.specs.Puts.{place_of}
 use Rattle.tt_family.specs.Checks.{AreCovered, AreMet, BreaksAt, HasNextTurn, IsBrokenBy, IsFilledBy, IsFirstBreakOnTheWay, IsFirstGap, IsSoundAt, Names, NamesGap, Nowhere, point_key_of, place_of_next}
-use Rattle.tt_family.specs.declared.fault.ProgramFault.{ProgramFault}
+use Rattle.tt_abs.specs.declared.refusal.Refusal.{Refusal}
 use Rattle.tt_family.specs.declared.listing.Listing.{Listing}
 use Rattle.tt_family.specs.declared.listing.Listing.TheVariants.{Whole, Sparse}
 use Rattle.tt_family.specs.declared.meeting.Coverage.{Coverage}
@@ -251,7 +251,7 @@ IsMadeMet contents walk after q =
     IsMetBy (family_of contents) (IsAfter (calls_of contents walk) after q) walk.next q walk.made
 
 -- the fault names the place, at which the walk's state isn't covered
-abbrev pub NamesGapMade : Contents → Cursor → Option ℕ → Place → ProgramFault → Type 0
+abbrev pub NamesGapMade : Contents → Cursor → Option ℕ → Place → Refusal → Type 0
 NamesGapMade contents walk after q =
     NamesGap (family_of contents) (IsAfter (calls_of contents walk) after q) q walk.made
 
@@ -266,7 +266,7 @@ AreMadeMet contents walk after moves =
     (nexts_made contents walk moves) walk.made
 
 -- the fault names the first of them at which it isn't
-abbrev pub NamesFirstGapMade : Contents → Cursor → Option ℕ → Moves → ProgramFault → Type 0
+abbrev pub NamesFirstGapMade : Contents → Cursor → Option ℕ → Moves → Refusal → Type 0
 NamesFirstGapMade contents walk after moves =
     Names
     (IsFirstGap (family_of contents) (IsAfter (calls_of contents walk) after)
@@ -289,18 +289,18 @@ PassesPoint s listing contents old new offset =
     (point_of contents old offset) old.made new.carried new.made
 
 -- the fault names what is broken first of the walk's state there
-abbrev pub NamesBreak : Setting → Listing → Contents → Cursor → ℕ → ProgramFault → Type 0
+abbrev pub NamesBreak : Setting → Listing → Contents → Cursor → ℕ → Refusal → Type 0
 NamesBreak s listing contents walk offset =
     Names
     (BreaksAt s (family_of contents) (MayLeaveOut listing s (point_of contents walk offset))
     (point_of contents walk offset) walk.made)
 
 -- the fault names what is broken first in the order of the walk
-abbrev pub NamesFirstBreak : Setting → Listing → Contents → ProgramFault → Type 0
+abbrev pub NamesFirstBreak : Setting → Listing → Contents → Refusal → Type 0
 NamesFirstBreak s listing contents = Names (IsFirstBreakOnTheWay s (MayLeaveOut listing s) contents)
 
 -- or before it begins
-abbrev pub NamesFirst : Setting → List (ℕ × ℕ) → Listing → Contents → ProgramFault → Type 0
+abbrev pub NamesFirst : Setting → List (ℕ × ℕ) → Listing → Contents → Refusal → Type 0
 NamesFirst s functions listing contents =
     Names
     (IsBrokenBy s functions contents (IsFirstBreakOnTheWay s (MayLeaveOut listing s) contents))
@@ -310,5 +310,5 @@ abbrev pub IsFoundSoundFor : Subject → Listing → Contents → Type 0
 IsFoundSoundFor x listing contents = IsFoundSound (setting_of x) x.start.now listing contents
 
 -- the fault names what a check of either listing finds broken first
-abbrev pub NamesFirstFor : Subject → Listing → Contents → ProgramFault → Type 0
+abbrev pub NamesFirstFor : Subject → Listing → Contents → Refusal → Type 0
 NamesFirstFor x listing contents = NamesFirst (setting_of x) x.start.now listing contents

@@ -8,7 +8,7 @@ use Rattle.tt_abs.specs.Lines.{Precedes}
 use Rattle.tt_abs.specs.Settings.{setting_of}
 use Rattle.tt_family.specs.Contents.{Contents}
 use Rattle.tt_family.specs.Fillings.{IsJustAfter}
-use Rattle.tt_family.specs.declared.fault.ProgramFault.{ProgramFault}
+use Rattle.tt_abs.specs.declared.refusal.Refusal.{Refusal}
 use Rattle.tt_find.specs.Found.{IsJustified, NamesPlace, NamesStop}
 use Rattle.tt_find.specs.Representation.Solvers.{GoesOn, HasLaws, IsCarried, IsFound, IsLeadingAt, IsOnWay, IsPopped, IsRefusedAt, IsWhole, calls_of, here_of, places_from}
 use Rattle.tt_find.specs.declared.solver.Solver.{Solver}
@@ -51,7 +51,7 @@ IsSteppedAt x contents old new offset step =
     IsCarried (setting_of x) (here_of contents old offset) old.state step new.state
 
 -- the fault names an offset at which the walk's state is refused
-abbrev pub NamesRefusalAt : Subject → Contents → Walk → ℕ → ProgramFault → Type 0
+abbrev pub NamesRefusalAt : Subject → Contents → Walk → ℕ → Refusal → Type 0
 NamesRefusalAt x contents walk offset =
     NamesPlace (IsRefusedAt (setting_of x) (here_of contents walk offset) walk.state)
 

@@ -23,11 +23,11 @@ use Rattle.tt_family.specs.Contents.{Contents, IsFamily, family_of, frames_at, p
 use Rattle.tt_family.specs.GoodFamilies.{EndsWell, IsShortEnough}
 use Rattle.tt_family.specs.Places.{PutsAt, has_point, states_of}
 use Rattle.tt_family.specs.Puts.{Reweighs, place_of}
-use Rattle.tt_family.specs.Spots.{spot_of}
-use Rattle.tt_family.specs.declared.spot.Spot.{Spot}
+use Rattle.tt_abs.specs.Spots.{spot_of}
+use Rattle.tt_abs.specs.declared.spot.Spot.{Spot}
 use Rattle.tt_family.specs.Fillings.{IsJustAfter}
-use Rattle.tt_family.specs.declared.fault.ProgramFault.{ProgramFault}
-use Rattle.tt_family.specs.declared.fault.ProgramFault.TheVariants.{Refused}
+use Rattle.tt_abs.specs.declared.refusal.Refusal.{Refusal}
+use Rattle.tt_abs.specs.declared.refusal.Refusal.TheVariants.{Refused}
 use Rattle.tt_find.specs.Found.{ArePointsOf, IsDerived, IsNeeded, NamesPlace, NamesStop}
 use Rattle.tt_find.specs.Representation.OffsetMarks.{SetsMark, mark_at, mark_of}
 use Rattle.tt_find.specs.declared.marks.Mark.TheVariants.{Free, Kept, Passed}
@@ -250,7 +250,7 @@ IsApartAt contents context offset t =
     IsApart (family_of contents) (place_of contents context offset) t
 
 -- the fault names that place, unless memory ran out
-abbrev pub NamesApart : Contents → ℕ → ℕ → State → ProgramFault → Type 0
+abbrev pub NamesApart : Contents → ℕ → ℕ → State → Refusal → Type 0
 NamesApart contents context offset t = NamesPlace (IsApartAt contents context offset t)
 
 -- the finder stops there, or starts again where states aren't kept everywhere
@@ -263,7 +263,7 @@ abbrev pub KeepsEverywhere : Solver → Solver → Type 0
 KeepsEverywhere old new = new.marks.everywhere ≡ old.marks.everywhere
 
 -- the fault that names an offset of a context, for this reason
-abbrev pub refused_in : Contents → ℕ → ℕ → Reason → ProgramFault
+abbrev pub refused_in : Contents → ℕ → ℕ → Reason → Refusal
 refused_in contents context offset reason =
     Refused (spot_of (frames_at contents.contexts context)) offset reason
 

@@ -51,8 +51,8 @@ fn make_change(state: &mut State, change: &Change<'_>) -> Result<(), AllocError>
         Change::Push(cells) => return push_all(state, cells),
         Change::Define(number, body) => return state.define(number, body),
         Change::Store(index, cell) => return state.set_storage(index, cell),
-        Change::Reference(which, cell) => state.set_rp(which, cell),
-        Change::Zone(which, zone) => state.set_zone(which, zone),
+        Change::Reference(which, cell) => state.set_reference_point(which, cell),
+        Change::Zone(which, zone) => state.set_zone_pointer(which, zone),
         Change::Loop(cell) => state.set_loop(cell),
     }
     Ok(())

@@ -127,7 +127,7 @@ fn is_copy(copy: &mut State, state: &State, stack: &[Cell]) -> bool
 fn is_copied_anew(state: &State, copy: &State, stack: &[Cell]) -> bool
     requires { state_order.InRange state.now }
 {
-    match state.copied() {
+    match state.copy() {
         Ok(mut anew) => is_copy(&mut anew, state, stack) && compare(&anew, copy) == SAME,
         Err(_) => false,
     }
@@ -174,7 +174,7 @@ fn copied_over(alloc: Global, copying: &Copying<'_>) -> Option<State> {
 #[test]
 fn copies_over_a_longer_one(rt: HostRuntime) {
     let copy = copied_over(rt.alloc(), &OVER_A_LONGER_ONE).expect(&rt, "a copy");
-    assert!(rt; copy.rp(Reference::Rp1) == Known(4));
+    assert!(rt; copy.reference_point(Reference::Rp1) == Known(4));
     assert!(rt; copy.stored() == [(3, -1)].as_slice());
 }
 
@@ -279,7 +279,7 @@ const PARTINGS: &[Parting<'static>] = &[
 fn changed_copy(state: &State, changes: &[Change<'_>]) -> Result<State, AllocError>
     requires { state_order.InRange state.now }
 {
-    let mut copy = state.copied()?;
+    let mut copy = state.copy()?;
     make_changes(&mut copy, changes)?;
     Ok(copy)
 }

@@ -10,10 +10,10 @@ use hintcheck_test_fixtures::families::{
 use hintcheck_test_fixtures::programs::{CALLS_WITH_A_NUMBER, GLYPH, LIMITS as WIDE, POPPING, cut};
 use std::alloc::Global;
 use std::process::Abort;
-use tt_abs::{Cell, Kind, Setting, State};
+use tt_abs::{Cell, Kind, Refusal, Setting, Spot, State};
 use tt_code::kinds::Reference;
 use tt_code::{Frame, Limits, Reason};
-use tt_family::{Builder, Certificate, ProgramFault, Spot, check, check_full};
+use tt_family::{Builder, Certificate, check, check_full};
 
 /// What a check tells: that a family is good, or where it is refused and why.
 pub(crate) type Answer = Result<(), (Spot, u32, Reason)>;
@@ -75,13 +75,13 @@ fn answer_in(
     match answer {
         Ok(()) => Some(Ok(())),
         Err(
-            ProgramFault::Refused {
+            Refusal::Refused {
                 spot,
                 offset,
                 reason,
             },
         ) => Some(Err((spot, offset, reason))),
-        Err(ProgramFault::OutOfMemory(_)) => None,
+        Err(Refusal::OutOfMemory(_)) => None,
     }
 }
 
@@ -412,7 +412,7 @@ fn further_state(alloc: Global, further: Further) -> Option<State>
     let mut state = state_of(alloc, &[], &[]).ok()?;
     match further {
         Further::Storage(index) => state.set_storage(index, Cell::Known(1)).ok()?,
-        Further::Rp0 => state.set_rp(Reference::Rp0, Cell::Known(5)),
+        Further::Rp0 => state.set_reference_point(Reference::Rp0, Cell::Known(5)),
     }
     Some(state)
 }

@@ -1,9 +1,8 @@
 //! The check of families that leave states out.
 
 use crate::cert::checking::{Asked, CALLING, EMPTY, Family, Subject, assert_families};
-use tt_abs::Kind;
+use tt_abs::{Kind, Spot};
 use tt_code::Reason;
-use tt_family::Spot;
 
 /// Programs whose families may leave states out.
 const SPARSE: Subject<'static> = Subject {

@@ -4,19 +4,18 @@ use crate::find::programs::{BRANCHES, PUSHES_ON_ONE_WAY};
 use hintcheck_test_fixtures::families::leads_through;
 use hintcheck_test_fixtures::programs::{GLYPH, LIMITS, cut};
 use std::alloc::Global;
-use tt_abs::Setting;
+use tt_abs::{Refusal, Setting, Spot};
 use tt_code::Reason;
-use tt_family::{ProgramFault, Spot};
 use tt_find::explore;
 
 /// A refusal in the main program, or none.
 type Refused = Option<(u32, Reason)>;
 
 /// Returns the refusal that a fault is, if it is in the main program.
-fn refused_in_main(fault: Option<ProgramFault>) -> Refused {
+fn refused_in_main(fault: Option<Refusal>) -> Refused {
     match fault {
         Some(
-            ProgramFault::Refused {
+            Refusal::Refused {
                 spot: Spot::Main,
                 offset,
                 reason,

@@ -44,7 +44,7 @@ fn count_added(
     let Ok(frames) = certificate.frames(alloc, context) else {
         return None;
     };
-    let Ok(mut state) = listed.copied() else {
+    let Ok(mut state) = listed.copy() else {
         return None;
     };
     let mut at = offset;

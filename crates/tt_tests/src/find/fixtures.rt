@@ -6,9 +6,9 @@ use crate::find::fillings::filled_points;
 use hintcheck_test_fixtures::families::leads_through;
 use hintcheck_test_fixtures::programs::{GLYPH, LIMITS, cut};
 use std::alloc::Global;
-use tt_abs::{Kind, Setting};
+use tt_abs::{Kind, Refusal, Setting, Spot};
 use tt_code::Reason;
-use tt_family::{Certificate, ProgramFault, Spot, check};
+use tt_family::{Certificate, check};
 use tt_find::{Finder, Found, find};
 
 /// How many contexts and points the least family has, filled up, and how many updates made it.
@@ -46,18 +46,18 @@ fn checked(alloc: Global, setting: &Setting<'_>, found: &Found) -> Option<Answer
             Some(Ok((found.certificate.contexts(), points, found.updates)))
         }
         Err(
-            ProgramFault::Refused {
+            Refusal::Refused {
                 spot,
                 offset,
                 reason,
             },
         ) => Some(Err((spot, offset, reason))),
-        Err(ProgramFault::OutOfMemory(_)) => None,
+        Err(Refusal::OutOfMemory(_)) => None,
     }
 }
 
 /// Returns what is told of a program for which this was found; nothing where memory ran out.
-fn told_of(alloc: Global, setting: &Setting<'_>, found: Result<Found, ProgramFault>) -> Option<Told>
+fn told_of(alloc: Global, setting: &Setting<'_>, found: Result<Found, Refusal>) -> Option<Told>
     requires { Ascends setting.now.start.now }
 {
     match found {
@@ -69,7 +69,7 @@ fn told_of(alloc: Global, setting: &Setting<'_>, found: Result<Found, ProgramFau
             })
         }
         Err(
-            ProgramFault::Refused {
+            Refusal::Refused {
                 spot,
                 offset,
                 reason,
@@ -78,7 +78,7 @@ fn told_of(alloc: Global, setting: &Setting<'_>, found: Result<Found, ProgramFau
             answer: Err((spot, offset, reason)),
             certificate: None,
         }),
-        Err(ProgramFault::OutOfMemory(_)) => None,
+        Err(Refusal::OutOfMemory(_)) => None,
     }
 }
 

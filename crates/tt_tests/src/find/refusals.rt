@@ -8,9 +8,8 @@ use crate::find::programs::{
 use hintcheck_test_fixtures::programs::{GLYPH, POPPING};
 use std::alloc::Global;
 use std::process::Abort;
-use tt_abs::Kind;
+use tt_abs::{Kind, Spot};
 use tt_code::Reason;
-use tt_family::Spot;
 
 /// Whether this is told of a program, for which there was memory.
 fn is_refused(told: Option<Told>, want: (Spot, u32, Reason)) -> bool {

@@ -6,7 +6,7 @@ use Rattle.tt_font.specs.Reading.{no_glyph}
 use Rattle.hintcheck.specs.FontPrograms.{font_of, glyph_subject, one_glyph_font}
 use Rattle.hintcheck.specs.Programs.{IsRefusal, Subject}
 use Rattle.tt_family.specs.Checks.{IsOutOfMemory}
-use Rattle.tt_family.specs.declared.fault.ProgramFault.{ProgramFault}
+use Rattle.tt_abs.specs.declared.refusal.Refusal.{Refusal}
 use Rattle.hintcheck.specs.ProgramVerdicts.{IfRefused, reported_at}
 use Rattle.hintcheck.specs.Texts.{refused_text}
 use Rattle.hintcheck.specs.declared.report.Refused.{Refused}
@@ -28,7 +28,7 @@ unfolding in_some_font
 returns-in_ok-writeln-in-Err-Refused-clause-told g c = λ one.
     let e = c.in-Err-Refused in
     let x = in_some_font c.args.named.bytes.now in
-    let F : ProgramFault → Type 0 = λ f. IfRefused x.name f (IsRefusal x) in
+    let F : Refusal → Type 0 = λ f. IfRefused x.name f (IsRefusal x) in
     let W : Refused → Type 0 = λ r. Appends (g.O.Sink.contents c.args.out.now) (g.O.Sink.contents c.writeln.new.self) (refused_text r ++ codes "\n") in
     tells_unlisted x c.args.named.name (reported_at x.name e.field-0-0 e.offset e.reason) (g.O.Sink.contents c.args.out.now) (g.O.Sink.contents c.writeln.new.self)
     (subst F e.field-0-is (e.ensures.refused x refl))

@@ -1,7 +1,7 @@
 use Rattle.std.proofs.Common.{ℕ, List, [], Err, refl, sym, ap, subst}
 use Rattle.tt_code.specs.Cut.{CannotBeCut, IsCut}
 use Rattle.tt_code.specs.declared.reason.Reason.TheVariants as reason
-use Rattle.tt_family.specs.declared.spot.Spot.TheVariants as spot
+use Rattle.tt_abs.specs.declared.spot.Spot.TheVariants as spot
 use Rattle.hintcheck.specs.Programs.{HasGoodFamily, IsRefusal, no_cut, no_structure}
 use Rattle.hintcheck.proofs.ProgramVerdictLemmas.{not_cut, not_structured, reported, without_good}
 use Rattle.hintcheck.specs.Certificates.{IsCheckRefusal, no_cut as uncut, no_structure as unstructured}

@@ -11,7 +11,7 @@ use Rattle.tt_family.specs.Checks.{IsFirstBreakOnTheWay, IsGap, NamesAt, too_lon
 use Rattle.tt_family.specs.Contents.{Contents, family_of}
 use Rattle.tt_family.specs.GoodFamilies.{EndsWell}
 use Rattle.tt_family.specs.Representation.Cursors.{MayLeaveOut, to_come}
-use Rattle.tt_family.specs.declared.fault.ProgramFault.{ProgramFault}
+use Rattle.tt_abs.specs.declared.refusal.Refusal.{Refusal}
 use Rattle.tt_family.specs.declared.listing.Listing.{Listing}
 use Rattle.tt_family.proofs.Checked.{ok_map, err_map}
 use Rattle.tt_family.proofs.Judged.{not_both, start_broken, way_broken}
@@ -24,7 +24,7 @@ ends setting v = EndsWell (setting_of setting) (setting_of setting).kind (family
 abbrev covers : Contents → State → Type 0
 covers v a = CoversAt state_order (family_of v) ([], 0) a
 
-abbrev gap_told : Contents → ProgramFault → State → Type 0
+abbrev gap_told : Contents → Refusal → State → Type 0
 gap_told v fault a = NamesAt ([], 0) (IsGap (family_of v) ⊥ ([], 0) a) fault
 
 abbrev first : Setting → Listing → Contents → Place → Reason → Type 0

@@ -11,10 +11,10 @@ use Rattle.tt_abs.specs.Transfers.{outcome_on_cells}
 use Rattle.tt_family.specs.Checks.{saturated_offset}
 use Rattle.tt_family.specs.Contents.{family_of, frames_at}
 use Rattle.tt_family.specs.Puts.{place_of}
-use Rattle.tt_family.specs.Spots.{spot_of}
+use Rattle.tt_abs.specs.Spots.{spot_of}
 use Rattle.tt_family.specs.Representation.Cursors.{MayLeaveOut}
 use Rattle.tt_family.specs.Fillings.{IsAfter}
-use Rattle.tt_family.specs.declared.fault.ProgramFault.TheVariants.{Refused}
+use Rattle.tt_abs.specs.declared.refusal.Refusal.TheVariants.{Refused}
 use Rattle.tt_family.specs.declared.meeting.Coverage.TheVariants as coverage
 use Rattle.tt_family.proofs.Checked.{broken_here, frames_back, outcome_moved, passed_at_end, passed_here, refusal_moved, refused_here, stores_here}
 use Rattle.tt_family.proofs.StoredCells.{stored_above, stored_within}

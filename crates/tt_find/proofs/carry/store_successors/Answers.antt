@@ -9,8 +9,8 @@ use Rattle.tt_abs.specs.declared.moves.Moves.{Moves}
 use Rattle.tt_abs.specs.declared.moves.Moves.TheVariants.{One, Two}
 use Rattle.tt_family.specs.Contents.{Contents, family_of, frames_at}
 use Rattle.tt_family.specs.Puts.{place_of}
-use Rattle.tt_family.specs.Spots.{spot_of}
-use Rattle.tt_family.specs.declared.fault.ProgramFault.TheVariants.{Refused}
+use Rattle.tt_abs.specs.Spots.{spot_of}
+use Rattle.tt_abs.specs.declared.refusal.Refusal.TheVariants.{Refused}
 use Rattle.tt_find.specs.Found.{IsJustified}
 use Rattle.tt_find.specs.Representation.Solvers.{HasRisen, IsApart, IsLeadingOn, IsLeadingTo, TellsSource, calls_of, here_of, place_over, places_from, updates_of}
 use Rattle.tt_find.specs.declared.solver.Solver.{Solver}

@@ -1,7 +1,7 @@
 //! In which program a place is.
 
 ghost use Rattle.std.specs.Prelude.{◌≡◌};
-ghost use Rattle.tt_family.specs.Spots.{spot_of_body};
+ghost use Rattle.tt_abs.specs.Spots.{spot_of_body};
 
 /// A body of the CVT program is named by its offset plus this.
 const CVT_BODIES: u32 = 1 << 31;

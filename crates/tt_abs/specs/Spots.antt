@@ -2,8 +2,8 @@
 use Rattle.std.specs.Prelude.{ℕ, nat_lt, if◌then◌else◌, List, [], ◌∷◌}
 use Rattle.tt_code.specs.Settings.{CVT_BODIES}
 use Rattle.tt_code.specs.declared.machine.Frame.{Frame}
-use Rattle.tt_family.specs.declared.spot.Spot.{Spot}
-use Rattle.tt_family.specs.declared.spot.Spot.TheVariants.{Main, Font, Prep}
+use Rattle.tt_abs.specs.declared.spot.Spot.{Spot}
+use Rattle.tt_abs.specs.declared.spot.Spot.TheVariants.{Main, Font, Prep}
 
 -- in which program the innermost call's body is, by its name
 abbrev pub spot_of_body : ℕ → Spot
