@@ -1,5 +1,5 @@
 -- Reference points and zone pointers by their numbers (Apple TrueType Reference Manual, "Graphics State").
-use Rattle.std.specs.Prelude.{ℕ}
+use Rattle.std.specs.Prelude.{ℕ, ◌==◌, if◌then◌else◌}
 use Rattle.tt_code.specs.declared.kinds.Reference.{Reference}
 use Rattle.tt_code.specs.declared.kinds.Reference.TheVariants.{Rp0, Rp1, Rp2}
 use Rattle.tt_code.specs.declared.kinds.Pointer.{Pointer}
@@ -7,12 +7,8 @@ use Rattle.tt_code.specs.declared.kinds.Pointer.TheVariants.{Zp0, Zp1, Zp2}
 
 -- the reference point with this number, for numbers below 3: rp0, rp1, rp2
 abbrev pub reference_numbered : ℕ → Reference
-reference_numbered 0 = Rp0
-reference_numbered 1 = Rp1
-reference_numbered _ = Rp2
+reference_numbered i = if i == 0 then Rp0 else if i == 1 then Rp1 else Rp2
 
 -- the zone pointer with this number, for numbers below 3: zp0, zp1, zp2
 abbrev pub pointer_numbered : ℕ → Pointer
-pointer_numbered 0 = Zp0
-pointer_numbered 1 = Zp1
-pointer_numbered _ = Zp2
+pointer_numbered i = if i == 0 then Zp0 else if i == 1 then Zp1 else Zp2

@@ -44,7 +44,7 @@ struct Moved {
 ///
 /// # Errors
 /// `Refused` with the reason of the first test of the instruction that fails; `OutOfMemory`.
-fn moved(setting: &Setting<'_>, point: &Point<'_>, state: &State) -> Result<Moved, StepFault>
+fn step_copy(setting: &Setting<'_>, point: &Point<'_>, state: &State) -> Result<Moved, StepFault>
     requires starts { StartsAt setting.now point.now }
     requires once { has_body_twice (frames_of point.now) ≡ false }
     requires in_range { state_order.InRange state.now }
@@ -85,7 +85,7 @@ pub fn transfer(
     ensures reason { IfErr result (IsRefusalBy setting.now point.now state.now) }
     ensures refused { IfErr result (RefuseMachines setting.now point.now state.now) }
 {
-    match moved(setting, point, state) {
+    match step_copy(setting, point, state) {
         Ok(
             Moved {
                 moves: Moves::One(way),

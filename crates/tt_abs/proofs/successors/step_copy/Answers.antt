@@ -9,7 +9,7 @@ use Rattle.tt_abs.proofs.Everything.{outcome_gives, outcome_refused}
 use Rattle.tt_abs.proofs.Offsets.{starts_within}
 use Rattle.tt_abs.proofs.StateParts.{stack_to}
 use Rattle.tt_abs.proofs.StepLemmas.{for_reason, passed_on}
-use Rattle.tt_abs.proofs.successors.moved.Goals as goal
+use Rattle.tt_abs.proofs.successors.step_copy.Goals as goal
 
 pub returns-clause-gives : goal.returns-clause-gives
 returns-clause-gives c =
