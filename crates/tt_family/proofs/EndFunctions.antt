@@ -1,5 +1,5 @@
 -- The functions that a family's state lists at a program's end are defined wherever a run ends.
-use Rattle.std.proofs.Common.{◌≡◌, ℕ, List, [], ◌∷◌, Option, Some, None, true, refl, sym, ◌∙◌, ap, subst}
+use Rattle.std.proofs.Common.{◌≡◌, ℕ, List, [], ◌∷◌, Option, Some, true, sym, inl, inr, ◌∙◌, ap, subst}
 use Rattle.std.proofs.lemmas.Bool.{eq-eqb, eqb-true}
 use Rattle.tt_code.specs.Cut.{size}
 use Rattle.tt_code.specs.Fonts.{Leaves}
@@ -12,7 +12,6 @@ use Rattle.tt_abs.specs.Soundness.{IsSafe, StartsWith}
 use Rattle.tt_abs.specs.StateFlow.{Place}
 use Rattle.tt_abs.proofs.Soundness.{good_is_safe}
 use Rattle.tt_family.specs.Ends.{AreDefinedAtEnd, AreDefinedWhereFilled, FillingsKeepEnd}
-use Rattle.tt_family.specs.Fillings.{IsFilling}
 use Rattle.tt_family.proofs.FillingLaws.{some_or_none}
 
 -- machines that start so have these functions
