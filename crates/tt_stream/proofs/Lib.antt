@@ -4,3 +4,4 @@ pub mod Printed
 pub mod Beginnings
 pub mod Filled
 pub mod Ahead
+pub mod Skipped

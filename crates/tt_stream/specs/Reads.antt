@@ -1,6 +1,6 @@
 -- What reading to the end, or filling a buffer, does to known bytes, and to a count of failed
 -- reads.
-use Rattle.std.specs.Prelude.{◌≡◌, ◌+◌, ◌<◌, ℕ, List, [], Option, Result, Ok, Err, MatchResult, length, take}
+use Rattle.std.specs.Prelude.{◌≡◌, ◌+◌, ◌<◌, ℕ, List, [], ◌∷◌, Option, Result, Ok, Err, MatchResult, drop, length, min, take}
 use Rattle.std.specs.Io.KnownBytes.{Consumes, IsAtEnd}
 use Rattle.tt_stream.specs.declared.ReadFailed.{ReadFailed}
 use Rattle.tt_stream.specs.Streams.{CountsFailure}
@@ -31,6 +31,14 @@ CountsReadFault (Err (fault.OutOfMemory error)) old new = new ≡ old
 -- the bytes at the front of the buffer were read: as many as it has room for, or all that were left
 abbrev pub Fills : Option (List ℕ) → Option (List ℕ) → ℕ → List ℕ → Type 0
 Fills old new count buf = Consumes old new (take count buf) × (count < length buf → IsAtEnd new)
+
+-- where bytes are ahead, the read gives the first of them, as many as there is room for: it can't
+-- fail
+abbrev pub GivesAhead : Result ℕ ReadFailed → List ℕ → List ℕ → List ℕ → Type 0
+GivesAhead r [] now buf = Unit {0}
+GivesAhead (Err failed) (byte ∷ ahead) now buf = ⊥
+GivesAhead (Ok n) (byte ∷ ahead) now buf =
+    (n ≡ min (length buf) (length (byte ∷ ahead))) × (take n buf ≡ take n (byte ∷ ahead)) × (now ≡ drop n (byte ∷ ahead))
 
 -- a source, and the bytes that were read from it and not yet taken
 pub record ReadAhead (S : Type 0) : Type 0 where

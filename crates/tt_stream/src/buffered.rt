@@ -1,7 +1,7 @@
 //! A source that reads many bytes at a time from another one, and keeps them until they are asked
 //! for.
 
-ghost use Rattle.std.specs.Prelude.{◌≡◌, ◌≤◌, ◌<◌, [], drop, length, slice_range, vec_len, IfOk, OnOk};
+ghost use Rattle.std.specs.Prelude.{◌≡◌, ◌≢◌, ◌≤◌, ◌<◌, [], drop, length, slice_range, vec_len, IfOk, OnErr, OnOk};
 ghost use Rattle.std.specs.Io.KnownBytes.{IsAtEnd, Keeps, prepend_known};
 ghost use Rattle.tt_stream.specs.Reads.{ReadAhead, Refills};
 ghost use Rattle.tt_stream.specs.Streams.{CountsFailure};
@@ -84,6 +84,8 @@ impl<S: Source> Buffered<S> {
             (prepend_known self.old.ahead (S.remaining self.old.source))
             (prepend_known self.new.ahead (S.remaining self.new.source)) }
         ensures at_end { OnOk result (self.new.ahead ≡ [] → IsAtEnd (S.remaining self.new.source)) }
+        ensures same { self.old.ahead ≢ [] → self.new ≡ self.old }
+        ensures asked { OnErr result (self.old.ahead ≡ []) }
         ensures failures { CountsFailure result
             (S.failures self.old.source) (S.failures self.new.source) }
     {
@@ -122,7 +124,9 @@ impl<S: Source> Source for Buffered<S> {
         Ok(count)
     }
 
-    fn ahead(&self) -> &[u8] {
+    fn ahead(&self) -> &[u8]
+        ensures all { result.now ≡ self.now.ahead }
+    {
         &self.bytes[self.at..self.end]
     }
 

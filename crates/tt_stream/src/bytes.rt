@@ -46,7 +46,9 @@ impl Source for Bytes<'_> {
         Ok(count)
     }
 
-    fn ahead(&self) -> &[u8] {
+    fn ahead(&self) -> &[u8]
+        ensures all { result.now ≡ self.now }
+    {
         self.left
     }
 

@@ -4,12 +4,14 @@
 ghost use Rattle.std.specs.Prelude.{◌≡◌, ℕ, ◌+◌, ◌<◌, ◌≤◌, List, [], Option, drop, length, take, IfOk, IfSome, OnErr, OnOk};
 ghost use Rattle.std.specs.Io.{ReadsAtMost, StartsWith, WritesAtMost};
 ghost use Rattle.std.specs.Io.KnownBytes.{Consumes, ReadConsumes, WriteAppends, Appends};
+ghost use Rattle.tt_stream.specs.Reads.{GivesAhead};
 ghost use Rattle.tt_stream.specs.Streams.{AppendsBeginning, AppendsBeginningOfText, AppendsOnly, AppendsText, CountsFailure, CountsPrintFailure, Tally};
 
 mod buffered;
 mod bytes;
 mod reads;
 mod text;
+mod ticks;
 
 pub use buffered::Buffered;
 pub use bytes::Bytes;
@@ -17,9 +19,12 @@ pub use reads::{ReadFault, read_all, read_full};
 use std::fmt::Display;
 use std::io::{Read, Write};
 use std::marker::Model;
-use std::sync::ledger::{Blank, Book, Ledger, Share};
 pub use text::{PrintFailed, print};
 use thiserror::Error;
+use ticks::Ticks;
+
+/// How many bytes are read at a time where they are skipped by reading them.
+const SKIPPED: usize = 64;
 
 /// A read failed.
 #[derive(Clone, Copy, Debug, PartialEq, Eq, Error)]
@@ -40,8 +45,8 @@ pub trait Source {
     ghost failures: { Self → ℕ };
 
     /// The bytes that are read ahead: the first of those that are left, which are given without a
-    /// call that can fail.
-    ghost read_ahead: { Self → List ℕ };
+    /// call that can fail. There are none unless an implementor says which.
+    ghost read_ahead: { Self → List ℕ } = { λ _. [] };
 
     /// Reads some bytes into the front of `buf` and returns how many: 0 only at the end, or where
     /// `buf` has no room.
@@ -51,20 +56,37 @@ pub trait Source {
     fn read(&mut self, buf: &mut [u8]) -> Result<usize, ReadFailed>
         ensures bound { ReadsAtMost result buf.new }
         ensures bytes { ReadConsumes (remaining self.old) (remaining self.new) result buf.new }
+        ensures ahead { GivesAhead result (read_ahead self.old) (read_ahead self.new) buf.new }
         ensures failures { CountsFailure result (failures self.old) (failures self.new) };
 
-    /// Returns the bytes that are read ahead, with which those that are left begin.
+    /// Returns the first of the bytes that are read ahead, with which those that are left begin.
+    /// By default it shows none of them.
     fn ahead(&self) -> &[u8]
-        ensures value { result.now ≡ read_ahead self.now }
-        ensures front { IfSome (remaining self.now) (λ bytes. StartsWith bytes result.now) };
+        ensures value { StartsWith (read_ahead self.now) result.now }
+        ensures front { IfSome (remaining self.now) (λ bytes. StartsWith bytes result.now) }
+    {
+        &[]
+    }
 
-    /// Takes the first `count` of the bytes that are read ahead.
+    /// Takes the first `count` of the bytes that are read ahead. By default it reads them, and no
+    /// such read fails.
     fn skip(&mut self, count: usize)
         requires { count ≤ length (read_ahead self.old) }
         ensures bytes { Consumes (remaining self.old) (remaining self.new)
             (take count (read_ahead self.old)) }
         ensures ahead { read_ahead self.new ≡ drop count (read_ahead self.old) }
-        ensures failures { failures self.new ≡ failures self.old };
+        ensures failures { failures self.new ≡ failures self.old }
+    {
+        let mut left = count;
+        while left > 0 {
+            let mut bytes = [0; SKIPPED];
+            let room = left.min(SKIPPED);
+            let Ok(taken) = self.read(&mut bytes[..room]) else {
+                unreachable!()
+            };
+            left -= taken;
+        }
+    }
 }
 
 /// What bytes are written to.
@@ -105,41 +127,31 @@ pub trait Sink {
     }
 }
 
-/// A reader or a writer of the standard library whose failed calls are counted. The counter takes
-/// no memory.
+/// A reader or a writer of the standard library whose failed calls are counted. The count takes
+/// no memory: only contracts see it.
 #[derive(Drop)]
-pub struct Counted<T, L: Ledger> {
+pub struct Counted<T> {
     /// The reader or writer.
     inner: T,
-    /// The count of failed calls, kept in a ledger, which only contracts see.
-    failures: Book<L>,
-    /// The right to write in the ledger, which only contracts see.
-    share: Share<L>,
+    /// A tick for each call that has failed.
+    failures: Ticks,
 }
 
-impl<T, L: Ledger> Model for Counted<T, L> {
+impl<T> Model for Counted<T> {
     ghost Value = { Tally T };
 
-    ghost view = { λ c. record { inner = c.inner; failures = c.failures.total } };
-
-    ghost invariant = { λ c. 0 < c.share.parts };
+    ghost view = { λ c. record { inner = c.inner; failures = c.failures } };
 }
 
-impl<T, L: Ledger> Counted<T, L> {
-    /// Wraps the reader or writer, and opens `blank` as the ledger of its failed calls, which
-    /// starts at 0.
-    pub fn new(inner: T, blank: Blank) -> Self
-        requires name { blank.name ≡ L.name }
-        requires parts { blank.parts ≡ L.parts }
-        requires some { 0 < blank.parts }
+impl<T> Counted<T> {
+    /// Wraps the reader or writer. None of its calls has failed so far.
+    pub fn new(inner: T) -> Self
         ensures inner { result.inner ≡ inner }
         ensures failures { result.failures ≡ 0 }
     {
-        let (failures, share) = blank.open::<L>();
         Counted {
             inner,
-            failures,
-            share,
+            failures: Ticks::none(),
         }
     }
 
@@ -147,40 +159,28 @@ impl<T, L: Ledger> Counted<T, L> {
     pub fn into_inner(self) -> T
         ensures { result ≡ self.inner }
     {
-        let Counted {
-            inner,
-            failures: _,
-            share: _,
-        } = self;
+        let Counted { inner, failures: _ } = self;
         inner
     }
 }
 
-impl<R: Read, L: Ledger> Source for Counted<R, L> {
+impl<R: Read> Source for Counted<R> {
     ghost remaining = { λ c. R.remaining c.inner };
 
     ghost failures = { λ c. c.failures };
-
-    ghost read_ahead = { λ _. [] };
 
     fn read(&mut self, buf: &mut [u8]) -> Result<usize, ReadFailed> {
         match self.inner.read(buf) {
             Ok(count) => Ok(count),
             Err(_) => {
-                self.failures.add(&mut self.share, 1);
+                self.failures.tick();
                 Err(ReadFailed)
             }
         }
     }
-
-    fn ahead(&self) -> &[u8] {
-        &[]
-    }
-
-    fn skip(&mut self, count: usize) {}
 }
 
-impl<W: Write, L: Ledger> Sink for Counted<W, L> {
+impl<W: Write> Sink for Counted<W> {
     ghost contents = { λ c. W.contents c.inner };
 
     ghost failures = { λ c. c.failures };
@@ -189,7 +189,7 @@ impl<W: Write, L: Ledger> Sink for Counted<W, L> {
         match self.inner.write(buf) {
             Ok(count) if count > 0 || buf.is_empty() => Ok(count),
             _ => {
-                self.failures.add(&mut self.share, 1);
+                self.failures.tick();
                 Err(WriteFailed)
             }
         }
