@@ -2,7 +2,6 @@ pub mod ProgramVerdictLemmas
 pub mod BareProgramLemmas
 pub mod FontEnds
 pub mod FontRuns
-pub mod FontBytes
 pub mod FontSafety
 pub mod FontLists
 pub mod EmptyPrograms

@@ -271,7 +271,7 @@ pub(crate) fn refused_programs(
 }
 
 /// Reads a font. Each of its programs has fewer than 2^31 bytes, and the greatest depth of its
-/// stack is a number of 16 bits, as `Session::new` requires.
+/// stack is a number of 16 bits.
 ///
 /// # Errors
 /// The faults of `Font::read`.
@@ -280,7 +280,9 @@ pub fn read_font<'a>(alloc: Global, bytes: &'a [u8]) -> Result<Font<'a>, FontFau
     ensures range { IfOk result (λ font. IsFontInRange font) }
     ensures faults { TestsWithMemory (font_fault bytes.entry.now) result }
 {
-    Font::read(alloc, bytes)
+    let font = Font::read(alloc, bytes)?;
+    font.range_facts();
+    Ok(font)
 }
 
 /// Returns the verdict on the programs of a font file: on the font program, then on the CVT

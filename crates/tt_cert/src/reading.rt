@@ -54,24 +54,25 @@ fn read_section<S: Source>(
 
 /// A reader of sections, one after the other: each is read in the memory of those before it, and
 /// each state is compared to the state before, which it mostly resembles. What is read doesn't
-/// depend on them.
+/// depend on them. A reader holds no family, and of what was read only the last state.
 #[derive(Drop)]
 pub struct Decoder {
     /// The state that was read last.
     last: Option<LastState>,
-    /// A certificate that isn't needed any more, for its memory.
-    spare: Option<Certificate>,
+    /// An empty builder, in whose memory the next family is made.
+    spare: Option<Builder>,
 }
 
 impl Model for Decoder {
     ghost use Rattle.std.specs.Prelude.{IfSome};
+    ghost use Rattle.tt_cert.specs.Representation.Clauses.{IsEmptyBuilder};
     ghost use Rattle.tt_cert.specs.Representation.SharedCells.{IsLast};
 
     ghost Value = { Unit {0} };
 
     ghost view = { λ _. tt };
 
-    ghost invariant = { λ d. IfSome d.last IsLast };
+    ghost invariant = { λ d. IfSome d.last IsLast × IfSome d.spare IsEmptyBuilder };
 }
 
 impl Decoder {
@@ -96,20 +97,19 @@ impl Decoder {
         }
     }
 
-    /// Returns an empty builder, which reuses the memory of the certificate that isn't needed any
-    /// more, if there is one.
+    /// Takes the empty builder, or makes one.
     fn take_spare(&mut self, alloc: Global) -> Builder
         ensures { IsEmptyBuilder result }
     {
         match self.spare.take() {
-            Some(certificate) => certificate.into_builder(),
+            Some(spare) => spare,
             None => Builder::new(alloc),
         }
     }
 
-    /// Takes back a certificate, whose memory the next one reuses.
+    /// Takes back a certificate, and empties it: the next one reuses its memory.
     pub fn take_back(&mut self, certificate: Certificate) {
-        self.spare = Some(certificate);
+        self.spare = Some(certificate.into_builder());
     }
 
     /// Reads the next section, as `decode` does.

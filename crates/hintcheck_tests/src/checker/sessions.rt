@@ -1,9 +1,8 @@
 //! The programs of a font checked one by one.
 
 ghost use Rattle.std.specs.Prelude.{◌≡◌};
-ghost use Rattle.hintcheck.specs.FontPrograms.{IsFontInRange};
 
-use hintcheck::{CheckFontFault, Name, Outcome, Refused, Session, read_font};
+use hintcheck::{CheckFontFault, Name, Outcome, Refused, Session};
 use hintcheck_test_fixtures::hex_bytes::bytes_of;
 use hintcheck_test_fixtures::stored_certificates::{
     FONT, FORM_1, FORM_2, FORM_3, FORM_4, UNDERFLOWING,
@@ -48,9 +47,7 @@ fn first_refused<S: Source>(
     alloc: Global,
     font: &Font<'_>,
     source: &mut S,
-) -> Result<Option<Refused>, CheckFontFault>
-    requires { IsFontInRange font.now }
-{
+) -> Result<Option<Refused>, CheckFontFault> {
     let mut session = Session::new(font);
     for _ in 0..u32::from(font.glyph_count()) + 3 {
         let Some(outcome) = session.check_next(alloc, source)? else {
@@ -100,9 +97,7 @@ fn five_calls(
     font: &Font<'_>,
     bytes: &[u8],
     others: &[u8],
-) -> ([Told; 5], usize, usize)
-    requires { IsFontInRange font.now }
-{
+) -> ([Told; 5], usize, usize) {
     let mut source = Bytes { left: bytes };
     let mut other = Bytes { left: others };
     let mut session = Session::new(font);
@@ -122,7 +117,7 @@ fn five_calls(
 /// ran out.
 fn called(alloc: Global, parts: &[&str], bytes: &[u8]) -> Option<([Told; 5], usize, usize)> {
     let file = bytes_of(alloc, parts).ok()?;
-    let font = read_font(alloc, &file).ok()?;
+    let font = Font::read(alloc, &file).ok()?;
     Some(five_calls(alloc, &font, bytes, bytes))
 }
 
@@ -134,7 +129,7 @@ fn first_of(
     bytes: &[u8],
 ) -> Option<Result<Option<Refused>, CheckFontFault>> {
     let file = bytes_of(alloc, parts).ok()?;
-    let font = read_font(alloc, &file).ok()?;
+    let font = Font::read(alloc, &file).ok()?;
     let mut source = Bytes { left: bytes };
     Some(first_refused(alloc, &font, &mut source))
 }
