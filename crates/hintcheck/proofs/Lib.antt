@@ -15,6 +15,7 @@ pub mod PrintedLemmas
 pub mod OneFinding
 pub mod OneFont
 pub mod CheckedTexts
+pub mod UnreadBytes
 pub mod UpgradeChecks
 pub mod TextBeginnings
 pub mod UpgradeSteps

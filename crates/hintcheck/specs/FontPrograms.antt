@@ -5,7 +5,7 @@ use Rattle.tt_code.specs.Grammar.{IsStructured}
 use Rattle.tt_code.specs.Runs.{NeverFaults}
 use Rattle.tt_code.specs.Fonts.{Font, font_setting, cvt_setting, glyph_setting, StartsFontProgram, StartsCvtProgram, StartsGlyphProgram}
 use Rattle.tt_font.specs.Maxp.{limits_of}
-use Rattle.tt_font.specs.Reading.{FontData, GlyphData}
+use Rattle.tt_font.specs.Reading.{FontData, GlyphData, Reads}
 pub use Rattle.tt_font.specs.Ranges.{AreFewBytes, IsFontInRange}
 use Rattle.hintcheck.specs.Programs.{Subject, EndsWith, HasLeastFamily, IsRefusal}
 use Rattle.hintcheck.specs.Verdicts.{Judgement}
@@ -93,3 +93,11 @@ pub data IsVerdict (d : FontData) : Judgement → Type 0 where
       → EndsWith (font_subject d) f functions
       → EndsWith (cvt_subject d f functions) p known
       → AreRefused (font_of d f p) known 0 d.glyphs rs → IsVerdict d (judgement_on d rs)
+
+-- the verdict on the font refuses no program
+abbrev pub RefusesNone : FontData → Type 0
+RefusesNone d = (v : Judgement) × IsVerdict d v × (v.refused ≡ [])
+
+-- the same with the font in these bytes
+abbrev pub RefusesNoneIn : List ℕ → Type 0
+RefusesNoneIn bytes = (d : FontData) × Reads bytes d × RefusesNone d
