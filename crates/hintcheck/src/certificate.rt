@@ -19,7 +19,7 @@ use crate::report::Verdict;
 use crate::session::Session;
 use std::alloc::{AllocError, Global};
 use thiserror::Error;
-use tt_cert::{EncodeFault, Encoder, write_header};
+use tt_cert::{EncodeFault, Encoder, NEWEST_FORM, write_header};
 use tt_family::Budget;
 use tt_find::Finder;
 use tt_font::{Font, FontFault};
@@ -131,7 +131,7 @@ fn write_certificate<W: Sink>(
     ensures font { IfErr result IsFindFaultOutsideFontAndBudget }
     ensures spends { Spends budget.old budget.new }
 {
-    write_header(u32::from(font.glyph_count()) + 2, sink)?;
+    write_header(NEWEST_FORM, u32::from(font.glyph_count()) + 2, sink)?;
     write_sections(alloc, font, sink, budget)
 }
 

@@ -29,7 +29,7 @@ use crate::session::{Outcome, Session};
 use std::alloc::{AllocError, Global};
 use thiserror::Error;
 use tt_abs::{Refusal, Setting};
-use tt_cert::{DecodeFault, Form, read_header};
+use tt_cert::{DecodeFault, Form, read_form};
 use tt_family::{Budget, Certificate, check_full_within, check_within};
 use tt_font::{Font, FontFault, GlyphPart};
 use tt_stream::Source;
@@ -107,7 +107,7 @@ pub(crate) fn read_start<S: Source>(
     ensures failures { CountsCheck result (S.failures source.old) (S.failures source.new) }
     ensures font { IfErr result IsCheckFaultOutsideFontAndBudget }
 {
-    let (form, sections) = read_header(source)?;
+    let (form, sections) = read_form(source)?;
     if sections != u32::from(font.glyph_count()) + 2 {
         return Err(CheckFontFault::Form(SECTIONS));
     }

@@ -1,14 +1,19 @@
 //! Sections read from a source.
 
 ghost use Rattle.std.specs.Prelude.{◌≡◌, ◌++◌, ℕ, List, Some, IfErr, IfOk, OnOk, MatchResult};
+ghost use Rattle.tt_family.specs.Ascending.{IsFinished};
+ghost use Rattle.tt_family.specs.Contents.{Contents};
 ghost use Rattle.tt_stream.specs.Reads.{ConsumesBeginning};
 ghost use Rattle.tt_cert.specs.Answers.{AreBytes, CountsRead, GivesSection, IsFormFault, ReadsSection, StopsAtEnd, input_at};
 ghost use Rattle.tt_cert.specs.Representation.Clauses.{IsEmptyBuilder, ReadsAs, StopsWhole};
 ghost use Rattle.tt_cert.specs.Representation.SharedCells.{IsLast};
+ghost use Rattle.tt_cert.specs.Families.{HasText, family_text};
+ghost use Rattle.tt_cert.specs.Forms.{IsFormNumber, form_numbered};
 ghost use Rattle.tt_cert.specs.Reading.{section_at};
 ghost use Rattle.tt_cert.specs.Rules.{Fits};
 ghost use Rattle.tt_cert.specs.Sections.{Section, section_of};
 ghost use Rattle.tt_cert.specs.Text.{section_text};
+ghost use Rattle.tt_cert.specs.declared.name.Name.{Name as ProgramName};
 
 use crate::contexts::{builder_of, read_contexts};
 use crate::fault::DecodeFault;
@@ -39,6 +44,7 @@ fn read_section<S: Source>(
     requires before { IsLast state.old }
     ensures reads { ReadsAs (λ x. section_of x.0 x.1) (section_at form) place result
         (S.remaining source.old) (S.remaining source.new) }
+    ensures finished { IfOk result (λ r. IsFinished r.0.1) }
     ensures kept { OnOk result (IsLast state.new) }
     ensures beginning { ConsumesBeginning (S.remaining source.old) (S.remaining source.new) }
     ensures stopped { StopsWhole (section_at form) place result
@@ -132,6 +138,14 @@ impl Decoder {
         ensures only { (s : Section) (rest : List ℕ) → Fits form s
             → S.remaining source.old ≡ Some (section_text form s ++ rest)
             → MatchResult result (λ r. section_of r.0 r.1 ≡ s) (λ fault. ¬ IsFormFault fault) }
+        // The text of a name with a family is read as this name and this family, whatever follows,
+        // except for failed reads and out of memory.
+        ensures same { (name : ProgramName) (family : Contents) (rest : List ℕ)
+            → HasText form name family
+            → S.remaining source.old ≡ Some (family_text form name family ++ rest)
+            → MatchResult result (λ r. (r.0 ≡ name) × (r.1 ≡ family))
+            (λ fault. ¬ IsFormFault fault) }
+        ensures finished { IfOk result (λ r. IsFinished r.1) }
         // Which place a fault names.
         ensures exact { GivesSection (S.remaining source.old) (S.remaining source.new) result
             (section_at form (input_at start (S.remaining source.old))) }
@@ -151,8 +165,8 @@ impl Decoder {
     }
 }
 
-/// Reads a section of a certificate file of this form, which begins at the place `start` of the
-/// file: exactly its bytes. Returns the program's name, its family, and the place after the
+/// Reads a section of a certificate file of the form with this number, which `read_header` gives;
+/// the section begins at the place `start` of the file. Exactly its bytes are read. Returns the program's name, its family, and the place after the
 /// section, which stops at the greatest number of 64 bits.
 ///
 /// # Errors
@@ -164,24 +178,34 @@ pub fn decode<S: Source>(
     alloc: Global,
     source: &mut S,
     start: u64,
-    form: Form,
+    form: u16,
 ) -> Result<(Name, Certificate, u64), DecodeFault>
+    requires { IsFormNumber form }
     // What is read was at the beginning of the input, of which no more is read.
     ensures found { IfOk result (λ r. (input : List ℕ)
         → S.remaining source.old ≡ Some input → AreBytes input
-        → ReadsSection form input start (section_of r.0 r.1) (S.remaining source.new) r.2) }
+        → ReadsSection (form_numbered form) input start (section_of r.0 r.1)
+        (S.remaining source.new) r.2) }
     // A section at the beginning of the input is read, except for failed reads and out of memory.
-    ensures only { (s : Section) (rest : List ℕ) → Fits form s
-        → S.remaining source.old ≡ Some (section_text form s ++ rest)
+    ensures only { (s : Section) (rest : List ℕ) → Fits (form_numbered form) s
+        → S.remaining source.old ≡ Some (section_text (form_numbered form) s ++ rest)
         → MatchResult result (λ r. section_of r.0 r.1 ≡ s) (λ fault. ¬ IsFormFault fault) }
+    // The text of a name with a family is read as this name and this family, whatever follows,
+    // except for failed reads and out of memory: so what `encode` wrote of them is.
+    ensures same { (name : ProgramName) (family : Contents) (rest : List ℕ)
+        → HasText (form_numbered form) name family
+        → S.remaining source.old ≡ Some (family_text (form_numbered form) name family ++ rest)
+        → MatchResult result (λ r. (r.0 ≡ name) × (r.1 ≡ family)) (λ fault. ¬ IsFormFault fault) }
+    ensures finished { IfOk result (λ r. IsFinished r.1) }
     // Which place a fault names.
     ensures exact { GivesSection (S.remaining source.old) (S.remaining source.new) result
-        (section_at form (input_at start (S.remaining source.old))) }
+        (section_at (form_numbered form) (input_at start (S.remaining source.old))) }
     ensures beginning { ConsumesBeginning (S.remaining source.old) (S.remaining source.new) }
     // Where a read failed, no unit that was read whole breaks a rule.
     ensures whole_units { IfErr result
-        (StopsAtEnd start (S.remaining source.old) (S.remaining source.new) (section_at form)) }
+        (StopsAtEnd start (S.remaining source.old) (S.remaining source.new)
+        (section_at (form_numbered form))) }
     ensures failures { CountsRead result (S.failures source.old) (S.failures source.new) }
 {
-    Decoder::new().decode(alloc, source, start, form)
+    Decoder::new().decode(alloc, source, start, Form::numbered(form))
 }
