@@ -316,30 +316,6 @@ fn take_functions(
     Ok(left.len())
 }
 
-/// Takes this many functions that are read ahead, after those before them, and returns the place
-/// after them.
-fn take_function_block<S: Source>(
-    source: &mut S,
-    place: u64,
-    count: usize,
-    functions: &mut Vec<(u16, u32)>,
-) -> Result<u64, DecodeFault>
-    requires few { count ≤ 64 }
-    requires there { 6 * count ≤ length (S.read_ahead source.old) }
-    ensures reads { ReadsBlock result (S.remaining source.old) (S.remaining source.new)
-        functions.old.items functions.new.items place count }
-    ensures ascends { Ascends functions.old.items → OnOk result (Ascends functions.new.items) }
-    ensures beginning { ConsumesBeginning (S.remaining source.old) (S.remaining source.new) }
-    ensures stopped { StopsWhole (list_at function_at functions.old.items count) place result
-        (S.remaining source.old) (S.remaining source.new) }
-    ensures failures { CountsRead result (S.failures source.old) (S.failures source.new) }
-{
-    let width = FUNCTION * count;
-    let _over = take_functions(functions, place, &source.ahead()[..width])?;
-    source.skip(width);
-    Ok(place.saturating_add(width as u64))
-}
-
 /// Reads this many functions at once, after those before them, and returns the place after them.
 /// The source isn't called again once a function is read that breaks a rule.
 fn fetch_function_block<S: Source>(
@@ -374,7 +350,8 @@ fn fetch_function_block<S: Source>(
     Ok(place.saturating_add(taken as u64))
 }
 
-/// Reads this many functions, after those before them, and returns the place after them.
+/// Reads this many functions, after those before them, and returns the place after them: at once,
+/// where all of them are read ahead.
 fn read_function_block<S: Source>(
     source: &mut S,
     place: u64,
@@ -390,10 +367,14 @@ fn read_function_block<S: Source>(
         (S.remaining source.old) (S.remaining source.new) }
     ensures failures { CountsRead result (S.failures source.old) (S.failures source.new) }
 {
-    if FUNCTION * count <= source.ahead().len() {
-        return take_function_block(source, place, count, functions);
+    let width = FUNCTION * count;
+    let ahead = source.ahead();
+    if ahead.len() < width {
+        return fetch_function_block(source, place, count, functions);
     }
-    fetch_function_block(source, place, count, functions)
+    let _over = take_functions(functions, place, &ahead[..width])?;
+    source.skip(width);
+    Ok(place.saturating_add(width as u64))
 }
 
 /// Reads this many functions, in place of those in the list.
@@ -461,14 +442,14 @@ fn is_ahead<S: Source>(source: &S, text: &[u8], width: usize) -> bool
     front == text
 }
 
-/// Takes this many functions that are read ahead, in place of the others, and keeps their text.
-fn take_listed<S: Source>(
+/// Reads this many functions, in place of the others: at once, where all of them are read ahead.
+/// Their text is kept then.
+fn read_others<S: Source>(
     source: &mut S,
     place: u64,
     count: u16,
     functions: &mut Functions,
 ) -> Result<u64, DecodeFault>
-    requires { 6 * count ≤ length (S.read_ahead source.old) }
     ensures reads { ReadsInto functions.new.list.items (list_at function_at [] count) place result
         (S.remaining source.old) (S.remaining source.new) }
     ensures kept { OnOk result (AreKept functions.new.text.items functions.new.list.items) }
@@ -482,7 +463,11 @@ fn take_listed<S: Source>(
     functions.list.clear();
     functions.text.clear();
     let width = FUNCTION * usize::from(count);
-    let bytes = &source.ahead()[..width];
+    let ahead = source.ahead();
+    if ahead.len() < width {
+        return read_function_list(source, place, count, &mut functions.list);
+    }
+    let bytes = &ahead[..width];
     let _over = take_functions(&mut functions.list, place, bytes)?;
     functions.text.extend_from_slice(bytes)?;
     source.skip(width);
@@ -513,12 +498,7 @@ fn read_listed<S: Source>(
         functions.is_same = true;
         return Ok(place.saturating_add(width as u64));
     }
-    if width <= source.ahead().len() {
-        return take_listed(source, place, count, functions);
-    }
-    functions.is_same = false;
-    functions.text.clear();
-    read_function_list(source, place, count, &mut functions.list)
+    read_others(source, place, count, functions)
 }
 
 /// Reads the functions that are known, with their bodies, in place of the others. Mostly they are

@@ -1,4 +1,6 @@
-use Rattle.std.proofs.Common.{◌≡◌, ◌-◌, ◌∙◌, List, ℕ, ap, length, subst, sym, true}
+use Rattle.std.proofs.Common.{◌≡◌, ◌-◌, ◌∙◌, arith, length, refl, subst, sym, true}
+use Rattle.std.specs.Io.KnownBytes.{Consumes}
+use Rattle.tt_stream.proofs.Ahead.{starts_part}
 use Rattle.tt_cert.specs.Reading.{context_at}
 use Rattle.tt_cert.specs.Rules.{ContextFits, may_follow}
 use Rattle.tt_cert.specs.Sections.{Context}
@@ -15,11 +17,12 @@ returns-clause-reads g c =
     let numbers = c.in-Some.ensures.fits in
     let follows : may_follow before c.in-Some.context ≡ true = rw c.deref.ensures.value at (sym c.may_follow.ensures ∙ c.if-may_follow.true) in
     let fits : ContextFits before c.in-Some.context = record { parent = numbers.0; call = numbers.1.0; body = numbers.1.1; follows = follows } in
+    let shown = c.ahead-ahead.result.now in
+    let skipped = subst (Consumes _ _) (starts_part _ shown (length shown - length rest) c.ahead-ahead.ensures.value (omega arith)) c.skip.ensures.bytes in
     record {
       value = c.in-Some.context;
       pushed = c.push_reserved.ensures.items;
-      gives = front_read (context_at before) context_text (ContextFits before) _ _ (g.S.Source.read_ahead c.args.source.now) rest _ c.args.place _ _ (context_codec before)
-          (rw c.ahead-ahead.ensures.value at c.in-Some.ensures.begins) fits (ap (λ (l : List ℕ). length l - length rest) c.ahead-ahead.ensures.value) c.skip.ensures.bytes
+      gives = front_read (context_at before) context_text (ContextFits before) _ _ shown rest _ c.args.place _ _ (context_codec before) c.in-Some.ensures.begins fits refl skipped
           c.ranges.place.fits c.saturating_add.ensures;
     }
 

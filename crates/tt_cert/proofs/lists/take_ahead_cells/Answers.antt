@@ -1,5 +1,7 @@
 use Rattle.std.proofs.Common.{◌∙◌, [], append-nil, subst, sym}
 use Rattle.std.proofs.lemmas.Result.{err_from_is_err_and}
+use Rattle.std.specs.Io.KnownBytes.{Consumes}
+use Rattle.tt_stream.proofs.Ahead.{starts_part}
 use Rattle.tt_cert.specs.Representation.KeptTexts.{IsStackText}
 use Rattle.tt_cert.proofs.Ahead.{ahead_cell_refused, ahead_cells_taken}
 use Rattle.tt_cert.proofs.lists.take_ahead_cells.Goals as goal
@@ -12,8 +14,9 @@ returns-in_err-taken-clause-broken g c =
 
 pub returns-clause-reads : goal.returns-clause-reads
 returns-clause-reads g c =
-    ahead_cells_taken _ _ c.ahead-ahead.result.now [] _ c.args.place _ c.args.count c.in_ok-taken.used c.ahead-ahead.ensures.front
-    c.in_ok-taken.ensures.takes (rw c.ahead-ahead.ensures.value c.skip.ensures.bytes) c.saturating_add.ensures
+    let shown = c.ahead-ahead.result.now in
+    let skipped = subst (Consumes _ _) (starts_part _ shown c.in_ok-taken.used c.ahead-ahead.ensures.value c.in_ok-taken.ensures.used) c.skip.ensures.bytes in
+    ahead_cells_taken _ _ shown [] _ c.args.place _ c.args.count c.in_ok-taken.used c.ahead-ahead.ensures.front c.in_ok-taken.ensures.takes skipped c.saturating_add.ensures
 
 pub returns-clause-kept : goal.returns-clause-kept
 returns-clause-kept g c = λ below kept.
