@@ -15,24 +15,20 @@ use crate::report::Verdict;
 use std::alloc::Global;
 use std::fs;
 use std::io::Read;
-use std::marker::Brand;
 use std::rt::Files;
-use std::sync::ledger::{Blank, Ledger};
 use tt_family::Budget;
 use tt_font::Font;
 use tt_stream::{Buffered, Counted};
 
 /// Returns the verdict on a font by the certificate that is left in the file, and makes at most
 /// this many points, where they are bounded.
-fn verdict_by_file<L: Ledger, F: Read + Drop>(
+fn verdict_by_file<F: Read + Drop>(
     alloc: Global,
     font: &Font<'_>,
     file: F,
     budget: Option<u64>,
-    blank: Blank,
 ) -> Result<Verdict, CommandFault>
-    requires range { IsFontInRange font.now }
-    requires blank { (blank.name ≡ L.name) × (blank.parts ≡ L.parts) × (0 < blank.parts) }
+    requires { IsFontInRange font.now }
     ensures safe { IfOk result (λ verdict. verdict.refused ≡ [] → IsSafeFont font.now) }
     ensures programs { IfOk result (λ verdict. verdict.programs ≡ length font.now.glyphs + 2) }
     ensures checked { IfOk result (λ verdict. IfSome (F.remaining file)
@@ -43,7 +39,7 @@ fn verdict_by_file<L: Ledger, F: Read + Drop>(
     ensures faults { IfErr result
         (λ fault. IsFaultOfChecking fault × IsWithin budget fault) }
 {
-    let Ok(mut source) = Buffered::new(alloc, Counted::<F, L>::new(file, blank)) else {
+    let Ok(mut source) = Buffered::new(alloc, Counted::new(file)) else {
         return Err(CommandFault::OutOfMemory);
     };
     let verdict = match budget {
@@ -75,5 +71,5 @@ pub(super) fn check_verdict<R: Files + AllocGlobal>(
     let Ok(file) = fs::open(rt, certificate) else {
         return Err(CommandFault::Read);
     };
-    verdict_by_file::<Brand, _>(rt.alloc(), &font, file, budget, Blank::new(1))
+    verdict_by_file(rt.alloc(), &font, file, budget)
 }

@@ -11,10 +11,8 @@ use super::faults::CommandFault;
 use std::alloc::Global;
 use std::fs;
 use std::io::{BufWriter, Read, Write};
-use std::marker::Brand;
 use std::os::unix::fs::MetadataExt;
 use std::rt::Files;
-use std::sync::ledger::{Blank, Ledger};
 use tt_stream::{Counted, read_all};
 
 /// How many bytes of a certificate are written at a time: those of many sections, since most are
@@ -23,17 +21,12 @@ use tt_stream::{Counted, read_all};
 pub(super) const ROOM: usize = 524_288;
 
 /// Returns the bytes that are left in the file.
-fn read_file<L: Ledger, F: Read + Drop>(
-    alloc: Global,
-    file: F,
-    blank: Blank,
-) -> Result<Vec<u8>, CommandFault>
-    requires { (blank.name ≡ L.name) × (blank.parts ≡ L.parts) × (0 < blank.parts) }
+fn read_file<F: Read + Drop>(alloc: Global, file: F) -> Result<Vec<u8>, CommandFault>
     ensures read { IfOk result (λ bytes. HasAll (F.remaining file) bytes.items) }
     ensures fault { IfErr result IsNoWriteFault }
     ensures faults { IfErr result IsFaultOfReading }
 {
-    let mut source = Counted::<F, L>::new(file, blank);
+    let mut source = Counted::new(file);
     Ok(read_all(alloc, &mut source)?)
 }
 
@@ -48,7 +41,7 @@ pub(super) fn file_bytes<R: Files + AllocGlobal>(
     let Ok(file) = fs::open(rt, name) else {
         return Err(CommandFault::Read);
     };
-    read_file::<Brand, _>(rt.alloc(), file, Blank::new(1))
+    read_file(rt.alloc(), file)
 }
 
 /// Returns the writer's file, once it has all that was written.

@@ -18,9 +18,7 @@ use crate::report::Verdict;
 use std::alloc::Global;
 use std::fs;
 use std::io::{BufWriter, Write};
-use std::marker::Brand;
 use std::rt::Files;
-use std::sync::ledger::{Blank, Ledger};
 use tt_family::Budget;
 use tt_font::Font;
 use tt_stream::{Counted, Sink};
@@ -49,15 +47,13 @@ fn find_within_points<W: Sink>(
 
 /// Returns the verdict on a font, and the file, to which the font's certificate is written where no
 /// program is refused. At most this many points are made, where they are bounded.
-fn verdict_to_file<L: Ledger, F: Write + Drop>(
+fn verdict_to_file<F: Write + Drop>(
     alloc: Global,
     font: &Font<'_>,
     file: F,
     budget: Option<u64>,
-    blank: Blank,
 ) -> Result<(Verdict, F), CommandFault>
-    requires range { IsFontInRange font.now }
-    requires blank { (blank.name ≡ L.name) × (blank.parts ≡ L.parts) × (0 < blank.parts) }
+    requires { IsFontInRange font.now }
     ensures exact { IfOk result (λ r. IsVerdict font.now r.0) }
     ensures written { IfOk result (λ r. r.0.refused ≡ []
         → WritesText (F.contents file) (F.contents r.1) (IsPassingCertificate font.now)) }
@@ -70,7 +66,7 @@ fn verdict_to_file<L: Ledger, F: Write + Drop>(
     let Ok(file) = BufWriter::with_capacity(alloc, ROOM, file) else {
         return Err(CommandFault::OutOfMemory);
     };
-    let mut sink = Counted::<BufWriter<F>, L>::new(file, blank);
+    let mut sink = Counted::new(file);
     let verdict = find_within_points(alloc, font, &mut sink, budget)?;
     let file = write_rest(sink.into_inner())?;
     Ok((verdict, file))
@@ -104,12 +100,6 @@ pub(super) fn find_verdict<R: Files + AllocGlobal>(
     let Ok(file) = fs::create(rt, certificate) else {
         return Err(CommandFault::File);
     };
-    let (verdict, _file) = verdict_to_file::<Brand, _>(
-        rt.alloc(),
-        &font,
-        file,
-        budget,
-        Blank::new(1),
-    )?;
+    let (verdict, _file) = verdict_to_file(rt.alloc(), &font, file, budget)?;
     Ok(verdict)
 }

@@ -14,22 +14,16 @@ use crate::certificate_upgrade::upgrade;
 use std::alloc::Global;
 use std::fs;
 use std::io::{BufWriter, Read, Write};
-use std::marker::Brand;
 use std::rt::Files;
-use std::sync::ledger::{Blank, Ledger};
 use tt_stream::{Buffered, Counted, Sink};
 
 /// Upgrades the certificate that is left in the old file to the new one: returns how many sections
 /// it has, and the new file.
-fn upgrade_file<L: Ledger, M: Ledger, F: Read + Drop, G: Write + Drop>(
+fn upgrade_file<F: Read + Drop, G: Write + Drop>(
     alloc: Global,
     old: F,
     new: G,
-    reads: Blank,
-    writes: Blank,
 ) -> Result<(u32, G), CommandFault>
-    requires reads { (reads.name ≡ L.name) × (reads.parts ≡ L.parts) × (0 < reads.parts) }
-    requires writes { (writes.name ≡ M.name) × (writes.parts ≡ M.parts) × (0 < writes.parts) }
     ensures exact { IfOk result
         (λ r. IfSome (F.remaining old) (λ bytes. UpgradesTo bytes (Ok r.0))) }
     ensures written { IfOk result (λ r. IfSome (F.remaining old)
@@ -40,13 +34,13 @@ fn upgrade_file<L: Ledger, M: Ledger, F: Read + Drop, G: Write + Drop>(
     ensures fault { IfErr result IsNoWriteFault }
     ensures faults { IfErr result IsFaultOfRewriting }
 {
-    let Ok(mut source) = Buffered::new(alloc, Counted::<F, L>::new(old, reads)) else {
+    let Ok(mut source) = Buffered::new(alloc, Counted::new(old)) else {
         return Err(CommandFault::OutOfMemory);
     };
     let Ok(new) = BufWriter::with_capacity(alloc, ROOM, new) else {
         return Err(CommandFault::OutOfMemory);
     };
-    let mut sink = Counted::<BufWriter<G>, M>::new(new, writes);
+    let mut sink = Counted::new(new);
     let count = upgrade(alloc, &mut source, &mut sink)?;
     let new = write_rest(sink.into_inner())?;
     Ok((count, new))
@@ -70,13 +64,7 @@ fn upgrade_named<R: Files + AllocGlobal>(rt: &R, old: &str, new: &str) -> Result
     let Ok(new) = fs::create(rt, new) else {
         return Err(CommandFault::File);
     };
-    let (count, _new) = upgrade_file::<Brand, Brand, _, _>(
-        rt.alloc(),
-        old,
-        new,
-        Blank::new(1),
-        Blank::new(1),
-    )?;
+    let (count, _new) = upgrade_file(rt.alloc(), old, new)?;
     Ok(count)
 }
 

@@ -11,9 +11,7 @@ use crate::report::Verdict;
 use std::alloc::Global;
 use std::fs;
 use std::io::Read;
-use std::marker::Brand;
 use std::rt::Files;
-use std::sync::ledger::{Blank, Ledger};
 use tt_family::Budget;
 use tt_stream::{Counted, Source, read_all};
 
@@ -61,13 +59,11 @@ fn verdict_within_points<S: Source>(
 
 /// Returns the verdict on all programs of a font, whose bytes are those that are left in the file,
 /// and makes at most this many points, where they are bounded.
-fn verdict_on_bytes<L: Ledger, F: Read + Drop>(
+fn verdict_on_bytes<F: Read + Drop>(
     alloc: Global,
     file: F,
     budget: Option<u64>,
-    blank: Blank,
 ) -> Result<Verdict, CommandFault>
-    requires { (blank.name ≡ L.name) × (blank.parts ≡ L.parts) × (0 < blank.parts) }
     ensures safe { IfOk result (λ verdict. verdict.refused ≡ []
         → (bytes : List ℕ) × HasAll (F.remaining file) bytes × HoldSafeFont bytes) }
     ensures refused { IfOk result (λ verdict. verdict.refused ≢ []
@@ -78,7 +74,7 @@ fn verdict_on_bytes<L: Ledger, F: Read + Drop>(
     ensures faults { IfErr result
         (λ fault. IsFaultOfFontFile fault × IsWithin budget fault) }
 {
-    let mut source = Counted::<F, L>::new(file, blank);
+    let mut source = Counted::new(file);
     verdict_within_points(alloc, &mut source, budget)
 }
 
@@ -101,5 +97,5 @@ pub(super) fn file_verdict<R: Files + AllocGlobal>(
     let Ok(file) = fs::open(rt, name) else {
         return Err(CommandFault::Read);
     };
-    verdict_on_bytes::<Brand, _>(rt.alloc(), file, budget, Blank::new(1))
+    verdict_on_bytes(rt.alloc(), file, budget)
 }

@@ -8,8 +8,6 @@ use hintcheck_test_fixtures::hex_bytes::bytes_of;
 use hintcheck_test_fixtures::stored_certificates::{FONT, FORM_4, UNDERFLOWING};
 use hintcheck_test_fixtures::streams::{ALL, Taker};
 use std::alloc::Global;
-use std::marker::Brand;
-use std::sync::ledger::{Blank, Ledger};
 use tt_cert::{encode, write_header};
 use tt_find::{Finder, Found};
 use tt_font::Font;
@@ -51,15 +49,13 @@ fn write_each<W: Sink>(alloc: Global, font: &Font<'_>, sink: &mut W) -> Option<V
     Some(outcomes)
 }
 
-fn written_on<L: Ledger>(
+fn written_on(
     alloc: Global,
     font: &Font<'_>,
-    blank: Blank,
 ) -> Option<(Vec<Outcome>, Vec<u8>)>
     requires range { IsFontInRange font.now }
-    requires blank { (blank.name ≡ L.name) × (blank.parts ≡ L.parts) × (0 < blank.parts) }
 {
-    let mut sink = Counted::<Taker, L>::new(Taker::new(alloc, ALL, ALL), blank);
+    let mut sink = Counted::new(Taker::new(alloc, ALL, ALL));
     let outcomes = write_each(alloc, font, &mut sink)?;
     Some((outcomes, sink.into_inner().bytes))
 }
@@ -69,7 +65,7 @@ fn written_on<L: Ledger>(
 fn written(alloc: Global, parts: &[&str]) -> Option<(Vec<Outcome>, Vec<u8>)> {
     let file = bytes_of(alloc, parts).ok()?;
     let font = read_font(alloc, &file).ok()?;
-    written_on::<Brand>(alloc, &font, Blank::new(1))
+    written_on(alloc, &font)
 }
 
 /// The names of the programs, in the order of a font with one glyph.

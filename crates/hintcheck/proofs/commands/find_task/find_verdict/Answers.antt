@@ -1,9 +1,5 @@
-use Rattle.std.proofs.Common.{refl, arith}
 use Rattle.hintcheck.proofs.FontSafety.{font_is_safe}
 use Rattle.hintcheck.proofs.commands.find_task.find_verdict.Goals as goal
-
-pub verdict_to_file-requires-clause-blank : goal.verdict_to_file-requires-clause-blank
-verdict_to_file-requires-clause-blank g c = (refl, refl, omega (arith, c.new.ensures))
 
 pub returns-clause-safe : goal.returns-clause-safe
 returns-clause-safe g c = λ is_none.
