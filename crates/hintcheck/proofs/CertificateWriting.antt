@@ -2,6 +2,7 @@
 use Rattle.std.proofs.Common.{◌≡◌, true, false, ℕ, ◌+◌, ◌^◌, ◌<◌, arith, List, [], ◌++◌, length, drop, Option, Some, None, refl, sym, ◌∙◌, ap, subst, append_assoc, append-nil}
 use Rattle.std.specs.Prelude.{◌==◌, Err}
 use Rattle.std.specs.Io.KnownBytes.{Appends}
+use Rattle.std.proofs.lemmas.List.{nil_from_length}
 use Rattle.std.proofs.lemmas.Option.{slice_get_within}
 use Rattle.tt_code.specs.Cut.{Instruction}
 use Rattle.tt_family.specs.Contents.{Contents}
@@ -21,22 +22,27 @@ use Rattle.hintcheck.specs.CertificateFaults.{CountsFind, IsFindFaultOutsideFont
 use Rattle.hintcheck.specs.CertificateTexts.{AreGlyphTexts, IsCertificate, IsEndedText, IsPassingCertificate, IsReadableListing, IsTextOf, WritesBeginning, WritesText, no_glyphs, one_more}
 use Rattle.hintcheck.specs.FindingSessions.{AreFirstSections, IsCertificateBegun, IsForFinding, IsFoundAnswer, IsFoundFor, IsFoundToEnd, IsOutcomeByFinding, cvt_found, cvt_refused, font_found, font_refused, glyph_found, glyph_refused, none_yet, one_program_more}
 use Rattle.hintcheck.specs.Representation.FontVerdicts.{AreAllRefused}
-use Rattle.hintcheck.specs.FontPrograms.{cvt_subject, font_of, font_subject, glyph_subject}
+use Rattle.hintcheck.specs.FontPrograms.{RefusesNone, cvt_subject, font_of, font_subject, glyph_subject, judgement_on}
 use Rattle.hintcheck.specs.Programs.{Subject}
 use Rattle.hintcheck.specs.Representation.SessionStages.{AreSectionsFrom, AreSomeSections, all_there, cvt_next, font_first, glyph_next}
 use Rattle.hintcheck.specs.Sessions.{IsLast, Stage, Standing, after_font, at_glyph, at_start, last_glyph, new_standing, none_is_left, over}
+use Rattle.hintcheck.specs.declared.report.Refused.{Refused}
 use Rattle.hintcheck.specs.declared.session.Outcome.{Outcome}
 use Rattle.hintcheck.proofs.CheckedSections.{all_dropped, dropped}
 use Rattle.hintcheck.proofs.CheckedTexts.{is_passing}
 use Rattle.hintcheck.proofs.ProgramVerdictLemmas.{calls_in_turn}
 use Rattle.hintcheck.proofs.SecondFindings.{AreLeastFrom, none_refused_at_start, none_refused_next}
 use Rattle.hintcheck.proofs.SessionRuns.{calls_left}
-use Rattle.hintcheck.proofs.TextBeginnings.{begins_any, begins_on, begins_whole}
+use Rattle.hintcheck.proofs.TextBeginnings.{begins_on, begins_whole}
 
 -- an empty list is told to be empty
 pub told_empty : {X : Type 0} (xs : List X) (n : ℕ) → length xs ≡ n → xs ≡ [] → false ≡ (n == 0) → ⊥
 told_empty {X} xs n long empty told =
     absurd (let e : false ≡ true = told ∙ ap (λ (k : ℕ). k == 0) (sym long) ∙ ap (λ (l : List X). length l == 0) empty in cc)
+
+-- a verdict that refuses an empty list of programs refuses none
+pub refuses_none : (d : FontData) (rs : List Refused) (n : ℕ) → n ≡ length rs → AreAllRefused d rs → n ≡ 0 → RefusesNone d
+refuses_none d rs n long all zero = (judgement_on d rs, all, nil_from_length rs (sym long ∙ zero))
 
 -- a section that can't be written counts as the search for a certificate counts
 pub counts_encoding : (e : EncodeFault) (a b n : ℕ) → b ≡ a → CountsWrite {T = Unit {0}} (Err e) b n → CountsFind {T = Unit {0}} (Err (fault_of_encoding e)) a n
@@ -251,9 +257,6 @@ sections_begun d n start first now sections header (text, (stage, are), part) =
     let H : ℕ → Type 0 = λ k. Appends start first (header_text Four k) in
     let whole : List ℕ = header_text Four (length d.glyphs + 2) in
     (whole ++ text, record { stage = stage; sections = text; first = are; text_is = refl }, begins_on start first now whole text (subst H sections header) part)
-
-pub nothing_begun : (d : FontData) (w : Option (List ℕ)) → WritesBeginning w w (IsCertificateBegun d)
-nothing_begun d w = header_begun d (length d.glyphs + 2) w w refl (begins_any w (header_text Four (length d.glyphs + 2)))
 
 -- all of them, and the whole certificate
 

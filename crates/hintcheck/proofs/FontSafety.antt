@@ -13,13 +13,13 @@ use Rattle.tt_abs.specs.Soundness.{IsSafe}
 use Rattle.tt_abs.specs.StateFlow.{Place}
 use Rattle.tt_abs.proofs.Soundness.{good_is_safe}
 use Rattle.tt_family.specs.GoodFamilies.{IsGoodFamily}
+use Rattle.tt_font.proofs.RangeLemmas.{small_number}
 use Rattle.tt_font.specs.Reading.{FontData, GlyphData}
 use Rattle.hintcheck.specs.FontPrograms.{AreFewBytes, AreRefused, IsFontInRange, IsSafeFont, IsSafeGlyph, IsVerdict, accepted, no_glyph_left, cvt_refused, cvt_subject, font_of, font_refused, font_subject, glyph_subject, none_ended, one_glyph_font, refused}
 use Rattle.hintcheck.specs.CheckedFonts.{EndsGood, HasGoodFamilies}
 use Rattle.hintcheck.specs.Programs.{EndsWith, HasGoodFamily, HasLeastFamily, Subject}
 use Rattle.hintcheck.specs.Verdicts.{Judgement}
 use Rattle.hintcheck.specs.declared.report.Refused.{Refused}
-use Rattle.hintcheck.proofs.FontBytes.{small_number}
 use Rattle.hintcheck.proofs.FontEnds.{functions_rise}
 use Rattle.tt_family.proofs.EndFunctions.{AllStartWith}
 use Rattle.hintcheck.proofs.FontRuns.{cvt_starts, font_starts, glyph_starts, never_faults_from}

@@ -2,7 +2,6 @@ pub mod ProgramVerdictLemmas
 pub mod BareProgramLemmas
 pub mod FontEnds
 pub mod FontRuns
-pub mod FontBytes
 pub mod FontSafety
 pub mod FontLists
 pub mod EmptyPrograms
@@ -16,6 +15,7 @@ pub mod PrintedLemmas
 pub mod OneFinding
 pub mod OneFont
 pub mod CheckedTexts
+pub mod UnreadBytes
 pub mod UpgradeChecks
 pub mod TextBeginnings
 pub mod UpgradeSteps

@@ -31,7 +31,7 @@ no_answer x place e = absurd cc
 
 -- sections
 
-one_section : (form : Form) (i after after' : Input) (called : Name) (family family' : Contents) → IsSectionOf form i called family after → IsSectionOf form i called family' after'
+pub one_section : (form : Form) (i after after' : Input) (called : Name) (family family' : Contents) → IsSectionOf form i called family after → IsSectionOf form i called family' after'
     → (family ≡ family') × (after ≡ after')
 one_section form i after after' called family family' s t =
     let same = one_answer (section_of called family, after) (section_of called family', after') (sym s.is_read ∙ t.is_read) in
@@ -41,7 +41,7 @@ one_section form i after after' called family family' s t =
     sym (frames_back family s.in_order) ∙ ap (λ (l : List Context). frames_of l) contexts ∙ frames_back family' t.in_order in
     (λ i. record { contexts = whole i; states = states i }, ap (λ (p : Section × Input). p.1) same)
 
-is_there : (form : Form) (i after : Input) (called : Name) (family : Contents) (place : ℕ) → IsSectionOf form i called family after → HasNoSection form i called place → ⊥
+pub is_there : (form : Form) (i after : Input) (called : Name) (family : Contents) (place : ℕ) → IsSectionOf form i called family after → HasNoSection form i called place → ⊥
 is_there form i after called family place s (not_read p at) = no_answer (section_of called family, after) p (sym s.is_read ∙ at)
 is_there form i after called family place s (of_another t end at differs) =
     differs (ap (λ (p : Section × Input). p.0.name) (one_answer (t, end) (section_of called family, after) (sym at ∙ s.is_read)))

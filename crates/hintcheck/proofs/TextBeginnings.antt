@@ -4,10 +4,6 @@ use Rattle.std.specs.Io.KnownBytes.{Appends}
 use Rattle.std.proofs.KnownBytes.{Appends-nil, Appends-trans}
 use Rattle.tt_stream.specs.Streams.{AppendsBeginning}
 
--- nothing is a beginning of any text
-pub begins_any : (w : Option (List ℕ)) (text : List ℕ) → AppendsBeginning w w text
-begins_any w text = record { count = 0; appended = Appends-nil w }
-
 pub begins_nothing : (w : Option (List ℕ)) → AppendsBeginning w w []
 begins_nothing w = record { count = 0; appended = Appends-nil w }
 

@@ -13,6 +13,7 @@ use Rattle.tt_cert.specs.Forms.{most_contexts}
 use Rattle.tt_cert.specs.Readers.{Input, place_after}
 use Rattle.tt_cert.specs.Reading.{section_at}
 use Rattle.tt_cert.specs.Rules.{EachAfter, EntryFits, Fits, ListFits, StorageFits, StoredFits}
+use Rattle.tt_cert.specs.Families.{family_text}
 use Rattle.tt_cert.specs.Sections.{Entry, Section, section_of}
 use Rattle.tt_cert.specs.Text.{header_text, section_text}
 use Rattle.tt_cert.specs.declared.form.Form.{Form}
@@ -28,8 +29,8 @@ use Rattle.hintcheck.specs.Programs.{Subject}
 use Rattle.hintcheck.specs.UpgradeFaults.{ComesTo}
 use Rattle.hintcheck.specs.declared.certificate_upgrade.UpgradeFault.{UpgradeFault}
 use Rattle.hintcheck.specs.declared.certificate_upgrade.UpgradeFault.TheVariants as upgrade
-use Rattle.hintcheck.specs.Upgrades.{AreRead, BeginWith, IsNext, IsUpgradeOf, UpgradesTo, followed, header_in, name_at, no_font, no_header, no_section, none, one_more, section_texts, upgraded}
-use Rattle.hintcheck.proofs.OneFinding.{fails_not, no_answer, none as nothing, one_answer, one_refuses, some_refused}
+use Rattle.hintcheck.specs.Upgrades.{AreCertificate, AreRead, BeginWith, IsNumberOfPrograms, IsUpgradeOf, KeepsFamilies, UpgradesTo, family_texts, followed, header_in, name_at, no_font, no_header, no_section, none, one_more, upgraded}
+use Rattle.hintcheck.proofs.OneFinding.{fails_not, is_there, no_answer, none as nothing, one_answer, one_refuses, one_section, some_refused}
 
 -- a good family is its own good filling
 
@@ -110,48 +111,50 @@ read_anew form i after called family section bytes lt =
 -- glyph programs
 
 pub record AreAllRead (form : Form) (font : Font) (functions : List (ℕ × ℕ)) (id : ℕ) (gs : List GlyphData) (i : Input) : Type 0 where
-  pub sections : List Section
+  pub families : List Contents
   pub end : Input
-  pub are_read : AreRead form (suc (suc id)) i sections end
-  pub all : length sections ≡ length gs
+  pub are_read : AreRead form (suc (suc id)) i families end
+  pub all : length families ≡ length gs
   pub ended : end.bytes ≡ []
-  pub anew : (at : ℕ) → at < 2 ^ 64 → AreChecked Four font functions id gs (here at (section_texts sections)) (Ok [])
+  pub anew : (at : ℕ) → at < 2 ^ 64 → AreChecked Four font functions id gs (here at (family_texts (suc (suc id)) families)) (Ok [])
 
 all_read : (form : Form) (font : Font) (functions : List (ℕ × ℕ)) (id : ℕ) (gs : List GlyphData) (i : Input) (f : Finding) → AreChecked form font functions id gs i f → f ≡ nothing
     → AreBytes i.bytes → i.place < 2 ^ 64 → AreAllRead form font functions id gs i
 all_read form font functions id gs i f (at_end n j ended) e bytes lt =
-    record { sections = []; end = j; are_read = none (suc (suc n)) j; all = refl; ended = ended; anew = λ at below. at_end n (here at []) refl }
+    record { families = []; end = j; are_read = none (suc (suc n)) j; all = refl; ended = ended; anew = λ at below. at_end n (here at []) refl }
 all_read form font functions id gs i f (followed_by n j more) e bytes lt = absurd (fails_not j.place e)
 all_read form font functions id gs i f (no_section_there n x xs j place absent) e bytes lt = absurd (fails_not place e)
 all_read form font functions id gs i f (refused n x xs j after family r finding section refusal rest) e bytes lt = absurd (some_refused r finding e)
 all_read form font functions id gs i f (passed n x xs j after family is finding section passes rest) e bytes lt =
-    let s : Section = section_of (name.Glyph n) family in
+    let text : List ℕ = family_text Four (name.Glyph n) family in
     let read = read_anew form j after (name.Glyph n) family section bytes lt in
     let others = all_read form font functions (n + 1) xs after finding rest e read.bytes read.place in
     let number : suc (suc (n + 1)) ≡ suc (suc n) + 1 = omega arith in
-    let A : ℕ → Type 0 = λ m. AreRead form m after others.sections others.end in
+    let A : ℕ → Type 0 = λ m. AreRead form m after others.families others.end in
     record {
-      sections = s ∷ others.sections;
+      families = family ∷ others.families;
       end = others.end;
-      are_read = one_more (suc (suc n)) j after others.end s others.sections (record { is_read = section.is_read; in_turn = refl }) (subst A number others.are_read);
+      are_read = one_more (suc (suc n)) j after others.end family others.families section (subst A number others.are_read);
       all = ap suc others.all;
       ended = others.ended;
       anew = λ at below.
-          let next : ℕ = place_after at (length (section_text Four s)) in
-          passed n x xs (here at (section_text Four s ++ section_texts others.sections)) (here next (section_texts others.sections)) family is (Ok [])
-          (read.anew at (section_texts others.sections) below) (passes_newest form (glyph_subject font functions n x) is family passes)
-          (others.anew next (omega arith));
+          let next : ℕ = place_after at (length text) in
+          let left : List ℕ = family_texts (suc (suc n) + 1) others.families in
+          let C : ℕ → Type 0 = λ m. AreChecked Four font functions (n + 1) xs (here next (family_texts m others.families)) (Ok []) in
+          passed n x xs (here at (text ++ left)) (here next left) family is (Ok [])
+          (read.anew at left below) (passes_newest form (glyph_subject font functions n x) is family passes)
+          (subst C number (others.anew next (omega arith)));
     }
 
 -- the sections of a font's programs
 
 pub record AreSectionsRead (d : FontData) (form : Form) (i : Input) : Type 0 where
-  pub sections : List Section
+  pub families : List Contents
   pub end : Input
-  pub are_read : AreRead form 0 i sections end
-  pub all : length sections ≡ length d.glyphs + 2
+  pub are_read : AreRead form 0 i families end
+  pub all : length families ≡ length d.glyphs + 2
   pub ended : end.bytes ≡ []
-  pub anew : AreSectionsChecked d Four (after_header (section_texts sections)) (Ok [])
+  pub anew : AreSectionsChecked d Four (after_header (family_texts 0 families)) (Ok [])
 
 sections_read : (d : FontData) (form : Form) (i : Input) (f : Finding) → AreSectionsChecked d form i f → f ≡ nothing → AreBytes i.bytes → i.place < 2 ^ 64 → AreSectionsRead d form i
 sections_read d form i f (no_font_section place absent) e bytes lt = absurd (fails_not place e)
@@ -159,24 +162,23 @@ sections_read d form i f (font_refused family after r section refusal) e bytes l
 sections_read d form i f (no_cvt_section family after fi functions place section passes absent) e bytes lt = absurd (fails_not place e)
 sections_read d form i f (cvt_refused family other after end fi functions r section passes next refusal) e bytes lt = absurd (one_refuses r e)
 sections_read d form i f (both_passed family other after end fi pi functions known glyphs section passes next passes_too checked) e bytes lt =
-    let s : Section = section_of name.Font family in
-    let t : Section = section_of name.Cvt other in
+    let s : List ℕ = family_text Four name.Font family in
+    let t : List ℕ = family_text Four name.Cvt other in
     let read = read_anew form i after name.Font family section bytes lt in
     let read_too = read_anew form after end name.Cvt other next read.bytes read.place in
     let others = all_read form (font_of d fi pi) known 0 d.glyphs end glyphs checked e read_too.bytes read_too.place in
-    let rest : List ℕ = section_texts others.sections in
-    let after_font : ℕ = place_after 10 (length (section_text Four s)) in
-    let after_cvt : ℕ = place_after after_font (length (section_text Four t)) in
+    let rest : List ℕ = family_texts 2 others.families in
+    let after_font : ℕ = place_after 10 (length s) in
+    let after_cvt : ℕ = place_after after_font (length t) in
     let all = others.all in
     record {
-      sections = s ∷ (t ∷ others.sections);
+      families = family ∷ (other ∷ others.families);
       end = others.end;
-      are_read = one_more 0 i after others.end s (t ∷ others.sections) (record { is_read = section.is_read; in_turn = refl })
-          (one_more 1 after end others.end t others.sections (record { is_read = next.is_read; in_turn = refl }) others.are_read);
+      are_read = one_more 0 i after others.end family (other ∷ others.families) section (one_more 1 after end others.end other others.families next others.are_read);
       all = omega arith;
       ended = others.ended;
-      anew = both_passed family other (here after_font (section_text Four t ++ rest)) (here after_cvt rest) fi pi functions known (Ok [])
-          (read.anew 10 (section_text Four t ++ rest) (omega arith)) (ends_newest form (font_subject d) fi family functions passes)
+      anew = both_passed family other (here after_font (t ++ rest)) (here after_cvt rest) fi pi functions known (Ok [])
+          (read.anew 10 (t ++ rest) (omega arith)) (ends_newest form (font_subject d) fi family functions passes)
           (read_too.anew after_font rest (omega arith)) (ends_newest form (cvt_subject d fi functions) pi other known passes_too)
           (others.anew after_cvt (omega arith));
     }
@@ -198,53 +200,43 @@ accepted d bytes f (sections_checked form after finding at checked) e are =
 
 -- reading one after the other comes to one end
 
-one_next : (form : Form) (i after after' : Input) (s s' : Section) → section_at form i ≡ Ok (s, after) → section_at form i ≡ Ok (s', after') → (s ≡ s') × (after ≡ after')
-one_next form i after after' s s' e e' =
-    let same = one_answer (s, after) (s', after') (sym e ∙ e') in
-    (ap (λ (p : Section × Input). p.0) same, ap (λ (p : Section × Input). p.1) same)
-
-one_reading : (form : Form) (m : ℕ) (i end end' : Input) (xs ys : List Section) → AreRead form m i xs end → AreRead form m i ys end' → length xs ≡ length ys → (xs ≡ ys) × (end ≡ end')
+one_reading : (form : Form) (m : ℕ) (i end end' : Input) (xs ys : List Contents) → AreRead form m i xs end → AreRead form m i ys end' → length xs ≡ length ys → (xs ≡ ys) × (end ≡ end')
 one_reading form m i end end' xs ys (none n j) (none n' j') long = (refl, refl)
-one_reading form m i end end' xs ys (none n j) (one_more n' j' after' last' s' others' next' more') long = absurd (omega arith)
-one_reading form m i end end' xs ys (one_more n j after last s others next more) (none n' j') long = absurd (omega arith)
-one_reading form m i end end' xs ys (one_more n j after last s others next more) (one_more n' j' after' last' s' others' next' more') long =
-    let same = one_next form j after after' s s' next.is_read next'.is_read in
+one_reading form m i end end' xs ys (none n j) (one_more n' j' after' last' family' others' next' more') long = absurd (omega arith)
+one_reading form m i end end' xs ys (one_more n j after last family others next more) (none n' j') long = absurd (omega arith)
+one_reading form m i end end' xs ys (one_more n j after last family others next more) (one_more n' j' after' last' family' others' next' more') long =
+    let same = one_section form j after after' (name_at n) family family' next next' in
     let A : Input → Type 0 = λ a. AreRead form (n + 1) a others' last' in
     let rest = one_reading form (n + 1) after last last' others others' more (subst A (sym same.1) more') (omega arith) in
     ((λ k. same.0 k ∷ rest.0 k), rest.1)
 
 -- where fewer were read than can be, there is a next one
-next_there : (form : Form) (m : ℕ) (i at end : Input) (xs ys : List Section) → AreRead form m i xs at → AreRead form m i ys end → length xs < length ys
-    → (s : Section) × (after : Input) × IsNext form (m + length xs) at s after
+next_there : (form : Form) (m : ℕ) (i at end : Input) (xs ys : List Contents) → AreRead form m i xs at → AreRead form m i ys end → length xs < length ys
+    → (family : Contents) × (after : Input) × IsSectionOf form at (name_at (m + length xs)) family after
 next_there form m i at end xs ys (none n j) (none n' j') few = absurd (omega arith)
-next_there form m i at end xs ys (none n j) (one_more n' j' after' last' s' others' next' more') few =
+next_there form m i at end xs ys (none n j) (one_more n' j' after' last' family' others' next' more') few =
     let number : n ≡ n + 0 = omega arith in
-    let N : ℕ → Type 0 = λ k. IsNext form k j s' after' in
-    (s', after', subst N number next')
-next_there form m i at end xs ys (one_more n j after last s others next more) (none n' j') few = absurd (omega arith)
-next_there form m i at end xs ys (one_more n j after last s others next more) (one_more n' j' after' last' s' others' next' more') few =
-    let same = one_next form j after after' s s' next.is_read next'.is_read in
+    let N : ℕ → Type 0 = λ k. IsSectionOf form j (name_at k) family' after' in
+    (family', after', subst N number next')
+next_there form m i at end xs ys (one_more n j after last family others next more) (none n' j') few = absurd (omega arith)
+next_there form m i at end xs ys (one_more n j after last family others next more) (one_more n' j' after' last' family' others' next' more') few =
+    let same = one_section form j after after' (name_at n) family family' next next' in
     let A : Input → Type 0 = λ a. AreRead form (n + 1) a others' last' in
     let (t, beyond, is) = next_there form (n + 1) after last last' others others' more (subst A (sym same.1) more') (omega arith) in
     let number : n + 1 + length others ≡ n + suc (length others) = omega arith in
-    let N : ℕ → Type 0 = λ k. IsNext form k last t beyond in
+    let N : ℕ → Type 0 = λ k. IsSectionOf form last (name_at k) t beyond in
     (t, beyond, subst N number is)
-
-is_there : (form : Form) (number : ℕ) (i after : Input) (s : Section) (place : ℕ) → IsNext form number i s after → HasNoSection form i (name_at number) place → ⊥
-is_there form number i after s place next (not_read p at) = no_answer (s, after) p (sym next.is_read ∙ at)
-is_there form number i after s place next (of_another t end at differs) =
-    differs (sym (ap (λ (x : Section). x.name) (one_next form i after end s t next.is_read at).0) ∙ next.in_turn)
 
 -- the new certificate
 
 -- a certificate that begins with other sections than those that are read would have another header
-begins_so : (d : FontData) (bytes : List ℕ) (form : Form) (count : ℕ) (sections : List Section) (at : Input) (a : AreAccepted d bytes) → BeginWith bytes form count sections at
-    → (count ≡ length d.glyphs + 2) × (form ≡ a.form) × AreRead a.form 0 (after_header a.after.bytes) sections at
-begins_so d bytes form count sections at a b =
+begins_so : (d : FontData) (bytes : List ℕ) (form : Form) (count : ℕ) (families : List Contents) (at : Input) (a : AreAccepted d bytes) → BeginWith bytes form count families at
+    → (count ≡ length d.glyphs + 2) × (form ≡ a.form) × AreRead a.form 0 (after_header a.after.bytes) families at
+begins_so d bytes form count families at a b =
     let same = one_answer ((form, count), b.after) ((a.form, length d.glyphs + 2), a.after) (sym b.header ∙ a.header) in (
       ap (λ (p : (Form × ℕ) × Input). p.0.1) same,
       ap (λ (p : (Form × ℕ) × Input). p.0.0) same,
-      subst (λ (p : (Form × ℕ) × Input). AreRead p.0.0 0 (after_header p.1.bytes) sections at) same b.are_read,
+      subst (λ (p : (Form × ℕ) × Input). AreRead p.0.0 0 (after_header p.1.bytes) families at) same b.are_read,
     )
 
 pub upgrade_passes : (d : FontData) (bytes text : List ℕ) → AreBytes bytes → IsUpgradeOf bytes text → IsChecked d bytes (Ok []) → IsChecked d text (Ok [])
@@ -252,21 +244,61 @@ upgrade_passes d bytes text are is checked =
     let a = accepted d bytes (Ok []) checked refl are in
     let begin = is.old.begin in
     let few = begin.programs.few in
-    let (count, form, read) = begins_so d bytes is.old.form (length is.sections) is.sections is.old.end a begin in
-    let long : length is.sections ≡ length a.read.sections = count ∙ sym a.read.all in
-    let same = (one_reading a.form 0 (after_header a.after.bytes) is.old.end a.read.end is.sections a.read.sections read a.read.are_read long).0 in
+    let (count, form, read) = begins_so d bytes is.old.form (length is.families) is.families is.old.end a begin in
+    let long : length is.families ≡ length a.read.families = count ∙ sym a.read.all in
+    let same = (one_reading a.form 0 (after_header a.after.bytes) is.old.end a.read.end is.families a.read.families read a.read.are_read long).0 in
     let n : ℕ = length d.glyphs + 2 in
-    let rest : List ℕ = section_texts a.read.sections in
-    let text_is : text ≡ header_text Four n ++ rest = is.text_is ∙ (λ k. header_text Four (count k) ++ section_texts (same k)) in
+    let rest : List ℕ = family_texts 0 a.read.families in
+    let text_is : text ≡ header_text Four n ++ rest = is.text_is ∙ (λ k. header_text Four (count k) ++ family_texts 0 (same k)) in
     let after : Input = here (place_after 0 (length (header_text Four n))) rest in
     let header : header_in (header_text Four n ++ rest) ≡ Ok ((Four, n), after) = header_codec.again (Four, n) 0 rest (omega arith) (omega arith) in
     let P : List ℕ → Type 0 = λ l. IsChecked d l (Ok []) in
     subst P (sym text_is) (sections_checked Four after (Ok []) header a.read.anew)
 
+-- the families of the new certificate
+
+record AreReadAnew (number at : ℕ) (families : List Contents) : Type 0 where
+  end : Input
+  are_read : AreRead Four number (here at (family_texts number families)) families end
+  ended : end.bytes ≡ []
+
+read_again : (form : Form) (number : ℕ) (i end : Input) (families : List Contents) → AreRead form number i families end → AreBytes i.bytes → i.place < 2 ^ 64 → (at : ℕ) → at < 2 ^ 64
+    → AreReadAnew number at families
+read_again form number i end families (none n j) bytes lt at below = record { end = here at []; are_read = none n (here at []); ended = refl }
+read_again form number i end families (one_more n j after last family others next more) bytes lt at below =
+    let text : List ℕ = family_text Four (name_at n) family in
+    let read = read_anew form j after (name_at n) family next bytes lt in
+    let beyond : ℕ = place_after at (length text) in
+    let left : List ℕ = family_texts (n + 1) others in
+    let rest = read_again form (n + 1) after last others more read.bytes read.place beyond (omega arith) in
+    record { end = rest.end; are_read = one_more n (here at (text ++ left)) (here beyond left) rest.end family others (read.anew at left below) rest.are_read; ended = rest.ended }
+
+pub keeps_families : (bytes text : List ℕ) → AreBytes bytes → IsUpgradeOf bytes text → KeepsFamilies bytes text
+keeps_families bytes text are is =
+    let begin = is.old.begin in
+    let few = begin.programs.few in
+    let n : ℕ = length is.families in
+    let t = header_codec.takes (here 0 bytes) (is.old.form, n) begin.after begin.header are (omega arith) in
+    let read = read_again is.old.form 0 (after_header begin.after.bytes) is.old.end is.families begin.are_read t.2 (omega arith) 10 (omega arith) in
+    let rest : List ℕ = family_texts 0 is.families in
+    let after : Input = here (place_after 0 (length (header_text Four n))) rest in
+    let header : header_in (header_text Four n ++ rest) ≡ Ok ((Four, n), after) = header_codec.again (Four, n) 0 rest (omega arith) (omega arith) in
+    let C : List ℕ → Type 0 = λ l. AreCertificate l is.families in
+    record {
+      families = is.families;
+      before = is.old;
+      after = subst C (sym is.text_is) (record {
+        form = Four;
+        end = read.end;
+        begin = record { after = after; header = header; programs = begin.programs; are_read = read.are_read; few = begin.few };
+        ended = read.ended;
+      });
+    }
+
 -- bytes by which a font is accepted are a certificate
 
 pub accepted_is_old : (d : FontData) (bytes : List ℕ) (r : Result ℕ ℕ) (place : ℕ) → AreBytes bytes → length d.glyphs < 2 ^ 16 → IsChecked d bytes (Ok []) → UpgradesTo bytes r → r ≡ Err place → ⊥
-accepted_is_old d bytes r place are lt checked (upgraded sections certificate) e = cc
+accepted_is_old d bytes r place are lt checked (upgraded families certificate) e = cc
 accepted_is_old d bytes r place are lt checked (no_header at fails) e =
     let a = accepted d bytes (Ok []) checked refl are in
     no_answer ((a.form, length d.glyphs + 2), a.after) at (sym a.header ∙ fails)
@@ -275,19 +307,19 @@ accepted_is_old d bytes r place are lt checked (no_font form count after header 
     let same = one_answer ((form, count), after) ((a.form, length d.glyphs + 2), a.after) (sym header ∙ a.header) in
     let count_is : count ≡ length d.glyphs + 2 = ap (λ (p : (Form × ℕ) × Input). p.0.1) same in
     other (record { some = omega arith; few = omega arith })
-accepted_is_old d bytes r place are lt checked (no_section form count sections at broken begin few absent) e =
+accepted_is_old d bytes r place are lt checked (no_section form count families at broken begin few absent) e =
     let a = accepted d bytes (Ok []) checked refl are in
-    let (count_is, form_is, read) = begins_so d bytes form count sections at a begin in
+    let (count_is, form_is, read) = begins_so d bytes form count families at a begin in
     let all = a.read.all in
-    let (s, after, next) = next_there a.form 0 (after_header a.after.bytes) at a.read.end sections a.read.sections read a.read.are_read (omega arith) in
-    let number : 0 + length sections ≡ length sections = omega arith in
-    let N : ℕ → Type 0 = λ k. IsNext a.form k at s after in
-    let H : Form → Type 0 = λ f. HasNoSection f at (name_at (length sections)) broken in
-    is_there a.form (length sections) at after s broken (subst N number next) (subst H form_is absent)
-accepted_is_old d bytes r place are lt checked (followed form sections at begin more) e =
+    let (family, after, next) = next_there a.form 0 (after_header a.after.bytes) at a.read.end families a.read.families read a.read.are_read (omega arith) in
+    let number : 0 + length families ≡ length families = omega arith in
+    let N : ℕ → Type 0 = λ k. IsSectionOf a.form at (name_at k) family after in
+    let H : Form → Type 0 = λ f. HasNoSection f at (name_at (length families)) broken in
+    is_there a.form at after (name_at (length families)) family broken (subst N number next) (subst H form_is absent)
+accepted_is_old d bytes r place are lt checked (followed form families at begin more) e =
     let a = accepted d bytes (Ok []) checked refl are in
-    let (count, form_is, read) = begins_so d bytes form (length sections) sections at a begin in
-    let same = one_reading a.form 0 (after_header a.after.bytes) at a.read.end sections a.read.sections read a.read.are_read (count ∙ sym a.read.all) in
+    let (count, form_is, read) = begins_so d bytes form (length families) families at a begin in
+    let same = one_reading a.form 0 (after_header a.after.bytes) at a.read.end families a.read.families read a.read.are_read (count ∙ sym a.read.all) in
     more (ap (λ (i : Input). i.bytes) same.1 ∙ a.read.ended)
 
 -- so where the check refuses nothing, an upgrade that isn't refused for its form writes what is asked

@@ -6,7 +6,8 @@ use Rattle.std.proofs.lemmas.List.{length-append}
 use Rattle.tt_cert.specs.Answers.{GivesHeader, StopsAtEnd, input_at}
 use Rattle.tt_cert.specs.Readers.{Input, place_after}
 use Rattle.tt_cert.specs.Reading.{header_at, section_at}
-use Rattle.tt_cert.specs.Sections.{Section}
+use Rattle.tt_family.specs.Contents.{Contents}
+use Rattle.tt_cert.specs.Sections.{section_of}
 use Rattle.tt_cert.specs.declared.fault.DecodeFault.{DecodeFault}
 use Rattle.tt_cert.specs.declared.fault.DecodeFault.TheVariants as decode
 use Rattle.tt_cert.specs.declared.fault.EncodeFault.{EncodeFault}
@@ -23,18 +24,18 @@ use Rattle.hintcheck.specs.declared.certificate_upgrade.UpgradeFault.TheVariants
 use Rattle.hintcheck.proofs.FailedReads.{header_is_ten, header_steady, known_front, section_steady}
 use Rattle.hintcheck.proofs.UpgradeSteps.{all_upgraded, section_lacks}
 
--- sections that were read, whatever follows
+-- families that were read, whatever follows
 
-record ReadAlways (form : Form) (number : ℕ) (i : Input) (sections : List Section) (at : Input) : Type 0 where
+record ReadAlways (form : Form) (number : ℕ) (i : Input) (families : List Contents) (at : Input) : Type 0 where
   front : List ℕ
   parts : i.bytes ≡ front ++ at.bytes
   further : (n : ℕ) → place_after at.place n ≡ place_after i.place (length front + n)
-  again : (rest : List ℕ) → AreRead form number (here i.place (front ++ rest)) sections (here at.place rest)
+  again : (rest : List ℕ) → AreRead form number (here i.place (front ++ rest)) families (here at.place rest)
 
-read_always : (form : Form) (number : ℕ) (i : Input) (sections : List Section) (at : Input) → AreRead form number i sections at → ReadAlways form number i sections at
-read_always form number i sections at (none n j) = record { front = []; parts = refl; further = λ n. ap (place_after i.place) (sym (zero-add n)); again = λ rest. none number (here i.place rest) }
-read_always form number i sections at (one_more n j after end s others next more) =
-    let t = (section_steady form).takes i s after next.is_read in
+read_always : (form : Form) (number : ℕ) (i : Input) (families : List Contents) (at : Input) → AreRead form number i families at → ReadAlways form number i families at
+read_always form number i families at (none n j) = record { front = []; parts = refl; further = λ n. ap (place_after i.place) (sym (zero-add n)); again = λ rest. none number (here i.place rest) }
+read_always form number i families at (one_more n j after end family others next more) =
+    let t = (section_steady form).takes i (section_of (name_at number) family) after next.is_read in
     let r = read_always form (number + 1) after others at more in
     record {
       front = t.front ++ r.front;
@@ -43,10 +44,10 @@ read_always form number i sections at (one_more n j after end s others next more
           let long : length t.front + (length r.front + n) ≡ length (t.front ++ r.front) + n = omega (arith, length-append t.front r.front) in
           r.further n ∙ t.further (length r.front + n) ∙ ap (place_after i.place) long;
       again = λ rest.
-          let A : List ℕ → Type 0 = λ l. AreRead form number (here i.place l) (s ∷ others) (here at.place rest) in
+          let A : List ℕ → Type 0 = λ l. AreRead form number (here i.place l) (family ∷ others) (here at.place rest) in
           subst A (sym (append_assoc t.front r.front rest))
-          (one_more number (here i.place (t.front ++ (r.front ++ rest))) (here after.place (r.front ++ rest)) (here at.place rest) s others
-          (record { is_read = t.again (r.front ++ rest); in_turn = next.in_turn }) (r.again rest));
+          (one_more number (here i.place (t.front ++ (r.front ++ rest))) (here after.place (r.front ++ rest)) (here at.place rest) family others
+          (record { in_order = next.in_order; is_read = t.again (r.front ++ rest) }) (r.again rest));
     }
 
 -- a read failed in a section
@@ -62,7 +63,7 @@ pub encode_no_read : (old new : Option (List ℕ)) (Is : List ℕ → Type 0) (e
 encode_no_read old new Is encode.Write = tt
 encode_no_read old new Is (encode.OutOfMemory error) = tt
 
--- after the sections before it
+-- after the families before it
 pub lack_after : (form : Form) (k count place at : ℕ) (old mid new : Option (List ℕ)) (a b : Option (List ℕ)) (e : UpgradeFault) → k < count
     → (IsTold old → IsTold mid × AreUpgraded form 0 k (input_at place old) (input_at at mid) a b)
     → HasReadOld mid new (λ front. HasNoSection form (input_at at (Some front)) (name_at k) (place_after at (length front))) e
@@ -72,17 +73,17 @@ lack_after form k count place at old mid new a b upgrade.Write lt before has = t
 lack_after form k count place at old mid new a b (upgrade.OutOfMemory error) lt before has = tt
 lack_after form k count place at old mid new a b upgrade.Read lt before has = λ told.
     let (told', done) = before told in
-    let r = read_always form 0 (input_at place old) done.sections (input_at at mid) done.are_read in
+    let r = read_always form 0 (input_at place old) done.families (input_at at mid) done.are_read in
     let (front, consumed, absent) = has told' in
     let all = done.all in
-    let number : k ≡ 0 + length done.sections = omega arith in
+    let number : k ≡ 0 + length done.families = omega arith in
     let there : place_after at (length front) ≡ place_after place (length (r.front ++ front)) =
     r.further (length front) ∙ ap (place_after place) (sym (length-append r.front front)) in
     let H : ℕ → Type 0 = λ m. HasNoSection form (input_at at (Some front)) (name_at m) (place_after place (length (r.front ++ front))) in
     let P : ℕ → Type 0 = λ p. HasNoSection form (input_at at (Some front)) (name_at k) p in (
       r.front ++ front,
       Consumes-trans old mid new r.front front (known_front old mid r.front place at told told' r.parts) consumed,
-      record { sections = done.sections; at = input_at at (Some front); are_read = r.again front; few = omega arith; absent = subst H number (subst P there absent) },
+      record { families = done.families; at = input_at at (Some front); are_read = r.again front; few = omega arith; absent = subst H number (subst P there absent) },
     )
 
 -- a read failed in the header
@@ -147,10 +148,10 @@ old_end_not_read old mid last new form count place a b (decode.OutOfMemory error
 old_end_not_read old mid last new form count place a b decode.Read gives programs done kept = λ told.
     let h = header_always old mid form count told gives in
     let (told', all) = done (gives told).0 in
-    let r = read_always form 0 (input_at 10 mid) all.sections (input_at place last) all.are_read in
+    let r = read_always form 0 (input_at 10 mid) all.families (input_at place last) all.are_read in
     let read = known_front mid last r.front 10 place (gives told).0 told' r.parts in
     let rest : AreUpgraded form 0 count (input_at 10 (Some (r.front ++ []))) (input_at place (Some [])) a b =
-    record { sections = all.sections; are_read = r.again []; all = all.all; written = all.written } in
+    record { families = all.families; are_read = r.again []; all = all.all; written = all.written } in
     let U : List ℕ → Type 0 = λ l. AreUpgraded form 0 count (input_at 10 (Some l)) (input_at place (Some [])) a b in
     let whole = subst U (append-nil r.front) rest in
     let none_left : Consumes last new [] = consumes_none last new (kept refl) in

@@ -1,16 +1,15 @@
 -- Sections that are read and written again, one after the other.
-use Rattle.std.proofs.Common.{◌≡◌, ◌≢◌, ℕ, suc, ◌+◌, ◌≤◌, ◌<◌, List, [], ◌∷◌, ◌++◌, length, take_all, Option, Some, None, Ok, Err, refl, sym, ap, subst, arith, append-nil, add-zero, zero-add}
+use Rattle.std.proofs.Common.{◌≡◌, ◌≢◌, ℕ, suc, ◌+◌, ◌≤◌, ◌<◌, List, [], ◌∷◌, ◌++◌, length, take_all, Option, Some, None, Ok, Err, refl, sym, ap, subst, ◌∙◌, arith, append_assoc, append-nil, add-zero, zero-add}
 use Rattle.std.specs.Io.KnownBytes.{Appends, IsAtEnd}
 use Rattle.std.proofs.KnownBytes.{Appends-nil, Appends-trans}
 use Rattle.std.proofs.lemmas.List.{length-append}
-use Rattle.std.proofs.lemmas.List.Concat.{flat_map-append}
 use Rattle.tt_stream.specs.Streams.{AppendsBeginning}
 use Rattle.tt_family.specs.Contents.{Contents}
 use Rattle.tt_cert.specs.Answers.{GivesHeader, IsMore, input_at}
 use Rattle.tt_cert.specs.Readers.{Input}
 use Rattle.tt_cert.specs.Reading.{header_at}
-use Rattle.tt_cert.specs.Sections.{Section, section_of}
-use Rattle.tt_cert.specs.Text.{header_text, section_text}
+use Rattle.tt_cert.specs.Families.{family_text}
+use Rattle.tt_cert.specs.Text.{header_text}
 use Rattle.tt_cert.specs.declared.fault.DecodeFault.{DecodeFault}
 use Rattle.tt_cert.specs.declared.fault.DecodeFault.TheVariants as decode
 use Rattle.tt_cert.specs.declared.form.Form.{Form}
@@ -21,7 +20,7 @@ use Rattle.hintcheck.specs.Certificates.{HasNoSection, IsSectionOf}
 use Rattle.hintcheck.specs.CertificateTexts.{WritesBeginning, WritesText}
 use Rattle.hintcheck.specs.CheckedFonts.{IsTold, bytes_in}
 use Rattle.hintcheck.specs.UpgradeFaults.{ComesTo, CountsReads, CountsWrites, fault_of_old}
-use Rattle.hintcheck.specs.Upgrades.{AreBegun, AreCertificate, AreRead, AreUpgraded, BeginWith, IsNumberOfPrograms, IsUpgradeBegunOf, IsUpgradeOf, LackSection, UpgradesTo, begun, followed, name_at, no_font, no_header, no_section, none, nothing, one_more, section_texts, upgraded}
+use Rattle.hintcheck.specs.Upgrades.{AreBegun, AreCertificate, AreRead, AreUpgraded, BeginWith, IsNumberOfPrograms, IsUpgradeBegunOf, IsUpgradeOf, LackSection, UpgradesTo, begun, followed, name_at, no_font, no_header, no_section, family_texts, none, nothing, one_more, upgraded}
 use Rattle.hintcheck.specs.declared.certificate_upgrade.UpgradeFault.{UpgradeFault}
 use Rattle.hintcheck.specs.declared.certificate_upgrade.UpgradeFault.TheVariants as upgrade
 use Rattle.hintcheck.proofs.TextBeginnings.{begins_nothing, begins_on}
@@ -37,85 +36,96 @@ something_left None place told more = absurd cc
 something_left (Some []) place told more = absurd (omega arith)
 something_left (Some (x ∷ xs)) place told more = λ e. absurd cc
 
--- a section after those before it
+-- a family after those before it
 
-read_on : (form : Form) (n : ℕ) (i j k : Input) (xs ys : List Section) → AreRead form n i xs j → AreRead form (n + length xs) j ys k → AreRead form n i (xs ++ ys) k
+read_on : (form : Form) (n : ℕ) (i j k : Input) (xs ys : List Contents) → AreRead form n i xs j → AreRead form (n + length xs) j ys k → AreRead form n i (xs ++ ys) k
 read_on form n i j k xs ys (none m l) rest =
     let A : ℕ → Type 0 = λ a. AreRead form a l ys k in
     subst A (add-zero m) rest
-read_on form n i j k xs ys (one_more m l after end s others next more) rest =
+read_on form n i j k xs ys (one_more m l after end family others next more) rest =
     let number : m + suc (length others) ≡ m + 1 + length others = omega arith in
     let A : ℕ → Type 0 = λ a. AreRead form a end ys k in
-    one_more m l after k s (others ++ ys) next (read_on form (m + 1) after end k others ys more (subst A number rest))
+    one_more m l after k family (others ++ ys) next (read_on form (m + 1) after end k others ys more (subst A number rest))
+
+texts_on : (n m : ℕ) (xs ys : List Contents) → m ≡ n + length xs → family_texts n (xs ++ ys) ≡ family_texts n xs ++ family_texts m ys
+texts_on n m [] ys is = let same : n ≡ m = omega arith in ap (λ (k : ℕ). family_texts k ys) same
+texts_on n m (x ∷ xs) ys is =
+    let text : List ℕ = family_text Four (name_at n) x in
+    ap (λ (l : List ℕ). text ++ l) (texts_on (n + 1) m xs ys (omega arith)) ∙ sym (append_assoc text (family_texts (n + 1) xs) (family_texts m ys))
 
 pub none_upgraded : (form : Form) (i : Input) (w : Option (List ℕ)) → AreUpgraded form 0 0 i i w w
-none_upgraded form i w = record { sections = []; are_read = none 0 i; all = refl; written = Appends-nil w }
+none_upgraded form i w = record { families = []; are_read = none 0 i; all = refl; written = Appends-nil w }
+
+-- the section of a program, and its text, by the program's number
+in_turn : (form : Form) (number : ℕ) (i after : Input) (called : Name) (family : Contents) → IsSectionOf form i called family after → called ≡ name_at number → IsSectionOf form i (name_at number) family after
+in_turn form number i after called family section same = subst (λ (n : Name). IsSectionOf form i n family after) same section
+
+one_text : (number : ℕ) (called : Name) (family : Contents) → called ≡ name_at number → family_text Four called family ≡ family_texts number (family ∷ [])
+one_text number called family same = ap (λ (n : Name). family_text Four n family) same ∙ sym (append-nil (family_text Four (name_at number) family))
 
 pub one_upgraded : (form : Form) (number : ℕ) (i after : Input) (called : Name) (family : Contents) (old new : Option (List ℕ)) → IsSectionOf form i called family after → called ≡ name_at number
-    → Appends old new (section_text Four (section_of called family)) → AreUpgraded form number 1 i after old new
+    → Appends old new (family_text Four called family) → AreUpgraded form number 1 i after old new
 one_upgraded form number i after called family old new section same appends =
-    let s : Section = section_of called family in
     record {
-      sections = s ∷ [];
-      are_read = one_more number i after after s [] (record { is_read = section.is_read; in_turn = same }) (none (number + 1) after);
+      families = family ∷ [];
+      are_read = one_more number i after after family [] (in_turn form number i after called family section same) (none (number + 1) after);
       all = refl;
-      written = subst (Appends old new) (sym (append-nil (section_text Four s))) appends;
+      written = subst (Appends old new) (one_text number called family same) appends;
     }
 
 pub one_begun : (form : Form) (number : ℕ) (i after : Input) (called : Name) (family : Contents) (old new : Option (List ℕ)) → IsSectionOf form i called family after → called ≡ name_at number
-    → AppendsBeginning old new (section_text Four (section_of called family)) → AreBegun form number 1 i old new
+    → AppendsBeginning old new (family_text Four called family) → AreBegun form number 1 i old new
 one_begun form number i after called family old new section same appends =
-    let s : Section = section_of called family in
     record {
-      sections = s ∷ [];
+      families = family ∷ [];
       at = after;
-      are_read = one_more number i after after s [] (record { is_read = section.is_read; in_turn = same }) (none (number + 1) after);
+      are_read = one_more number i after after family [] (in_turn form number i after called family section same) (none (number + 1) after);
       few = omega arith;
-      written = subst (AppendsBeginning old new) (sym (append-nil (section_text Four s))) appends;
+      written = subst (AppendsBeginning old new) (one_text number called family same) appends;
     }
 
 pub none_begun : (form : Form) (number count : ℕ) (i : Input) (w : Option (List ℕ)) → AreBegun form number count i w w
-none_begun form number count i w = record { sections = []; at = i; are_read = none number i; few = omega arith; written = begins_nothing w }
+none_begun form number count i w = record { families = []; at = i; are_read = none number i; few = omega arith; written = begins_nothing w }
 
 pub upgraded_on : (form : Form) (k : ℕ) (first here there : Input) (a b c : Option (List ℕ)) → AreUpgraded form 0 k first here a b → AreUpgraded form k 1 here there b c
     → AreUpgraded form 0 (k + 1) first there a c
 upgraded_on form k first here there a b c before next =
-    let number : k ≡ 0 + length before.sections = omega (arith, before.all) in
-    let A : ℕ → Type 0 = λ m. AreRead form m here next.sections there in
+    let number : k ≡ 0 + length before.families = omega (arith, before.all) in
+    let A : ℕ → Type 0 = λ m. AreRead form m here next.families there in
     record {
-      sections = before.sections ++ next.sections;
-      are_read = read_on form 0 first here there before.sections next.sections before.are_read (subst A number next.are_read);
-      all = long before.sections next.sections before.all next.all;
-      written = subst (Appends a c) (sym (flat_map-append (section_text Four) before.sections next.sections))
-          (Appends-trans a b c (section_texts before.sections) (section_texts next.sections) before.written next.written);
+      families = before.families ++ next.families;
+      are_read = read_on form 0 first here there before.families next.families before.are_read (subst A number next.are_read);
+      all = long before.families next.families before.all next.all;
+      written = subst (Appends a c) (sym (texts_on 0 k before.families next.families number))
+          (Appends-trans a b c (family_texts 0 before.families) (family_texts k next.families) before.written next.written);
     }
   where
-    long : (xs ys : List Section) → length xs ≡ k → length ys ≡ 1 → length (xs ++ ys) ≡ k + 1
+    long : (xs ys : List Contents) → length xs ≡ k → length ys ≡ 1 → length (xs ++ ys) ≡ k + 1
     long xs ys e f = omega (arith, length-append xs ys)
 
 pub begun_on : (form : Form) (k count : ℕ) (first here : Input) (a b c : Option (List ℕ)) → AreUpgraded form 0 k first here a b → AreBegun form k 1 here b c → k < count
     → AreBegun form 0 count first a c
 begun_on form k count first here a b c before next lt =
-    let number : k ≡ 0 + length before.sections = omega (arith, before.all) in
-    let A : ℕ → Type 0 = λ m. AreRead form m here next.sections next.at in
+    let number : k ≡ 0 + length before.families = omega (arith, before.all) in
+    let A : ℕ → Type 0 = λ m. AreRead form m here next.families next.at in
     let all = before.all in
     let few = next.few in
     record {
-      sections = before.sections ++ next.sections;
+      families = before.families ++ next.families;
       at = next.at;
-      are_read = read_on form 0 first here next.at before.sections next.sections before.are_read (subst A number next.are_read);
-      few = omega (arith, length-append before.sections next.sections);
-      written = subst (AppendsBeginning a c) (sym (flat_map-append (section_text Four) before.sections next.sections))
-          (begins_on a b c (section_texts before.sections) (section_texts next.sections) before.written next.written);
+      are_read = read_on form 0 first here next.at before.families next.families before.are_read (subst A number next.are_read);
+      few = omega (arith, length-append before.families next.families);
+      written = subst (AppendsBeginning a c) (sym (texts_on 0 k before.families next.families number))
+          (begins_on a b c (family_texts 0 before.families) (family_texts k next.families) before.written next.written);
     }
 
 pub lack_next : (form : Form) (k count : ℕ) (first here : Input) (a b : Option (List ℕ)) (place : ℕ) → AreUpgraded form 0 k first here a b → k < count → HasNoSection form here (name_at k) place
     → LackSection form 0 count first place
 lack_next form k count first here a b place before lt absent =
     let all = before.all in
-    let number : k ≡ 0 + length before.sections = omega arith in
+    let number : k ≡ 0 + length before.families = omega arith in
     let H : ℕ → Type 0 = λ m. HasNoSection form here (name_at m) place in
-    record { sections = before.sections; at = here; are_read = before.are_read; few = omega arith; absent = subst H number absent }
+    record { families = before.families; at = here; are_read = before.are_read; few = omega arith; absent = subst H number absent }
 
 -- faults
 
@@ -151,9 +161,9 @@ too_few count lt is = let some = is.some in omega arith
 pub too_many : (count : ℕ) → 65537 < count → IsNumberOfPrograms count → ⊥
 too_many count lt is = let few = is.few in omega arith
 
-begin_with : (old new : Option (List ℕ)) (form : Form) (count : ℕ) (sections : List Section) (at : Input) → GivesHeader old new (Ok (form, count)) (header_at (input_at 0 old))
-    → IsNumberOfPrograms count → AreRead form 0 (input_at 10 new) sections at → length sections ≤ count → IsTold old → BeginWith (bytes_in old) form count sections at
-begin_with old new form count sections at gives programs read few told =
+begin_with : (old new : Option (List ℕ)) (form : Form) (count : ℕ) (families : List Contents) (at : Input) → GivesHeader old new (Ok (form, count)) (header_at (input_at 0 old))
+    → IsNumberOfPrograms count → AreRead form 0 (input_at 10 new) families at → length families ≤ count → IsTold old → BeginWith (bytes_in old) form count families at
+begin_with old new form count families at gives programs read few told =
     let (place, header) = (gives told).1 in
     record { after = input_at place new; header = header; programs = programs; are_read = read; few = few }
 
@@ -175,40 +185,40 @@ pub section_lacks : (old new : Option (List ℕ)) (form : Form) (count place : �
     → LackSection form 0 count (input_at 10 new) place → UpgradesTo (bytes_in old) (Err place)
 section_lacks old new form count place gives programs told lacks =
     let few = lacks.few in
-    let number : 0 + length lacks.sections ≡ length lacks.sections = zero-add (length lacks.sections) in
+    let number : 0 + length lacks.families ≡ length lacks.families = zero-add (length lacks.families) in
     let H : ℕ → Type 0 = λ m. HasNoSection form lacks.at (name_at m) place in
-    no_section form count lacks.sections lacks.at place (begin_with old new form count lacks.sections lacks.at gives programs lacks.are_read (omega arith) told) few (subst H number lacks.absent)
+    no_section form count lacks.families lacks.at place (begin_with old new form count lacks.families lacks.at gives programs lacks.are_read (omega arith) told) few (subst H number lacks.absent)
 
 -- the end
 
 module _ (old new last : Option (List ℕ)) (form : Form) (count place : ℕ) (a b : Option (List ℕ)) (gives : GivesHeader old new (Ok (form, count)) (header_at (input_at 0 old)))
     (programs : IsNumberOfPrograms count) (told : IsTold old) (all : AreUpgraded form 0 count (input_at 10 new) (input_at place last) a b) where
-  whole_begin : BeginWith (bytes_in old) form (length all.sections) all.sections (input_at place last)
+  whole_begin : BeginWith (bytes_in old) form (length all.families) all.families (input_at place last)
   whole_begin =
-      let B : ℕ → Type 0 = λ n. BeginWith (bytes_in old) form n all.sections (input_at place last) in
+      let B : ℕ → Type 0 = λ n. BeginWith (bytes_in old) form n all.families (input_at place last) in
       let long = all.all in
-      subst B (sym all.all) (begin_with old new form count all.sections (input_at place last) gives programs all.are_read (omega arith) told)
+      subst B (sym all.all) (begin_with old new form count all.families (input_at place last) gives programs all.are_read (omega arith) told)
 
-  whole : IsTold last → IsAtEnd last → AreCertificate (bytes_in old) all.sections
+  whole : IsTold last → IsAtEnd last → AreCertificate (bytes_in old) all.families
   whole told_last ended = record { form = form; end = input_at place last; begin = whole_begin; ended = nothing_left last place told_last ended }
 
   pub all_upgraded : IsTold last → IsAtEnd last → UpgradesTo (bytes_in old) (Ok count)
   all_upgraded told_last ended =
       let U : ℕ → Type 0 = λ n. UpgradesTo (bytes_in old) (Ok n) in
-      subst U all.all (upgraded all.sections (whole told_last ended))
+      subst U all.all (upgraded all.families (whole told_last ended))
 
   pub more_follows : IsTold last → IsMore last → UpgradesTo (bytes_in old) (Err place)
-  more_follows told_last more = followed form all.sections (input_at place last) whole_begin (something_left last place told_last more)
+  more_follows told_last more = followed form all.families (input_at place last) whole_begin (something_left last place told_last more)
 
   pub all_written : (w : Option (List ℕ)) → Appends w a (header_text Four count) → IsTold last → IsAtEnd last → WritesText w b (IsUpgradeOf (bytes_in old))
   all_written w header told_last ended = (
-    header_text Four count ++ section_texts all.sections,
+    header_text Four count ++ family_texts 0 all.families,
     record {
-      sections = all.sections;
+      families = all.families;
       old = whole told_last ended;
-      text_is = ap (λ (n : ℕ). header_text Four n ++ section_texts all.sections) (sym all.all);
+      text_is = ap (λ (n : ℕ). header_text Four n ++ family_texts 0 all.families) (sym all.all);
     },
-    Appends-trans w a b (header_text Four count) (section_texts all.sections) header all.written,
+    Appends-trans w a b (header_text Four count) (family_texts 0 all.families) header all.written,
   )
 
 pub followed_by_more : {T : Type 0} (Is : T → Type 0) (e : DecodeFault) (At : ℕ → Type 0) (at : ℕ) (known : Option (List ℕ))
@@ -232,18 +242,18 @@ module _ (old new : Option (List ℕ)) (form : Form) (count : ℕ) (gives : Give
 
   pub sections_begun : (w a b : Option (List ℕ)) → Appends w a (header_text Four count) → AreBegun form 0 count (input_at 10 new) a b → WritesBeginning w b (IsUpgradeBegunOf (bytes_in old))
   sections_begun w a b header part = (
-    header_text Four count ++ section_texts part.sections,
-    begun form count part.sections part.at (begin_with old new form count part.sections part.at gives programs part.are_read part.few told),
-    begins_on w a b (header_text Four count) (section_texts part.sections) header part.written,
+    header_text Four count ++ family_texts 0 part.families,
+    begun form count part.families part.at (begin_with old new form count part.families part.at gives programs part.are_read part.few told),
+    begins_on w a b (header_text Four count) (family_texts 0 part.families) header part.written,
   )
 
 -- all of a text is a beginning of it
 pub all_begun : (form : Form) (count : ℕ) (from at : Input) (a b : Option (List ℕ)) → AreUpgraded form 0 count from at a b → AreBegun form 0 count from a b
 all_begun form count from at a b all =
     let long = all.all in
-    let text : List ℕ = section_texts all.sections in
+    let text : List ℕ = family_texts 0 all.families in
     record {
-      sections = all.sections;
+      families = all.families;
       at = at;
       are_read = all.are_read;
       few = omega arith;

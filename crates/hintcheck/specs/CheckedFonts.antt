@@ -1,5 +1,5 @@
 -- What a check of a font by its certificate finds of the font's programs.
-use Rattle.std.specs.Prelude.{◌≡◌, true, ℕ, List, ◌++◌, Option, Some, is_some, unwrap_or, [], Result, Ok, Err, slice_get}
+use Rattle.std.specs.Prelude.{◌≡◌, true, ℕ, List, ◌++◌, ◌∷◌, Option, Some, is_some, unwrap_or, [], Result, Ok, Err, slice_get}
 use Rattle.tt_code.specs.Cut.{Instruction, size}
 use Rattle.tt_abs.specs.declared.state.State.{State}
 use Rattle.tt_abs.specs.Entries.{Ascends}
@@ -8,7 +8,7 @@ use Rattle.tt_family.specs.GoodFamilies.{IsGoodFamily}
 use Rattle.tt_font.specs.Reading.{FontData, GlyphData}
 use Rattle.hintcheck.specs.FontPrograms.{cvt_subject, font_of, font_subject, glyph_subject, judgement_on}
 use Rattle.hintcheck.specs.Programs.{HasGoodFamily, IsCutInto, Subject}
-use Rattle.hintcheck.specs.Certificates.{Finding, IsCheckRefusal, IsChecked, Passes}
+use Rattle.hintcheck.specs.Certificates.{Finding, IsCheckRefusal, IsChecked, IsSectionOf, Passes, after_header}
 use Rattle.hintcheck.specs.ProgramVerdicts.{IfRefused}
 use Rattle.hintcheck.specs.Verdicts.{Judgement}
 use Rattle.hintcheck.specs.declared.font_check.CheckFontFault.{CheckFontFault}
@@ -17,6 +17,10 @@ use Rattle.hintcheck.specs.declared.report.Refused.{Refused}
 use Rattle.tt_family.specs.Contents.{Contents}
 use Rattle.tt_abs.specs.declared.refusal.Refusal.{Refusal}
 use Rattle.tt_cert.specs.declared.form.Form.{Form}
+use Rattle.tt_cert.specs.declared.name.Name.{Name}
+use Rattle.tt_cert.specs.declared.name.Name.TheVariants as name
+use Rattle.tt_cert.specs.Readers.{Input}
+use Rattle.tt_cert.specs.Reading.{header_at}
 
 -- The program has these instructions, a family of abstract states is good for it, and these
 -- functions are known where it ends.
@@ -81,3 +85,32 @@ IsPassed form x family = (instructions : List Instruction) × Passes form x inst
 -- the verdict on the font by these bytes is what their check comes to
 abbrev pub AnswersFinding : FontData → List ℕ → Judgement → Type 0
 AnswersFinding d bytes v = IsChecked d bytes (Ok v.refused) × (v ≡ judgement_on d v.refused)
+
+-- The bytes begin with a header and the section of the font program, and this follows.
+pub record FollowsFont (bytes : List ℕ) (form : Form) (after : Input) : Type 0 where
+  pub sections : ℕ
+  pub header : Input
+  pub header_is : header_at (record { place = 0; bytes = bytes }) ≡ Ok ((form, sections), header)
+  pub family : Contents
+  pub section : IsSectionOf form (after_header header.bytes) name.Font family after
+
+-- So does the section of the CVT program next, and this follows.
+pub record FollowsCvt (bytes : List ℕ) (form : Form) (after : Input) : Type 0 where
+  pub from : Input
+  pub font : FollowsFont bytes form from
+  pub family : Contents
+  pub section : IsSectionOf form from name.Cvt family after
+
+-- What is left of these bytes where the first refused program has this name: what follows the
+-- section of the font program or the CVT program, and nothing where it is a glyph's.
+abbrev pub IsLeftAfter : List ℕ → Name → Option (List ℕ) → Type 0
+IsLeftAfter bytes name.Font left =
+    (form : Form) × (after : Input) × FollowsFont bytes form after × (left ≡ Some after.bytes)
+IsLeftAfter bytes name.Cvt left =
+    (form : Form) × (after : Input) × FollowsCvt bytes form after × (left ≡ Some after.bytes)
+IsLeftAfter bytes (name.Glyph id) left = left ≡ Some []
+
+-- what a check that refuses these programs leaves of the bytes
+abbrev pub IsLeftBy : List ℕ → List Refused → Option (List ℕ) → Type 0
+IsLeftBy bytes [] left = left ≡ Some []
+IsLeftBy bytes (r ∷ rs) left = IsLeftAfter bytes r.program left

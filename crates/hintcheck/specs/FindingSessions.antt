@@ -11,7 +11,7 @@ use Rattle.tt_find.specs.Found.{AreLeastContexts, HasLeastFilling}
 use Rattle.tt_find.specs.declared.finder.Found.{Found}
 use Rattle.tt_font.specs.Reading.{FontData, GlyphData, Reads}
 use Rattle.hintcheck.specs.CertificateTexts.{IsLeastListing, WritesBeginning}
-use Rattle.hintcheck.specs.FontPrograms.{cvt_subject, font_of, font_subject, glyph_subject}
+use Rattle.hintcheck.specs.FontPrograms.{RefusesNone, cvt_subject, font_of, font_subject, glyph_subject}
 use Rattle.hintcheck.specs.Programs.{IsRefusal, Subject}
 use Rattle.hintcheck.specs.Sessions.{IsLast, Stage, Standing, accepted_as, after_font, at_glyph, at_start, over, refused_as}
 use Rattle.hintcheck.specs.declared.font_check.CheckFontFault.{CheckFontFault}
@@ -121,7 +121,12 @@ pub record IsCertificateBegun (d : FontData) (text : List ℕ) : Type 0 where
   pub first : AreFirstSections d stage sections
   pub text_is : text ≡ header_text Four (length d.glyphs + 2) ++ sections
 
--- nothing is appended, or a beginning of such a text of the font in these bytes
+-- the verdict on the font refuses no program, and a beginning of such a text is appended
+abbrev pub IsBegunFor : FontData → Option (List ℕ) → Option (List ℕ) → Type 0
+IsBegunFor d old new = RefusesNone d × WritesBeginning old new (IsCertificateBegun d)
+
+-- nothing is appended; or the verdict on the font in these bytes refuses no program, and a
+-- beginning of its certificate is
 abbrev pub BeginsCertificate : List ℕ → Option (List ℕ) → Option (List ℕ) → Type 0
 BeginsCertificate bytes old new =
-    (new ≡ old) ⊎ ((d : FontData) × Reads bytes d × WritesBeginning old new (IsCertificateBegun d))
+    (new ≡ old) ⊎ ((d : FontData) × Reads bytes d × IsBegunFor d old new)

@@ -1,12 +1,12 @@
 -- The programs of a font, what it means that they are safe, and what a verdict tells of them.
-use Rattle.std.specs.Prelude.{◌≡◌, ℕ, ◌+◌, ◌≤◌, ◌<◌, ◌^◌, List, [], ◌∷◌, Some, length, slice_get}
+use Rattle.std.specs.Prelude.{◌≡◌, ℕ, ◌+◌, ◌≤◌, List, [], ◌∷◌, Some, length, slice_get}
 use Rattle.tt_code.specs.Cut.{Instruction, IsCut}
 use Rattle.tt_code.specs.Grammar.{IsStructured}
 use Rattle.tt_code.specs.Runs.{NeverFaults}
 use Rattle.tt_code.specs.Fonts.{Font, font_setting, cvt_setting, glyph_setting, StartsFontProgram, StartsCvtProgram, StartsGlyphProgram}
-use Rattle.tt_abs.specs.Ranges.{AreBytes}
 use Rattle.tt_font.specs.Maxp.{limits_of}
-use Rattle.tt_font.specs.Reading.{FontData, GlyphData}
+use Rattle.tt_font.specs.Reading.{FontData, GlyphData, Reads}
+pub use Rattle.tt_font.specs.Ranges.{AreFewBytes, IsFontInRange}
 use Rattle.hintcheck.specs.Programs.{Subject, EndsWith, HasLeastFamily, IsRefusal}
 use Rattle.hintcheck.specs.Verdicts.{Judgement}
 use Rattle.tt_cert.specs.declared.name.Name.TheVariants as name
@@ -21,19 +21,6 @@ font_of d f p = record { limits = d.limits; cvt = d.cvt_count; font_program = f;
 abbrev pub one_glyph_font : List ℕ → ℕ → GlyphData → FontData
 one_glyph_font maxp cvt glyph =
     record { limits = limits_of maxp; cvt_count = cvt; fpgm = []; prep = []; glyphs = glyph ∷ []; component_reads = 0 }
-
--- fewer than 2^31 bytes
-pub record AreFewBytes (xs : List ℕ) : Type 0 where
-  pub bytes : AreBytes xs
-  pub few : length xs < 2 ^ 31
-
--- Each program of the font has fewer than 2^31 bytes, and maxStackElements is a number of 16 bits:
--- so it is with each font that `read_font` gives.
-pub record IsFontInRange (d : FontData) : Type 0 where
-  pub depth : d.limits.stack < 2 ^ 16
-  pub fpgm : AreFewBytes d.fpgm
-  pub prep : AreFewBytes d.prep
-  pub glyphs : (id : ℕ) (g : GlyphData) → slice_get d.glyphs id ≡ Some g → AreFewBytes g.program
 
 -- The glyph's program is no longer than maxSizeOfInstructions, it can be cut, its instructions are
 -- structured, and for every number of steps and every value that is measured, stored or computed,
@@ -106,3 +93,11 @@ pub data IsVerdict (d : FontData) : Judgement → Type 0 where
       → EndsWith (font_subject d) f functions
       → EndsWith (cvt_subject d f functions) p known
       → AreRefused (font_of d f p) known 0 d.glyphs rs → IsVerdict d (judgement_on d rs)
+
+-- the verdict on the font refuses no program
+abbrev pub RefusesNone : FontData → Type 0
+RefusesNone d = (v : Judgement) × IsVerdict d v × (v.refused ≡ [])
+
+-- the same with the font in these bytes
+abbrev pub RefusesNoneIn : List ℕ → Type 0
+RefusesNoneIn bytes = (d : FontData) × Reads bytes d × RefusesNone d

@@ -77,5 +77,4 @@ IsAppendedRefusal called (OutOfMemory e) old new = ⊥
 abbrev pub IsForCertificate : Search → Type 0
 IsForCertificate search.Verdict = ⊥
 IsForCertificate search.Certificate = Unit {0}
-IsForCertificate search.BeforeWriting = ⊥
 IsForCertificate search.Writing = Unit {0}

@@ -9,7 +9,7 @@ ghost use Rattle.tt_font.specs.Reading.{GlyphData, glyph_data};
 ghost use Rattle.tt_font.specs.Conditions.{maxp_fault};
 
 use crate::font::{Common, judge_glyph};
-use crate::program::{Search, list_refused};
+use crate::program::list_refused;
 use crate::report::{Name, Refused, Verdict};
 use std::alloc::{AllocError, Global};
 use tt_abs::Setting;
@@ -61,14 +61,7 @@ fn refused_programs(
     let mut finder = Finder::new(alloc);
     let mut refused = Vec::new(alloc);
     let mut budget = Budget::unlimited();
-    match judge_glyph(
-        alloc,
-        &mut finder,
-        &common,
-        glyph,
-        Search::Verdict,
-        &mut budget,
-    ) {
+    match judge_glyph(alloc, &mut finder, &common, glyph, &mut budget) {
         Ok(()) => {}
         Err(fault) => list_refused(&mut refused, Name::Glyph(0), fault)?,
     }

@@ -1,15 +1,15 @@
-//! The certificate of a font: found, and written where no program is refused.
+//! The certificate of a font: found once more and written, after a verdict that refuses no program.
 
-ghost use Rattle.std.specs.Prelude.{◌≡◌, [], IfErr, IfOk, OnErr, OnOk};
+ghost use Rattle.std.specs.Prelude.{◌≡◌, ◌⊎◌, [], Err, IfErr, IfOk, OnErr, OnOk};
 ghost use Rattle.tt_family.specs.Budgets.{Spends};
 ghost use Rattle.tt_font.specs.FileFaults.{font_fault};
 ghost use Rattle.tt_font.specs.Reading.{FontData, Reads};
 ghost use Rattle.hintcheck.specs.BudgetAnswers.{FindTellsBudget, FindWithinTellsFontFault, IsFindFaultOutsideFont};
 ghost use Rattle.hintcheck.specs.CertificateFaults.{CountsFind, FindTellsFontFault, IsFindFaultOutsideFontAndBudget, WritesNothing};
 ghost use Rattle.hintcheck.specs.CertificateTexts.{IsPassingCertificate, WritesBeginning, WritesText};
-ghost use Rattle.hintcheck.specs.FindingSessions.{BeginsCertificate, IsCertificateBegun};
+ghost use Rattle.hintcheck.specs.FindingSessions.{BeginsCertificate, IsBegunFor, IsCertificateBegun};
 ghost use Rattle.hintcheck.specs.Representation.FontVerdicts.{AreAllRefused};
-ghost use Rattle.hintcheck.specs.FontPrograms.{IsFontInRange, IsSafeFont, IsVerdict};
+ghost use Rattle.hintcheck.specs.FontPrograms.{IsFontInRange, IsSafeFont, IsVerdict, RefusesNone, RefusesNoneIn};
 ghost use Rattle.hintcheck.specs.Representation.SessionStages.{AreSectionsFrom, AreSomeSections};
 ghost use Rattle.hintcheck.specs.Sessions.{at_start};
 
@@ -19,7 +19,7 @@ use crate::report::Verdict;
 use crate::session::Session;
 use std::alloc::{AllocError, Global};
 use thiserror::Error;
-use tt_cert::{EncodeFault, Encoder, write_header};
+use tt_cert::{EncodeFault, Encoder, NEWEST_FORM, write_header};
 use tt_family::Budget;
 use tt_find::Finder;
 use tt_font::{Font, FontFault};
@@ -105,7 +105,7 @@ fn write_sections<W: Sink>(
         Search::Writing,
         budget,
     )? {
-        // No program was refused when the families were first found, so none is now.
+        // The verdict refuses no program, so none is refused as it is found once more.
         let found = found.unwrap();
         found.certificate.order_facts();
         encoder.encode(outcome.program, &found.certificate, sink)?;
@@ -131,12 +131,12 @@ fn write_certificate<W: Sink>(
     ensures font { IfErr result IsFindFaultOutsideFontAndBudget }
     ensures spends { Spends budget.old budget.new }
 {
-    write_header(u32::from(font.glyph_count()) + 2, sink)?;
+    write_header(NEWEST_FORM, u32::from(font.glyph_count()) + 2, sink)?;
     write_sections(alloc, font, sink, budget)
 }
 
-/// Returns the verdict on the programs of a font that was read, whose certificate is written where
-/// no program is refused.
+/// Returns the verdict on the programs of a font that was read, as `verdict` makes it. Where it
+/// refuses no program, each is then found once more, and the certificate is written.
 pub(crate) fn find_programs<W: Sink>(
     alloc: Global,
     font: &Font<'_>,
@@ -147,14 +147,15 @@ pub(crate) fn find_programs<W: Sink>(
     ensures exact { IfOk result (λ v. IsVerdict font.now v) }
     ensures written { IfOk result (λ v. v.refused ≡ []
         → WritesText (W.contents sink.old) (W.contents sink.new) (IsPassingCertificate font.now)) }
-    ensures begun { OnErr result (WritesBeginning (W.contents sink.old) (W.contents sink.new)
-        (IsCertificateBegun font.now)) }
+    ensures begun { OnErr result ((W.contents sink.new ≡ W.contents sink.old)
+        ⊎ IsBegunFor font.now (W.contents sink.old) (W.contents sink.new)) }
     ensures unwritten { IfOk result (WritesNothing (W.contents sink.old) (W.contents sink.new)) }
+    ensures write_fault { result ≡ Err FindFontFault.Write → RefusesNone font.now }
     ensures failures { CountsFind result (W.failures sink.old) (W.failures sink.new) }
     ensures font { IfErr result IsFindFaultOutsideFontAndBudget }
     ensures spends { Spends budget.old budget.new }
 {
-    let refused = refused_programs(alloc, font, Search::BeforeWriting, budget)?;
+    let refused = refused_programs(alloc, font, budget)?;
     if refused.is_empty() {
         write_certificate(alloc, font, sink, budget)?;
     }
@@ -173,9 +174,10 @@ pub(crate) fn find_programs_within<W: Sink>(
     ensures exact { IfOk result (λ v. IsVerdict font.now v) }
     ensures written { IfOk result (λ v. v.refused ≡ []
         → WritesText (W.contents sink.old) (W.contents sink.new) (IsPassingCertificate font.now)) }
-    ensures begun { OnErr result (WritesBeginning (W.contents sink.old) (W.contents sink.new)
-        (IsCertificateBegun font.now)) }
+    ensures begun { OnErr result ((W.contents sink.new ≡ W.contents sink.old)
+        ⊎ IsBegunFor font.now (W.contents sink.old) (W.contents sink.new)) }
     ensures unwritten { IfOk result (WritesNothing (W.contents sink.old) (W.contents sink.new)) }
+    ensures write_fault { result ≡ Err FindFontFault.Write → RefusesNone font.now }
     ensures failures { CountsFind result (W.failures sink.old) (W.failures sink.new) }
     ensures font { IfErr result IsFindFaultOutsideFont }
     ensures spends { Spends budget.old budget.new }
@@ -191,13 +193,15 @@ pub(crate) fn find_programs_within<W: Sink>(
     }
 }
 
-/// Returns the verdict on the programs of a font file, as `verdict` gives it. Where no program is
-/// refused, the font's certificate is written to the sink: the family that was found for each
-/// program, without the states that can be left out. Where one is, nothing is written.
+/// Returns the verdict on the programs of a font file, as `verdict` makes it. Where it refuses no
+/// program, the font's certificate is then written to the sink: the family of each program, which
+/// is found once more, without the states that can be left out. Where it refuses one, nothing is
+/// written.
 ///
 /// # Errors
-/// The faults of `Font::read`; `Write` exactly where a write failed; `OutOfMemory`. With the last
-/// two a beginning of the certificate was written, perhaps an empty one.
+/// The faults of `Font::read`; `Write` exactly where a write failed; `OutOfMemory`. Before the
+/// verdict is made nothing was written, and after a verdict that refuses no program a beginning of
+/// the certificate was, perhaps an empty one.
 pub fn find_font<W: Sink>(
     alloc: Global,
     font: &[u8],
@@ -211,10 +215,12 @@ pub fn find_font<W: Sink>(
         → (d : FontData) × Reads font.now d
         × WritesText (W.contents sink.old) (W.contents sink.new) (IsPassingCertificate d)) }
     ensures unwritten { IfOk result (WritesNothing (W.contents sink.old) (W.contents sink.new)) }
-    // After a fault a beginning of the certificate was written: of the header and of the sections
-    // that were made.
+    // After a fault nothing was written; or the verdict refuses no program, and a beginning of the
+    // certificate was: of the header and of the sections that were made.
     ensures begun { OnErr result
         (BeginsCertificate font.now (W.contents sink.old) (W.contents sink.new)) }
+    // A write fails only where the verdict refuses no program.
+    ensures write_fault { result ≡ Err FindFontFault.Write → RefusesNoneIn font.now }
     ensures failures { CountsFind result (W.failures sink.old) (W.failures sink.new) }
     // A fault of the font is the first one of its bytes, unless memory ran out; any other answer
     // means that they have none.
@@ -226,13 +232,13 @@ pub fn find_font<W: Sink>(
 
 /// Returns the verdict on the programs of a font file and writes its certificate, as `find_font`
 /// does, and makes at most as many points as the budget allows: one point is made each time that a
-/// state is carried on, also where the families are found once more to be written.
+/// state is carried on, to find a family, to check it, or to find it once more.
 ///
 /// # Errors
 /// As `find_font`; `Budget` only where more points were to be made than the budget allows, in this
-/// call or in an earlier one. Then too a beginning of the certificate was written, perhaps an empty
-/// one. A fault of the font or a failed write may come first. A verdict that is returned is right,
-/// whether or not the budget is exceeded.
+/// call or in an earlier one. Then too nothing was written, or after a verdict that refuses no
+/// program a beginning of the certificate. A fault of the font or a failed write may come first. A
+/// verdict that is returned is right, whether or not the budget is exceeded.
 pub fn find_font_within<W: Sink>(
     alloc: Global,
     font: &[u8],
@@ -247,6 +253,7 @@ pub fn find_font_within<W: Sink>(
     ensures unwritten { IfOk result (WritesNothing (W.contents sink.old) (W.contents sink.new)) }
     ensures begun { OnErr result
         (BeginsCertificate font.now (W.contents sink.old) (W.contents sink.new)) }
+    ensures write_fault { result ≡ Err FindFontFault.Write → RefusesNoneIn font.now }
     ensures failures { CountsFind result (W.failures sink.old) (W.failures sink.new) }
     ensures faults { FindWithinTellsFontFault (font_fault font.now) result }
     ensures spends { Spends budget.old budget.new }

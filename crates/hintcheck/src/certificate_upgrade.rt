@@ -9,7 +9,7 @@ ghost use Rattle.hintcheck.specs.Certificates.{HasNoSection, IsChecked};
 ghost use Rattle.hintcheck.specs.CertificateTexts.{WritesBeginning, WritesText};
 ghost use Rattle.hintcheck.specs.CheckedFonts.{IsTold, bytes_in};
 ghost use Rattle.hintcheck.specs.FailedReads.{HasReadOld, IsUnbrokenOld};
-ghost use Rattle.hintcheck.specs.Upgrades.{AreBegun, AreUpgraded, IsNumberOfPrograms, IsUpgradeBegunOf, IsUpgradeOf, LackSection, UpgradesTo, name_at};
+ghost use Rattle.hintcheck.specs.Upgrades.{AreBegun, AreUpgraded, IsNumberOfPrograms, IsUpgradeBegunOf, IsUpgradeOf, KeepsFamilies, LackSection, UpgradesTo, name_at};
 ghost use Rattle.hintcheck.specs.UpgradeFaults.{ComesTo, CountsReads, CountsWrites};
 ghost use Rattle.hintcheck.specs.Representation.ReadProgress.{input_from};
 
@@ -17,7 +17,9 @@ use crate::report::Name;
 use crate::sections::{HEADER, Progress, SECTIONS, next_section};
 use std::alloc::{AllocError, Global};
 use thiserror::Error;
-use tt_cert::{DecodeFault, Decoder, EncodeFault, Encoder, read_end, read_header, write_header};
+use tt_cert::{
+    DecodeFault, Decoder, EncodeFault, Encoder, NEWEST_FORM, read_end, read_form, write_header,
+};
 use tt_stream::{Sink, Source};
 
 /// How many sections a certificate has at least: those of a font program, a CVT program and no
@@ -165,8 +167,8 @@ fn upgrade_sections<S: Source, W: Sink>(
 }
 
 /// Reads a certificate of any form, which is all that is left in the source, and writes one of the
-/// newest form: with the same sections, of the same names and families. Returns how many sections
-/// there are. One of them is held at a time.
+/// newest form, with the same families under the same names. Returns how many sections there are.
+/// One family is held at a time.
 ///
 /// # Errors
 /// `Form` where the bytes are no certificate of any font; `Read` exactly where a read failed;
@@ -184,10 +186,14 @@ pub fn upgrade<S: Source, W: Sink>(
         (λ place. UpgradesTo (bytes_in (S.remaining source.old)) (Err place)) }
     // A font may have this many programs, whatever the source tells.
     ensures number { IfOk result IsNumberOfPrograms }
-    // What is appended is the certificate of form 4 with the sections that were read.
+    // What is appended is the certificate of form 4 with the families that were read.
     ensures written { IsTold (S.remaining source.old)
         → IfOk result (λ _. WritesText (W.contents sink.old) (W.contents sink.new)
         (IsUpgradeOf (bytes_in (S.remaining source.old)))) }
+    // So the old and the new certificate list the same families, under the same names.
+    ensures kept { IsTold (S.remaining source.old) → AreBytes (bytes_in (S.remaining source.old))
+        → IfOk result (λ _. WritesText (W.contents sink.old) (W.contents sink.new)
+        (KeepsFamilies (bytes_in (S.remaining source.old)))) }
     // Where the check of a font by the bytes refuses nothing, they are a certificate, and the check
     // by what is appended refuses nothing either.
     ensures accepts { IsTold (S.remaining source.old) → AreBytes (bytes_in (S.remaining source.old))
@@ -210,11 +216,11 @@ pub fn upgrade<S: Source, W: Sink>(
     ensures reads { CountsReads result (S.failures source.old) (S.failures source.new) }
     ensures writes { CountsWrites result (W.failures sink.old) (W.failures sink.new) }
 {
-    let (form, count) = read_header(source)?;
+    let (form, count) = read_form(source)?;
     if count < FEWEST || count > MOST {
         return Err(UpgradeFault::Form(SECTIONS));
     }
-    write_header(count, sink)?;
+    write_header(NEWEST_FORM, count, sink)?;
     let mut progress = Progress {
         form,
         place: HEADER,

@@ -224,7 +224,7 @@ fn judge_glyph_program(
     ensures faults { IfErr result (λ fault. fault ≡ CommandFault.OutOfMemory) }
 {
     let mut budget = Budget::unlimited();
-    match judge_glyph(alloc, finder, common, glyph, Search::Verdict, &mut budget) {
+    match judge_glyph(alloc, finder, common, glyph, &mut budget) {
         Ok(()) => Ok(true),
         Err(fault) => refused_by(fault),
     }

@@ -181,7 +181,6 @@ pub(crate) fn judge_glyph(
     finder: &mut Finder,
     common: &Common<'_>,
     glyph: &GlyphPart<'_>,
-    search: Search,
     budget: &mut Budget,
 ) -> Result<(), Refusal>
     requires few { length glyph.now.program.now < 2 ^ 31 }
@@ -198,7 +197,7 @@ pub(crate) fn judge_glyph(
     if glyph.program.is_empty() {
         return Ok(());
     }
-    let found = find_glyph_program(alloc, finder, common, glyph, search, budget)?;
+    let found = find_glyph_program(alloc, finder, common, glyph, Search::Verdict, budget)?;
     finder.take_back(found.certificate);
     Ok(())
 }
@@ -209,7 +208,6 @@ fn refused_glyphs(
     finder: &mut Finder,
     font: &Font<'_>,
     common: &Common<'_>,
-    search: Search,
     budget: &mut Budget,
 ) -> Result<Vec<Refused>, AllocError>
     requires range { IsFontInRange font.now }
@@ -222,7 +220,7 @@ fn refused_glyphs(
     let mut refused = Vec::new(alloc);
     for id in 0..font.glyph_count() {
         let glyph = font.glyph(id).unwrap();
-        match judge_glyph(alloc, finder, common, &glyph, search, budget) {
+        match judge_glyph(alloc, finder, common, &glyph, budget) {
             Ok(()) => {}
             Err(fault) => list_refused(&mut refused, Name::Glyph(id), fault)?,
         }
@@ -245,13 +243,13 @@ fn refused_alone(alloc: Global, name: Name, fault: Refusal) -> Result<Vec<Refuse
 pub(crate) fn refused_programs(
     alloc: Global,
     font: &Font<'_>,
-    search: Search,
     budget: &mut Budget,
 ) -> Result<Vec<Refused>, AllocError>
     requires { IsFontInRange font.now }
     ensures refused { IfOk result (λ refused. AreAllRefused font.now refused.items) }
     ensures spends { Spends budget.old budget.new }
 {
+    let search = Search::Verdict;
     let mut finder = Finder::new(alloc);
     let (fpgm, found) = match find_font_program(alloc, &mut finder, font, search, budget) {
         Ok(answer) => answer,
@@ -267,11 +265,11 @@ pub(crate) fn refused_programs(
         setting: cvt_setting(font, &fpgm, &prep.program),
         functions: &prep.functions,
     };
-    refused_glyphs(alloc, &mut finder, font, &common, search, budget)
+    refused_glyphs(alloc, &mut finder, font, &common, budget)
 }
 
 /// Reads a font. Each of its programs has fewer than 2^31 bytes, and the greatest depth of its
-/// stack is a number of 16 bits, as `Session::new` requires.
+/// stack is a number of 16 bits.
 ///
 /// # Errors
 /// The faults of `Font::read`.
@@ -280,7 +278,9 @@ pub fn read_font<'a>(alloc: Global, bytes: &'a [u8]) -> Result<Font<'a>, FontFau
     ensures range { IfOk result (λ font. IsFontInRange font) }
     ensures faults { TestsWithMemory (font_fault bytes.entry.now) result }
 {
-    Font::read(alloc, bytes)
+    let font = Font::read(alloc, bytes)?;
+    font.range_facts();
+    Ok(font)
 }
 
 /// Returns the verdict on the programs of a font file: on the font program, then on the CVT
@@ -296,7 +296,7 @@ pub fn verdict(alloc: Global, font: &[u8]) -> Result<Verdict, FontFault>
     ensures faults { TestsWithMemory (font_fault font.now) result }
 {
     let read = read_font(alloc, font)?;
-    let refused = refused_programs(alloc, &read, Search::Verdict, &mut Budget::unlimited())?;
+    let refused = refused_programs(alloc, &read, &mut Budget::unlimited())?;
     Ok(Verdict::new(u32::from(read.glyph_count()) + 2, refused))
 }
 
@@ -346,7 +346,7 @@ pub fn verdict_within(
         return Err(VerdictFault::Budget);
     }
     let read = read_font(alloc, font)?;
-    let judged = refused_programs(alloc, &read, Search::Verdict, budget);
+    let judged = refused_programs(alloc, &read, budget);
     if budget.is_exceeded() {
         return Err(VerdictFault::Budget);
     }

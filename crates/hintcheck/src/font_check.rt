@@ -11,7 +11,7 @@ ghost use Rattle.tt_stream.specs.Reads.{ConsumesBeginning};
 ghost use Rattle.hintcheck.specs.BudgetAnswers.{CheckTellsBudget, CheckWithinTellsFontFault, IsCheckFaultOutsideFont};
 ghost use Rattle.hintcheck.specs.CertificateFaults.{CheckTellsFontFault, CountsCheck, IsCheckFaultOutsideFontAndBudget};
 ghost use Rattle.hintcheck.specs.Certificates.{IsChecked, IsListingBrokenFirst, PassesToEnd};
-ghost use Rattle.hintcheck.specs.CheckedFonts.{AnswersFinding, Finds, HasGoodFamilies, IsGoodAtEnd, IsPassed, IsRefusedBy, IsTold, bytes_in};
+ghost use Rattle.hintcheck.specs.CheckedFonts.{AnswersFinding, Finds, HasGoodFamilies, IsGoodAtEnd, IsLeftBy, IsPassed, IsRefusedBy, IsTold, bytes_in};
 ghost use Rattle.hintcheck.specs.FailedReads.{HasRead, IsCutHeader, IsUnbroken, IsUnbrokenFor};
 ghost use Rattle.hintcheck.specs.Representation.FontVerdicts.{ComesToEnd, HasSubject, glyph_in};
 ghost use Rattle.hintcheck.specs.FontPrograms.{IsFontInRange, IsSafeFont, font_subject};
@@ -29,7 +29,7 @@ use crate::session::{Outcome, Session};
 use std::alloc::{AllocError, Global};
 use thiserror::Error;
 use tt_abs::{Refusal, Setting};
-use tt_cert::{DecodeFault, Form, read_header};
+use tt_cert::{DecodeFault, Form, read_form};
 use tt_family::{Budget, Certificate, check_full_within, check_within};
 use tt_font::{Font, FontFault, GlyphPart};
 use tt_stream::Source;
@@ -107,7 +107,7 @@ pub(crate) fn read_start<S: Source>(
     ensures failures { CountsCheck result (S.failures source.old) (S.failures source.new) }
     ensures font { IfErr result IsCheckFaultOutsideFontAndBudget }
 {
-    let (form, sections) = read_header(source)?;
+    let (form, sections) = read_form(source)?;
     if sections != u32::from(font.glyph_count()) + 2 {
         return Err(CheckFontFault::Form(SECTIONS));
     }
@@ -272,6 +272,8 @@ fn check_programs<S: Source>(
     ensures exact { IsTold (S.remaining source.old) → Finds result
         (λ refused. IsChecked font.now (bytes_in (S.remaining source.old)) (Ok refused.items))
         (λ place. IsChecked font.now (bytes_in (S.remaining source.old)) (Err place)) }
+    ensures unread { IsTold (S.remaining source.old) → IfOk result (λ refused.
+        IsLeftBy (bytes_in (S.remaining source.old)) refused.items (S.remaining source.new)) }
     ensures beginning { ConsumesBeginning (S.remaining source.old) (S.remaining source.new) }
     ensures whole_units { IfErr result
         (HasRead (S.remaining source.old) (S.remaining source.new) (IsUnbroken font.now)) }
@@ -300,6 +302,8 @@ pub(crate) fn check_read_font<S: Source>(
     ensures exact { IsTold (S.remaining source.old) → Finds result
         (AnswersFinding font.now (bytes_in (S.remaining source.old)))
         (λ place. IsChecked font.now (bytes_in (S.remaining source.old)) (Err place)) }
+    ensures unread { IsTold (S.remaining source.old) → IfOk result
+        (λ v. IsLeftBy (bytes_in (S.remaining source.old)) v.refused (S.remaining source.new)) }
     ensures beginning { ConsumesBeginning (S.remaining source.old) (S.remaining source.new) }
     ensures whole_units { IfErr result
         (HasRead (S.remaining source.old) (S.remaining source.new) (IsUnbroken font.now)) }
@@ -325,6 +329,8 @@ pub(crate) fn check_read_font_within<S: Source>(
     ensures exact { IsTold (S.remaining source.old) → Finds result
         (AnswersFinding font.now (bytes_in (S.remaining source.old)))
         (λ place. IsChecked font.now (bytes_in (S.remaining source.old)) (Err place)) }
+    ensures unread { IsTold (S.remaining source.old) → IfOk result
+        (λ v. IsLeftBy (bytes_in (S.remaining source.old)) v.refused (S.remaining source.new)) }
     ensures beginning { ConsumesBeginning (S.remaining source.old) (S.remaining source.new) }
     ensures whole_units { IfErr result
         (HasRead (S.remaining source.old) (S.remaining source.new) (IsUnbroken font.now)) }
@@ -346,7 +352,8 @@ pub(crate) fn check_read_font_within<S: Source>(
 /// in the source: each program is checked by the family that its section lists, and the certificate
 /// isn't trusted, wherever it comes from. The CVT program starts with the functions that are known
 /// where the font program ends, and a glyph program with those that are known where the CVT program
-/// ends. A refused font program or CVT program ends the check; a refused glyph program doesn't.
+/// ends. A refused font program or CVT program ends the check, which reads nothing after its
+/// section; a refused glyph program doesn't.
 ///
 /// # Errors
 /// The faults of `Font::read`; `Form` where the bytes are no certificate for the font; `Read`
@@ -368,6 +375,10 @@ pub fn check_font<S: Source>(
         × AnswersFinding d (bytes_in (S.remaining source.old)) v)
         (λ place. (d : FontData) × Reads font.now d
         × IsChecked d (bytes_in (S.remaining source.old)) (Err place)) }
+    // What it leaves unread: what follows the section of a refused font program or CVT program;
+    // otherwise nothing.
+    ensures unread { IsTold (S.remaining source.old) → IfOk result
+        (λ v. IsLeftBy (bytes_in (S.remaining source.old)) v.refused (S.remaining source.new)) }
     // Where the check of the font by the bytes refuses nothing, no program is refused and the form
     // isn't at fault: `find_font` writes such bytes.
     ensures accepts { IsTold (S.remaining source.old) → (d : FontData) → Reads font.now d
@@ -407,6 +418,8 @@ pub fn check_font_within<S: Source>(
         × AnswersFinding d (bytes_in (S.remaining source.old)) v)
         (λ place. (d : FontData) × Reads font.now d
         × IsChecked d (bytes_in (S.remaining source.old)) (Err place)) }
+    ensures unread { IsTold (S.remaining source.old) → IfOk result
+        (λ v. IsLeftBy (bytes_in (S.remaining source.old)) v.refused (S.remaining source.new)) }
     ensures accepts { IsTold (S.remaining source.old) → (d : FontData) → Reads font.now d
         → IsChecked d (bytes_in (S.remaining source.old)) (Ok [])
         → Finds result (λ v. v.refused ≡ []) (λ _. ⊥) }

@@ -227,6 +227,7 @@ pub fn list_program<O: Sink>(
     ensures faults { IfErr result (IsFaultOfListing font.now word.now) }
 {
     let font = Font::read(alloc, font)?;
+    font.range_facts();
     match named_program(&font, word) {
         Some(named) => list_named(alloc, named, out),
         None => Err(CommandFault::ProgramWord),

@@ -1,5 +1,5 @@
 //! The verdict on one program: it is cut, a family of abstract states is found for it, and that
-//! family is checked, except where a font's certificate is to be written.
+//! family is checked, except where it is found once more to be written.
 
 ghost use Rattle.std.specs.Prelude.{◌≡◌, ◌⊎◌, ℕ, ◌<◌, ◌^◌, List, IfErr, IfOk, OnOk, length};
 ghost use Rattle.tt_code.specs.Cut.{Instruction, IsCut};
@@ -143,11 +143,9 @@ pub(crate) enum Search {
     Verdict,
     /// For the program's certificate, which lists no state that could be left out, and is checked.
     Certificate,
-    /// To see whether a certificate of the font can be written. Nothing is checked: that the family
-    /// has a good filling is the finder's promise.
-    BeforeWriting,
-    /// For the program's certificate, which lists no state that could be left out, and is written.
-    /// Nothing is checked: that the family has a good filling is the finder's promise.
+    /// For the program's certificate, which lists no state that could be left out, and is written
+    /// after the verdict. Nothing is checked once more: that the family has a good filling is the
+    /// finder's promise.
     Writing,
 }
 
@@ -179,7 +177,7 @@ fn find(
     ensures spends { Spends budget.old budget.new }
 {
     match search {
-        Search::Verdict | Search::BeforeWriting => finder.find_within(alloc, setting, budget),
+        Search::Verdict => finder.find_within(alloc, setting, budget),
         Search::Certificate | Search::Writing => {
             finder.find_needed_within(alloc, setting, budget)
         }
@@ -215,7 +213,7 @@ pub(crate) fn find_and_check(
     setting.range_facts();
     let found = find(alloc, finder, setting, search, budget)?;
     match search {
-        Search::BeforeWriting | Search::Writing => Ok(found),
+        Search::Writing => Ok(found),
         Search::Verdict | Search::Certificate => { checked(alloc, finder, setting, found, budget) }
     }
 }

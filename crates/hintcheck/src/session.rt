@@ -423,7 +423,8 @@ fn check_from<'a, S: Source>(
 
 /// The programs of a font, one after the other: the font program, the CVT program, and each glyph
 /// program. A session keeps which program is next, what the next ones start with, and a fault; and
-/// of a certificate only its form, how far it was read, and memory for the next section.
+/// of a certificate only its form, how far it was read, the state that was read last, and memory
+/// for the next section. It holds no family between two calls.
 #[derive(Drop)]
 pub struct Session<'a> {
     font: &'a Font<'a>,
@@ -454,9 +455,9 @@ impl<'a> Model for Session<'a> {
 impl<'a> Session<'a> {
     /// Makes a session over the programs of this font. It takes no memory.
     pub fn new(font: &'a Font<'a>) -> Self
-        requires { IsFontInRange font.now }
         ensures { result ≡ new_standing font.now }
     {
+        font.range_facts();
         Session {
             font,
             kept: Kept::Start,
@@ -629,8 +630,9 @@ impl<'a> Session<'a> {
         }
     }
 
-    /// Finds the next program's family, and checks it where the search asks for that: returns the
-    /// program's outcome, and what is found for it where it is accepted.
+    /// Finds the next program's family in a finder's memory, and checks it where the search asks
+    /// for that: returns the program's outcome, and what is found for it where it is accepted,
+    /// whose memory `Finder::take_back` gives back.
     ///
     /// # Errors
     /// `OutOfMemory`, also where the budget is exceeded. After a fault each call returns it.
@@ -669,17 +671,16 @@ impl<'a> Session<'a> {
         Ok(answer?)
     }
 
-    /// Finds the next program's family in a finder's memory, and checks it: returns the program's
-    /// outcome, and where it is accepted, what is found for it, whose memory `Finder::take_back`
-    /// gives back. After the last program, or after a refused font program or CVT program, there is
-    /// no outcome. A session on which this is called may be used only for calls that find.
+    /// Finds the next program's family, and checks it: returns the program's outcome, and where it
+    /// is accepted, what is found for it. After the last program, or after a refused font program
+    /// or CVT program, there is no outcome. A session on which this is called may be used only for
+    /// calls that find.
     ///
     /// # Errors
     /// `OutOfMemory`. After a fault each call returns it.
     pub fn find_next(
         &mut self,
         alloc: Global,
-        finder: &mut Finder,
     ) -> Result<Option<(Outcome, Option<Found>)>, FindFontFault>
         requires { IsForFinding self.old }
         // The outcome is the next program's: what is found for an accepted one is its least family,
@@ -696,7 +697,9 @@ impl<'a> Session<'a> {
         ensures font { self.new.font ≡ self.old.font }
         ensures finding { IsForFinding self.new }
     {
-        self.search_next(alloc, finder, Search::Certificate, &mut Budget::unlimited())
+        let mut finder = Finder::new(alloc);
+        let budget = &mut Budget::unlimited();
+        self.search_next(alloc, &mut finder, Search::Certificate, budget)
     }
 
     /// Finds the next program's family as `find_next` does, and makes at most as many points as the
@@ -709,7 +712,6 @@ impl<'a> Session<'a> {
     pub fn find_next_within(
         &mut self,
         alloc: Global,
-        finder: &mut Finder,
         budget: &mut Budget,
     ) -> Result<Option<(Outcome, Option<Found>)>, FindFontFault>
         requires { IsForFinding self.old }
@@ -735,7 +737,8 @@ impl<'a> Session<'a> {
         if self.kept.is_over() {
             return Ok(None);
         }
-        let answer = self.search_next(alloc, finder, Search::Certificate, budget);
+        let mut finder = Finder::new(alloc);
+        let answer = self.search_next(alloc, &mut finder, Search::Certificate, budget);
         match answer {
             Ok(_) | Err(FindFontFault::OutOfMemory(_)) if budget.is_exceeded() => {
                 self.fault = Some(SessionFault::Budget);

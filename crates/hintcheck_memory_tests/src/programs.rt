@@ -13,7 +13,7 @@ use hintcheck_test_fixtures::programs::{LIMITS, cut};
 use std::alloc::{AllocError, Global};
 use std::test::Fail;
 use tt_abs::Cell::Known;
-use tt_abs::{Kind, Point, Refusal, Setting, State, transfer};
+use tt_abs::{Kind, Point, Refusal, Setting, State, Successors, transfer};
 use tt_code::{CodeFault, Program};
 use tt_family::{check, check_full};
 use tt_find::find;
@@ -95,9 +95,10 @@ fn told_of_transfer(heap: &mut Heap, setting: &Setting<'_>) -> Told {
     let next = transfer(setting, &point, &state);
     heap.give_back();
     match next {
-        Ok(next) => Told::Answer(next.state.depth() as u64),
+        Ok(Successors::One(next)) => Told::Answer(next.state.depth() as u64),
+        Ok(Successors::Two(_, _)) => Told::Wrong,
         Err(Refusal::OutOfMemory(_)) => Told::OutOfMemory,
-        Err(Refusal::Refused(_)) => Told::Wrong,
+        Err(Refusal::Refused { .. }) => Told::Wrong,
     }
 }
 

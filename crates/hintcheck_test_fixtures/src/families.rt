@@ -10,7 +10,7 @@ use tt_abs::Cell::Known;
 use tt_abs::{Cell, State, ZoneCell};
 use tt_code::kinds::{Pointer, Reference};
 use tt_code::{Frame, Graphics};
-use tt_family::{Builder, Certificate, ContextFault, JoinFault, Joined, States};
+use tt_family::{Builder, Certificate, ContextFault, JoinFault, States};
 
 /// A listed state: its context, its offset and the numbers on its stack, the bottom first.
 pub type Listed<'a> = (u32, u32, &'a [i32]);
@@ -100,7 +100,7 @@ pub fn join(
     context: u32,
     offset: u32,
     state: &State,
-) -> Result<Joined, JoinFault>
+) -> Result<bool, JoinFault>
     requires { state_order.InRange state.now }
 {
     if context >= builder.contexts() {
@@ -118,7 +118,7 @@ pub fn put(
     builder: &mut Builder,
     functions: &[(u16, u32)],
     listed: Listed<'_>,
-) -> Result<Joined, JoinFault>
+) -> Result<bool, JoinFault>
     requires { Ascends functions.now }
 {
     match state_of(alloc, functions, listed.2) {

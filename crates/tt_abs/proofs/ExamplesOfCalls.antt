@@ -1,17 +1,19 @@
 -- What CALL, LOOPCALL and ENDF make of abstract states.
 use Rattle.std.specs.Prelude.{pos, negsuc}
-use Rattle.std.proofs.Common.{◌≡◌, ℕ, List, [], ◌∷◌, Ok, Err, refl}
+use Rattle.std.proofs.Common.{ℕ, List, [], ◌∷◌, Ok, Err, refl}
 use Rattle.tt_code.specs.Table.{effect_of}
+use Rattle.tt_code.specs.Refusals.{Tested}
 use Rattle.tt_code.specs.Structure.{keyword}
 use Rattle.tt_code.specs.Settings.{Setting, GlyphProgram}
 use Rattle.tt_code.specs.declared.machine.Frame.{Frame}
 use Rattle.tt_code.specs.declared.reason.Reason.{Reason}
 use Rattle.tt_code.specs.declared.reason.Reason.TheVariants as reason
+use Rattle.tt_code.proofs.ExamplesAsCases.{Case, ◌⇒◌, all_hold}
 use Rattle.tt_abs.specs.declared.cells.Cell.{Cell}
 use Rattle.tt_abs.specs.declared.cells.Cell.TheVariants.{Known, Unknown}
 use Rattle.tt_abs.specs.Cells.{Abstract}
 use Rattle.tt_abs.specs.States.{default_cells}
-use Rattle.tt_abs.specs.Transfers.{one_way, outcome_on_cells}
+use Rattle.tt_abs.specs.Transfers.{Next, one_way, outcome_on_cells}
 
 -- The glyph program is CALL and LOOPCALL. The font program and the CVT program are PUSHB with 0, FDEF, and from offset 3 a body of
 -- CALL, LOOPCALL and ENDF.
@@ -38,109 +40,71 @@ abbrev called_from : ℕ → ℕ → ℕ → ℕ → Frame
 called_from body call turn count = record { body = body; call = call; turn = turn; count = count }
 
 -- with these frames, at this offset and with this stack it comes to one place, or is refused
-abbrev comes_to : List Frame → ℕ → List Cell → List Frame → ℕ → List Cell → Type 0
-comes_to fs at stack gs next left = outcome_on_cells (calling 8) fs at (stacked stack) ≡ Ok (one_way gs next (stacked left))
+abbrev comes_to : List Frame → ℕ → List Cell → List Frame → ℕ → List Cell → Case (Tested (List Next))
+comes_to fs at stack gs next left = outcome_on_cells (calling 8) fs at (stacked stack) ⇒ Ok (one_way gs next (stacked left))
 
-abbrev is_refused_at_depth : ℕ → List Frame → ℕ → List Cell → Reason → Type 0
-is_refused_at_depth deepest fs at stack r = outcome_on_cells (calling deepest) fs at (stacked stack) ≡ Err r
+abbrev is_refused_at_depth : ℕ → List Frame → ℕ → List Cell → Reason → Case (Tested (List Next))
+is_refused_at_depth deepest fs at stack r = outcome_on_cells (calling deepest) fs at (stacked stack) ⇒ Err r
 
-abbrev is_refused : List Frame → ℕ → List Cell → Reason → Type 0
+abbrev is_refused : List Frame → ℕ → List Cell → Reason → Case (Tested (List Next))
 is_refused = is_refused_at_depth 8
 
--- CALL
-
-call_enters_the_body_for_one_turn : comes_to [] 0 (Known (pos 0) ∷ Unknown ∷ []) (called_from 3 0 1 1 ∷ []) 3 (Unknown ∷ [])
+-- CALL: one turn of a body.
+cases_of_call : all_hold (
+    -- CALL enters the body for one turn.
+    comes_to [] 0 (Known (pos 0) ∷ Unknown ∷ []) (called_from 3 0 1 1 ∷ []) 3 (Unknown ∷ [])
+    -- CALL enters a body of the CVT program.
+    ∷ comes_to [] 0 (Known (pos 1) ∷ []) (called_from 2147483651 0 1 1 ∷ []) 3 []
+    -- CALL from a body enters another.
+    ∷ comes_to (called_from 3 0 1 1 ∷ []) 3 (Known (pos 1) ∷ []) (called_from 2147483651 3 1 1 ∷ called_from 3 0 1 1 ∷ []) 3 []
+    -- A function that isn't listed is refused, a number that is too high, a negative number, and one that is unknown.
+    ∷ is_refused [] 0 (Known (pos 2) ∷ []) reason.Function
+    ∷ is_refused [] 0 (Known (pos 3) ∷ []) reason.Function
+    ∷ is_refused [] 0 (Known (negsuc 0) ∷ []) reason.Function
+    ∷ is_refused [] 0 (Unknown ∷ []) reason.UnknownOperand
+    -- CALL needs a number.
+    ∷ is_refused [] 0 [] reason.Underflow
+    -- CALL of the body that runs is refused, and of a body further out.
+    ∷ is_refused (called_from 3 0 1 1 ∷ []) 3 (Known (pos 0) ∷ []) reason.Recursion
+    ∷ is_refused (called_from 2147483651 3 1 1 ∷ called_from 3 0 1 1 ∷ []) 3 (Known (pos 0) ∷ []) reason.Recursion
+    -- CALL tests the depth before recursion.
+    ∷ is_refused_at_depth 1 (called_from 3 0 1 1 ∷ []) 3 (Known (pos 0) ∷ Unknown ∷ Unknown ∷ []) reason.Overflow
+    ∷ [])
 unfolding outcome_on_cells effect_of keyword
-call_enters_the_body_for_one_turn = refl
+cases_of_call = refl
 
-call_enters_a_body_of_the_cvt_program : comes_to [] 0 (Known (pos 1) ∷ []) (called_from 2147483651 0 1 1 ∷ []) 3 []
+-- LOOPCALL: so many turns of a body.
+cases_of_loopcall : all_hold (
+    -- LOOPCALL enters the body for its turns.
+    comes_to [] 1 (Known (pos 0) ∷ Known (pos 3) ∷ Unknown ∷ []) (called_from 3 1 1 3 ∷ []) 3 (Unknown ∷ [])
+    -- LOOPCALL of no turns goes on.
+    ∷ comes_to [] 1 (Known (pos 0) ∷ Known (pos 0) ∷ []) [] 2 []
+    -- LOOPCALL of no turns is no recursion.
+    ∷ comes_to (called_from 3 0 1 1 ∷ []) 4 (Known (pos 0) ∷ Known (pos 0) ∷ []) (called_from 3 0 1 1 ∷ []) 5 []
+    -- LOOPCALL of a negative count goes on.
+    ∷ comes_to [] 1 (Known (pos 0) ∷ Known (negsuc 6) ∷ []) [] 2 []
+    -- LOOPCALL of the body that runs is refused.
+    ∷ is_refused (called_from 3 0 1 1 ∷ []) 4 (Known (pos 0) ∷ Known (pos 1) ∷ []) reason.Recursion
+    -- LOOPCALL of an unknown count is refused.
+    ∷ is_refused [] 1 (Known (pos 0) ∷ Unknown ∷ []) reason.UnknownOperand
+    -- LOOPCALL needs a count.
+    ∷ is_refused [] 1 (Known (pos 0) ∷ []) reason.Underflow
+    -- LOOPCALL looks for the function whatever the count.
+    ∷ is_refused [] 1 (Known (pos 2) ∷ Known (pos 0) ∷ []) reason.Function
+    ∷ [])
 unfolding outcome_on_cells effect_of keyword
-call_enters_a_body_of_the_cvt_program = refl
+cases_of_loopcall = refl
 
-call_from_a_body_enters_another : comes_to (called_from 3 0 1 1 ∷ []) 3 (Known (pos 1) ∷ []) (called_from 2147483651 3 1 1 ∷ called_from 3 0 1 1 ∷ []) 3 []
+-- ENDF: the end of a turn.
+cases_of_endf : all_hold (
+    -- ENDF of the first turn of three leads to the second.
+    comes_to (called_from 3 1 1 3 ∷ []) 5 (Unknown ∷ []) (called_from 3 1 2 3 ∷ []) 3 (Unknown ∷ [])
+    -- ENDF of the last turn leads past the call.
+    ∷ comes_to (called_from 3 1 3 3 ∷ []) 5 (Unknown ∷ []) [] 2 (Unknown ∷ [])
+    -- ENDF of a turn in the CVT program leads to the next.
+    ∷ comes_to (called_from 2147483651 1 1 2 ∷ []) 5 [] (called_from 2147483651 1 2 2 ∷ []) 3 []
+    -- ENDF leads past the innermost call.
+    ∷ comes_to (called_from 2147483651 3 1 1 ∷ called_from 3 0 1 1 ∷ []) 5 [] (called_from 3 0 1 1 ∷ []) 4 []
+    ∷ [])
 unfolding outcome_on_cells effect_of keyword
-call_from_a_body_enters_another = refl
-
-call_of_an_unlisted_function : is_refused [] 0 (Known (pos 2) ∷ []) reason.Function
-unfolding outcome_on_cells effect_of keyword
-call_of_an_unlisted_function = refl
-
-call_of_a_number_that_is_too_high : is_refused [] 0 (Known (pos 3) ∷ []) reason.Function
-unfolding outcome_on_cells effect_of keyword
-call_of_a_number_that_is_too_high = refl
-
-call_of_a_negative_number : is_refused [] 0 (Known (negsuc 0) ∷ []) reason.Function
-unfolding outcome_on_cells effect_of keyword
-call_of_a_negative_number = refl
-
-call_of_an_unknown_number : is_refused [] 0 (Unknown ∷ []) reason.UnknownOperand
-unfolding outcome_on_cells effect_of keyword
-call_of_an_unknown_number = refl
-
-call_with_an_empty_stack : is_refused [] 0 [] reason.Underflow
-unfolding outcome_on_cells effect_of keyword
-call_with_an_empty_stack = refl
-
-call_of_the_body_that_runs : is_refused (called_from 3 0 1 1 ∷ []) 3 (Known (pos 0) ∷ []) reason.Recursion
-unfolding outcome_on_cells effect_of keyword
-call_of_the_body_that_runs = refl
-
-call_of_a_body_further_out : is_refused (called_from 2147483651 3 1 1 ∷ called_from 3 0 1 1 ∷ []) 3 (Known (pos 0) ∷ []) reason.Recursion
-unfolding outcome_on_cells effect_of keyword
-call_of_a_body_further_out = refl
-
-call_tests_the_depth_before_recursion : is_refused_at_depth 1 (called_from 3 0 1 1 ∷ []) 3 (Known (pos 0) ∷ Unknown ∷ Unknown ∷ []) reason.Overflow
-unfolding outcome_on_cells effect_of keyword
-call_tests_the_depth_before_recursion = refl
-
--- LOOPCALL
-
-loop_call_enters_the_body_for_its_turns : comes_to [] 1 (Known (pos 0) ∷ Known (pos 3) ∷ Unknown ∷ []) (called_from 3 1 1 3 ∷ []) 3 (Unknown ∷ [])
-unfolding outcome_on_cells effect_of keyword
-loop_call_enters_the_body_for_its_turns = refl
-
-loop_call_of_no_turns_goes_on : comes_to [] 1 (Known (pos 0) ∷ Known (pos 0) ∷ []) [] 2 []
-unfolding outcome_on_cells effect_of keyword
-loop_call_of_no_turns_goes_on = refl
-
-loop_call_of_no_turns_is_no_recursion : comes_to (called_from 3 0 1 1 ∷ []) 4 (Known (pos 0) ∷ Known (pos 0) ∷ []) (called_from 3 0 1 1 ∷ []) 5 []
-unfolding outcome_on_cells effect_of keyword
-loop_call_of_no_turns_is_no_recursion = refl
-
-loop_call_of_a_negative_count_goes_on : comes_to [] 1 (Known (pos 0) ∷ Known (negsuc 6) ∷ []) [] 2 []
-unfolding outcome_on_cells effect_of keyword
-loop_call_of_a_negative_count_goes_on = refl
-
-loop_call_of_the_body_that_runs : is_refused (called_from 3 0 1 1 ∷ []) 4 (Known (pos 0) ∷ Known (pos 1) ∷ []) reason.Recursion
-unfolding outcome_on_cells effect_of keyword
-loop_call_of_the_body_that_runs = refl
-
-loop_call_of_an_unknown_count : is_refused [] 1 (Known (pos 0) ∷ Unknown ∷ []) reason.UnknownOperand
-unfolding outcome_on_cells effect_of keyword
-loop_call_of_an_unknown_count = refl
-
-loop_call_without_a_count : is_refused [] 1 (Known (pos 0) ∷ []) reason.Underflow
-unfolding outcome_on_cells effect_of keyword
-loop_call_without_a_count = refl
-
-loop_call_looks_for_the_function_whatever_the_count : is_refused [] 1 (Known (pos 2) ∷ Known (pos 0) ∷ []) reason.Function
-unfolding outcome_on_cells effect_of keyword
-loop_call_looks_for_the_function_whatever_the_count = refl
-
--- ENDF
-
-end_of_the_first_turn_of_three : comes_to (called_from 3 1 1 3 ∷ []) 5 (Unknown ∷ []) (called_from 3 1 2 3 ∷ []) 3 (Unknown ∷ [])
-unfolding outcome_on_cells effect_of keyword
-end_of_the_first_turn_of_three = refl
-
-end_of_the_last_turn : comes_to (called_from 3 1 3 3 ∷ []) 5 (Unknown ∷ []) [] 2 (Unknown ∷ [])
-unfolding outcome_on_cells effect_of keyword
-end_of_the_last_turn = refl
-
-end_of_a_turn_in_the_cvt_program : comes_to (called_from 2147483651 1 1 2 ∷ []) 5 [] (called_from 2147483651 1 2 2 ∷ []) 3 []
-unfolding outcome_on_cells effect_of keyword
-end_of_a_turn_in_the_cvt_program = refl
-
-end_goes_past_the_innermost_call : comes_to (called_from 2147483651 3 1 1 ∷ called_from 3 0 1 1 ∷ []) 5 [] (called_from 3 0 1 1 ∷ []) 4 []
-unfolding outcome_on_cells effect_of keyword
-end_goes_past_the_innermost_call = refl
+cases_of_endf = refl

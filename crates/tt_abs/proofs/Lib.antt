@@ -27,6 +27,7 @@ pub mod EntriesInRange
 pub mod EntryMerge
 pub mod SameEntries
 pub mod RunningOnCells
+pub mod ExamplesAsCases
 pub mod ExamplesOfCells
 pub mod ExamplesOfOtherCells
 pub mod RangesKept

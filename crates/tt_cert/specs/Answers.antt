@@ -11,7 +11,7 @@ use Rattle.tt_cert.specs.Rules.{Fits}
 use Rattle.tt_family.specs.Contents.{Contents}
 use Rattle.tt_cert.specs.declared.name.Name.{Name}
 use Rattle.tt_cert.specs.Sections.{Section, section_of}
-use Rattle.tt_cert.specs.Text.{section_text}
+use Rattle.tt_cert.specs.Text.{header_of, section_text}
 
 -- the input at a place of a source that tells its bytes
 abbrev pub input_at : ℕ → Option (List ℕ) → Input
@@ -40,8 +40,8 @@ GivesSection old new (Ok x) read = is_some old ≡ true
 GivesSection old new (Err e) read = is_some old ≡ true → Fails e read
 
 -- the same of a header, with some place after it
-abbrev pub GivesHeader : Option (List ℕ) → Option (List ℕ) → Result (Form × ℕ) DecodeFault
-    → Answer (Form × ℕ) → Type 0
+abbrev pub GivesHeader : {F : Type 0} → Option (List ℕ) → Option (List ℕ)
+    → Result (F × ℕ) DecodeFault → Answer (F × ℕ) → Type 0
 GivesHeader old new (Ok x) read = is_some old ≡ true
     → (is_some new ≡ true) × ((place : ℕ) × (read ≡ Ok (x, input_at place new)))
 GivesHeader old new (Err e) read = is_some old ≡ true → Fails e read
@@ -89,6 +89,12 @@ pub record ReadsSection (form : Form) (input : List ℕ) (start : ℕ) (section 
   pub spelled : input ≡ section_text form section ++ rest
   pub fits : Fits form section
   pub place_is : after ≡ place_after start (length (section_text form section))
+
+-- a header was read: its text begins the input, and exactly that text was taken
+pub record ReadsHeader (input : List ℕ) (header : ℕ × ℕ) (new : Option (List ℕ)) : Type 0 where
+  pub rest : List ℕ
+  pub left : new ≡ Some rest
+  pub spelled : input ≡ header_of header.0 header.1 ++ rest
 
 -- the bytes are at fault
 abbrev pub IsFormFault : DecodeFault → Type 0

@@ -1,5 +1,5 @@
 -- The forms of certificate files.
-use Rattle.std.specs.Prelude.{ℕ, ◌==◌, Option, Some, None, if◌then◌else◌}
+use Rattle.std.specs.Prelude.{ℕ, ◌==◌, ◌≤◌, Option, Some, None, if◌then◌else◌}
 use Rattle.tt_cert.specs.declared.form.Form.{Form}
 use Rattle.tt_cert.specs.declared.form.Form.TheVariants.{One, Two, Three, Four}
 
@@ -9,6 +9,17 @@ form_number One = 1
 form_number Two = 2
 form_number Three = 3
 form_number Four = 4
+
+-- forms have the numbers 1 to 4
+abbrev pub IsFormNumber : ℕ → Type 0
+IsFormNumber n = (1 ≤ n) × (n ≤ 4)
+
+-- the form with this number, which is one of 1 to 4
+abbrev pub form_numbered : ℕ → Form
+form_numbered n = if n == 1 then One
+    else if n == 2 then Two
+    else if n == 3 then Three
+    else Four
 
 -- the form with this number, if there is one
 abbrev pub form_of : ℕ → Option Form

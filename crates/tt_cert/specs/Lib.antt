@@ -3,6 +3,7 @@ pub mod Forms
 pub mod Sections
 pub mod Text
 pub mod Rules
+pub mod Families
 pub mod Readers
 pub mod Reading
 pub mod Answers

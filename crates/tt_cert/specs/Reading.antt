@@ -14,7 +14,7 @@ use Rattle.tt_cert.specs.declared.form.Form.{Form}
 use Rattle.tt_cert.specs.declared.form.Form.TheVariants.{One, Two, Three, Four}
 use Rattle.tt_cert.specs.declared.name.Name.{Name}
 use Rattle.tt_cert.specs.declared.name.Name.TheVariants as name
-use Rattle.tt_cert.specs.Forms.{form_of, most_contexts}
+use Rattle.tt_cert.specs.Forms.{form_number, form_of, most_contexts}
 use Rattle.tt_cert.specs.Readers.{Answer, Input, and_then, given, list_at, made_of, ruled, unit, ◌>>=◌}
 use Rattle.tt_cert.specs.Rules.{is_above, is_next_point, last_of, last_point, may_follow}
 use Rattle.tt_cert.specs.Sections.{Context, Entry, Section}
@@ -214,3 +214,10 @@ header_from x = x.1
 
 unfoldable pub header_at : Input → Answer (Form × ℕ)
 header_at = made_of header_from (and_then magic_at (λ _. and_then form_at (λ _. long_at)))
+
+-- the same, the form being told by its number
+abbrev pub in_numbers : Form × ℕ → ℕ × ℕ
+in_numbers x = (form_number x.0, x.1)
+
+unfoldable pub header_numbers_at : Input → Answer (ℕ × ℕ)
+header_numbers_at = made_of in_numbers header_at

@@ -25,10 +25,12 @@ long n = to_be_bytes w32 n
 abbrev pub counted : {A : Type 0} → (A → List ℕ) → List A → List ℕ
 counted one xs = word (length xs) ++ flat_map one xs
 
--- the header: HCRT, the form, and how many sections follow
+-- the header: HCRT, the form's number, and how many sections follow
+abbrev pub header_of : ℕ → ℕ → List ℕ
+header_of number sections = (0x48 ∷ 0x43 ∷ 0x52 ∷ 0x54 ∷ []) ++ (word number ++ long sections)
+
 abbrev pub header_text : Form → ℕ → List ℕ
-header_text form sections = (0x48 ∷ 0x43 ∷ 0x52 ∷ 0x54 ∷ [])
-    ++ (word (form_number form) ++ long sections)
+header_text form sections = header_of (form_number form) sections
 
 -- the program's kind, and the glyph
 abbrev pub name_text : Name → List ℕ

@@ -1,7 +1,10 @@
 //! The forms of certificate files.
 
 ghost use Rattle.std.specs.Prelude.{◌≡◌};
-ghost use Rattle.tt_cert.specs.Forms.{form_number, form_of, most_contexts as form_contexts};
+ghost use Rattle.tt_cert.specs.Forms.{IsFormNumber, form_number, form_numbered, form_of, most_contexts as form_contexts};
+
+/// The number of the form that is written.
+pub const NEWEST_FORM: u16 = 4;
 
 /// A form of certificate files. Form 4 is written, all are read.
 #[derive(Clone, Copy, Debug, PartialEq, Eq)]
@@ -31,9 +34,23 @@ impl Form {
         }
     }
 
+    /// Returns the form with this number, which is one of 1 to 4.
+    pub fn numbered(number: u16) -> Form
+        requires { IsFormNumber number }
+        ensures { result ≡ form_numbered number }
+    {
+        match number {
+            1 => Form::One,
+            2 => Form::Two,
+            3 => Form::Three,
+            _ => Form::Four,
+        }
+    }
+
     /// Returns the number by which a header names the form.
     pub fn number(self) -> u16
-        ensures { result ≡ form_number self }
+        ensures value { result ≡ form_number self }
+        ensures known { IsFormNumber result }
     {
         match self {
             Form::One => 1,

@@ -1,13 +1,14 @@
 //! The header of a certificate file: its form, and how many sections follow.
 
-ghost use Rattle.std.specs.Prelude.{◌≡◌, ℕ, IfErr, OnErr, OnOk};
+ghost use Rattle.std.specs.Prelude.{◌≡◌, ◌++◌, ◌<◌, ◌^◌, ℕ, List, Some, IfErr, IfOk, MatchResult, OnErr, OnOk};
 ghost use Rattle.std.specs.Io.KnownBytes.{Appends, IsAtEnd, Keeps};
 ghost use Rattle.tt_stream.specs.Reads.{ConsumesBeginning};
 ghost use Rattle.tt_stream.specs.Streams.{AppendsBeginning};
-ghost use Rattle.tt_cert.specs.Answers.{CountsRead, CountsWrite, GivesHeader, IsMore, IsOutOfMemory, StopsAtEnd, input_at};
+ghost use Rattle.tt_cert.specs.Answers.{AreBytes, CountsRead, CountsWrite, GivesHeader, IsFormFault, IsMore, IsOutOfMemory, ReadsHeader, StopsAtEnd, input_at};
 ghost use Rattle.tt_cert.specs.Representation.Clauses.{ReadsBy, StopsWhole};
-ghost use Rattle.tt_cert.specs.Reading.{form_at, header_at, magic_at};
-ghost use Rattle.tt_cert.specs.Text.{header_text};
+ghost use Rattle.tt_cert.specs.Forms.{IsFormNumber};
+ghost use Rattle.tt_cert.specs.Reading.{form_at, header_at, header_numbers_at, magic_at};
+ghost use Rattle.tt_cert.specs.Text.{header_of};
 
 use crate::fault::{DecodeFault, EncodeFault};
 use crate::form::Form;
@@ -43,7 +44,7 @@ fn read_magic<S: Source>(source: &mut S, place: u64) -> Result<(u32, u64), Decod
 /// # Errors
 /// As `read_header`.
 #[tactic(auto, unfolding(crate::specs::Reading::form_at))]
-fn read_form<S: Source>(source: &mut S, place: u64) -> Result<(Form, u64), DecodeFault>
+fn read_form_at<S: Source>(source: &mut S, place: u64) -> Result<(Form, u64), DecodeFault>
     ensures reads { ReadsBy form_at place result (S.remaining source.old) (S.remaining source.new) }
     ensures beginning { ConsumesBeginning (S.remaining source.old) (S.remaining source.new) }
     ensures stopped { StopsWhole form_at place result
@@ -73,19 +74,16 @@ fn read_header_at<S: Source>(source: &mut S, place: u64) -> Result<((Form, u32),
     ensures memory { IfErr result (λ fault. ¬ IsOutOfMemory fault) }
 {
     let (_magic, at) = read_magic(source, place)?;
-    let (form, at) = read_form(source, at)?;
+    let (form, at) = read_form_at(source, at)?;
     let (sections, at) = read_long(source, at)?;
     Ok(((form, sections), at))
 }
 
-/// Reads the header of a certificate file: its form, and how many sections follow. It has ten
-/// bytes.
+/// Reads the header of a certificate file as `read_header` does, and returns the form itself.
 ///
 /// # Errors
-/// `Form` with the place of the field that is wrong, or of the input's end where that comes too
-/// early; `Read` exactly where a read failed. Then some beginning of what is left was read, and at
-/// `Read` no field of it that is whole is wrong.
-pub fn read_header<S: Source>(source: &mut S) -> Result<(Form, u32), DecodeFault>
+/// As `read_header`.
+pub fn read_form<S: Source>(source: &mut S) -> Result<(Form, u32), DecodeFault>
     ensures exact { GivesHeader (S.remaining source.old) (S.remaining source.new) result
         (header_at (input_at 0 (S.remaining source.old))) }
     ensures beginning { ConsumesBeginning (S.remaining source.old) (S.remaining source.new) }
@@ -97,6 +95,37 @@ pub fn read_header<S: Source>(source: &mut S) -> Result<(Form, u32), DecodeFault
 {
     let (header, _after) = read_header_at(source, 0)?;
     Ok(header)
+}
+
+/// Reads the header of a certificate file: the number of its form, from 1 to 4, and how many
+/// sections follow. It has ten bytes.
+///
+/// # Errors
+/// `Form` with the place of the field that is wrong, or of the input's end where that comes too
+/// early; `Read` exactly where a read failed. Then some beginning of what is left was read, and at
+/// `Read` no field of it that is whole is wrong.
+pub fn read_header<S: Source>(source: &mut S) -> Result<(u16, u32), DecodeFault>
+    ensures form { IfOk result (λ header. IsFormNumber header.0) }
+    // What is read was at the beginning of the input, of which no more is read.
+    ensures found { IfOk result (λ header. (input : List ℕ)
+        → S.remaining source.old ≡ Some input → AreBytes input
+        → ReadsHeader input header (S.remaining source.new)) }
+    // A header at the beginning of the input is read, except for failed reads.
+    ensures only { (form sections : ℕ) (rest : List ℕ) → IsFormNumber form → sections < 2 ^ 32
+        → S.remaining source.old ≡ Some (header_of form sections ++ rest)
+        → MatchResult result (λ header. header ≡ (form, sections)) (λ fault. ¬ IsFormFault fault) }
+    // Which place a fault names.
+    ensures exact { GivesHeader (S.remaining source.old) (S.remaining source.new) result
+        (header_numbers_at (input_at 0 (S.remaining source.old))) }
+    ensures beginning { ConsumesBeginning (S.remaining source.old) (S.remaining source.new) }
+    // Where a read failed, no field that was read whole breaks a rule.
+    ensures whole_fields { IfErr result
+        (StopsAtEnd 0 (S.remaining source.old) (S.remaining source.new) header_at) }
+    ensures failures { CountsRead result (S.failures source.old) (S.failures source.new) }
+    ensures memory { IfErr result (λ fault. ¬ IsOutOfMemory fault) }
+{
+    let (form, sections) = read_form(source)?;
+    Ok((form.number(), sections))
 }
 
 /// Checks that nothing is left to read, as at the end of a certificate file; `place` is the place
@@ -123,21 +152,22 @@ pub fn read_end<S: Source>(source: &mut S, place: u64) -> Result<(), DecodeFault
     Ok(())
 }
 
-/// Writes the header of a certificate file of form 4 with this many sections.
+/// Writes the header of a certificate file of this form, which is form 4, with this many sections.
 ///
 /// # Errors
 /// `Write` exactly where a write failed; then a beginning of the header was written, perhaps an
 /// empty one.
-pub fn write_header<W: Sink>(sections: u32, sink: &mut W) -> Result<(), EncodeFault>
+pub fn write_header<W: Sink>(form: u16, sections: u32, sink: &mut W) -> Result<(), EncodeFault>
+    requires newest { form ≡ 4 }
     ensures written { OnOk result
-        (Appends (W.contents sink.old) (W.contents sink.new) (header_text Form.Four sections)) }
-    ensures beginning { OnErr result (AppendsBeginning (W.contents sink.old) (W.contents sink.new)
-        (header_text Form.Four sections)) }
+        (Appends (W.contents sink.old) (W.contents sink.new) (header_of form sections)) }
+    ensures beginning { OnErr result
+        (AppendsBeginning (W.contents sink.old) (W.contents sink.new) (header_of form sections)) }
     ensures failures { CountsWrite result (W.failures sink.old) (W.failures sink.new) }
     ensures memory { IfErr result (λ fault. fault ≡ EncodeFault.Write) }
 {
     let [m3, m2, m1, m0] = MAGIC.to_be_bytes();
-    let [f1, f0] = Form::Four.number().to_be_bytes();
+    let [f1, f0] = form.to_be_bytes();
     let [s3, s2, s1, s0] = sections.to_be_bytes();
     write_all(sink, &[m3, m2, m1, m0, f1, f0, s3, s2, s1, s0])?;
     Ok(())

@@ -16,9 +16,14 @@ mod units;
 mod writing;
 
 pub use fault::{DecodeFault, EncodeFault};
-pub use form::Form;
-pub use header::{read_end, read_header, write_header};
-pub use laws::no_section_begins_another;
+pub use form::{Form, NEWEST_FORM};
+pub use header::{read_end, read_form, read_header, write_header};
+pub use laws::{no_section_begins_another, one_family_of_a_text};
 pub use name::Name;
 pub use reading::{Decoder, decode};
+pub use tt_abs::Spot;
+pub use tt_family::{
+    Builder, Certificate, CheckFault, ContextFault, JoinFault, check, check_full,
+};
+pub use tt_stream::{Counted, Sink, Source};
 pub use writing::{Encoder, encode};

@@ -1,14 +1,19 @@
 //! Sections read from a source.
 
 ghost use Rattle.std.specs.Prelude.{◌≡◌, ◌++◌, ℕ, List, Some, IfErr, IfOk, OnOk, MatchResult};
+ghost use Rattle.tt_family.specs.Ascending.{IsFinished};
+ghost use Rattle.tt_family.specs.Contents.{Contents};
 ghost use Rattle.tt_stream.specs.Reads.{ConsumesBeginning};
 ghost use Rattle.tt_cert.specs.Answers.{AreBytes, CountsRead, GivesSection, IsFormFault, ReadsSection, StopsAtEnd, input_at};
 ghost use Rattle.tt_cert.specs.Representation.Clauses.{IsEmptyBuilder, ReadsAs, StopsWhole};
 ghost use Rattle.tt_cert.specs.Representation.SharedCells.{IsLast};
+ghost use Rattle.tt_cert.specs.Families.{HasText, family_text};
+ghost use Rattle.tt_cert.specs.Forms.{IsFormNumber, form_numbered};
 ghost use Rattle.tt_cert.specs.Reading.{section_at};
 ghost use Rattle.tt_cert.specs.Rules.{Fits};
 ghost use Rattle.tt_cert.specs.Sections.{Section, section_of};
 ghost use Rattle.tt_cert.specs.Text.{section_text};
+ghost use Rattle.tt_cert.specs.declared.name.Name.{Name as ProgramName};
 
 use crate::contexts::{builder_of, read_contexts};
 use crate::fault::DecodeFault;
@@ -39,6 +44,7 @@ fn read_section<S: Source>(
     requires before { IsLast state.old }
     ensures reads { ReadsAs (λ x. section_of x.0 x.1) (section_at form) place result
         (S.remaining source.old) (S.remaining source.new) }
+    ensures finished { IfOk result (λ r. IsFinished r.0.1) }
     ensures kept { OnOk result (IsLast state.new) }
     ensures beginning { ConsumesBeginning (S.remaining source.old) (S.remaining source.new) }
     ensures stopped { StopsWhole (section_at form) place result
@@ -54,24 +60,25 @@ fn read_section<S: Source>(
 
 /// A reader of sections, one after the other: each is read in the memory of those before it, and
 /// each state is compared to the state before, which it mostly resembles. What is read doesn't
-/// depend on them.
+/// depend on them. A reader holds no family, and of what was read only the last state.
 #[derive(Drop)]
 pub struct Decoder {
     /// The state that was read last.
     last: Option<LastState>,
-    /// A certificate that isn't needed any more, for its memory.
-    spare: Option<Certificate>,
+    /// An empty builder, in whose memory the next family is made.
+    spare: Option<Builder>,
 }
 
 impl Model for Decoder {
     ghost use Rattle.std.specs.Prelude.{IfSome};
+    ghost use Rattle.tt_cert.specs.Representation.Clauses.{IsEmptyBuilder};
     ghost use Rattle.tt_cert.specs.Representation.SharedCells.{IsLast};
 
     ghost Value = { Unit {0} };
 
     ghost view = { λ _. tt };
 
-    ghost invariant = { λ d. IfSome d.last IsLast };
+    ghost invariant = { λ d. IfSome d.last IsLast × IfSome d.spare IsEmptyBuilder };
 }
 
 impl Decoder {
@@ -96,20 +103,19 @@ impl Decoder {
         }
     }
 
-    /// Returns an empty builder, which reuses the memory of the certificate that isn't needed any
-    /// more, if there is one.
+    /// Takes the empty builder, or makes one.
     fn take_spare(&mut self, alloc: Global) -> Builder
         ensures { IsEmptyBuilder result }
     {
         match self.spare.take() {
-            Some(certificate) => certificate.into_builder(),
+            Some(spare) => spare,
             None => Builder::new(alloc),
         }
     }
 
-    /// Takes back a certificate, whose memory the next one reuses.
+    /// Takes back a certificate, and empties it: the next one reuses its memory.
     pub fn take_back(&mut self, certificate: Certificate) {
-        self.spare = Some(certificate);
+        self.spare = Some(certificate.into_builder());
     }
 
     /// Reads the next section, as `decode` does.
@@ -132,6 +138,14 @@ impl Decoder {
         ensures only { (s : Section) (rest : List ℕ) → Fits form s
             → S.remaining source.old ≡ Some (section_text form s ++ rest)
             → MatchResult result (λ r. section_of r.0 r.1 ≡ s) (λ fault. ¬ IsFormFault fault) }
+        // The text of a name with a family is read as this name and this family, whatever follows,
+        // except for failed reads and out of memory.
+        ensures same { (name : ProgramName) (family : Contents) (rest : List ℕ)
+            → HasText form name family
+            → S.remaining source.old ≡ Some (family_text form name family ++ rest)
+            → MatchResult result (λ r. (r.0 ≡ name) × (r.1 ≡ family))
+            (λ fault. ¬ IsFormFault fault) }
+        ensures finished { IfOk result (λ r. IsFinished r.1) }
         // Which place a fault names.
         ensures exact { GivesSection (S.remaining source.old) (S.remaining source.new) result
             (section_at form (input_at start (S.remaining source.old))) }
@@ -151,8 +165,8 @@ impl Decoder {
     }
 }
 
-/// Reads a section of a certificate file of this form, which begins at the place `start` of the
-/// file: exactly its bytes. Returns the program's name, its family, and the place after the
+/// Reads a section of a certificate file of the form with this number, which `read_header` gives;
+/// the section begins at the place `start` of the file. Exactly its bytes are read. Returns the program's name, its family, and the place after the
 /// section, which stops at the greatest number of 64 bits.
 ///
 /// # Errors
@@ -164,24 +178,34 @@ pub fn decode<S: Source>(
     alloc: Global,
     source: &mut S,
     start: u64,
-    form: Form,
+    form: u16,
 ) -> Result<(Name, Certificate, u64), DecodeFault>
+    requires { IsFormNumber form }
     // What is read was at the beginning of the input, of which no more is read.
     ensures found { IfOk result (λ r. (input : List ℕ)
         → S.remaining source.old ≡ Some input → AreBytes input
-        → ReadsSection form input start (section_of r.0 r.1) (S.remaining source.new) r.2) }
+        → ReadsSection (form_numbered form) input start (section_of r.0 r.1)
+        (S.remaining source.new) r.2) }
     // A section at the beginning of the input is read, except for failed reads and out of memory.
-    ensures only { (s : Section) (rest : List ℕ) → Fits form s
-        → S.remaining source.old ≡ Some (section_text form s ++ rest)
+    ensures only { (s : Section) (rest : List ℕ) → Fits (form_numbered form) s
+        → S.remaining source.old ≡ Some (section_text (form_numbered form) s ++ rest)
         → MatchResult result (λ r. section_of r.0 r.1 ≡ s) (λ fault. ¬ IsFormFault fault) }
+    // The text of a name with a family is read as this name and this family, whatever follows,
+    // except for failed reads and out of memory: so what `encode` wrote of them is.
+    ensures same { (name : ProgramName) (family : Contents) (rest : List ℕ)
+        → HasText (form_numbered form) name family
+        → S.remaining source.old ≡ Some (family_text (form_numbered form) name family ++ rest)
+        → MatchResult result (λ r. (r.0 ≡ name) × (r.1 ≡ family)) (λ fault. ¬ IsFormFault fault) }
+    ensures finished { IfOk result (λ r. IsFinished r.1) }
     // Which place a fault names.
     ensures exact { GivesSection (S.remaining source.old) (S.remaining source.new) result
-        (section_at form (input_at start (S.remaining source.old))) }
+        (section_at (form_numbered form) (input_at start (S.remaining source.old))) }
     ensures beginning { ConsumesBeginning (S.remaining source.old) (S.remaining source.new) }
     // Where a read failed, no unit that was read whole breaks a rule.
     ensures whole_units { IfErr result
-        (StopsAtEnd start (S.remaining source.old) (S.remaining source.new) (section_at form)) }
+        (StopsAtEnd start (S.remaining source.old) (S.remaining source.new)
+        (section_at (form_numbered form))) }
     ensures failures { CountsRead result (S.failures source.old) (S.failures source.new) }
 {
-    Decoder::new().decode(alloc, source, start, form)
+    Decoder::new().decode(alloc, source, start, Form::numbered(form))
 }

@@ -11,6 +11,7 @@ ghost use Rattle.tt_family.specs.Places.{place_cmp};
 ghost use Rattle.tt_family.specs.Ascending.{IsFinished};
 ghost use Rattle.tt_stream.specs.Streams.{AppendsBeginning};
 ghost use Rattle.tt_cert.specs.Answers.{CountsWrite};
+ghost use Rattle.tt_cert.specs.Families.{HasText, family_text};
 ghost use Rattle.tt_cert.specs.Representation.Clauses.{Pushes};
 ghost use Rattle.tt_cert.specs.Representation.KeptTexts.{IsStackText, KeepsCut};
 ghost use Rattle.tt_cert.specs.Rules.{AreCallsInTurn, CallFits, Fits, HasRoom, IsTextOf, NameFits, StateFits};
@@ -439,17 +440,21 @@ impl Encoder {
         sink: &mut W,
     ) -> Result<(), EncodeFault>
         ensures written { OnOk result (Appends (W.contents sink.old) (W.contents sink.new)
-            (section_text Form.Four (section_of name certificate.now))) }
+            (family_text Form.Four name certificate.now)) }
         // The section keeps the rules by which it is read, if in each context each call is in one
         // of its turns and no body runs twice.
         ensures fits { OnOk result (AreCallsInTurn certificate.now.contexts
             → Fits Form.Four (section_of name certificate.now)) }
+        // So this is the text of the name with the family.
+        ensures text { OnOk result (AreCallsInTurn certificate.now.contexts
+            → HasText Form.Four name certificate.now) }
         ensures beginning { OnErr result
             (AppendsBeginning (W.contents sink.old) (W.contents sink.new)
-            (section_text Form.Four (section_of name certificate.now))) }
+            (family_text Form.Four name certificate.now)) }
         ensures failures { CountsWrite result (W.failures sink.old) (W.failures sink.new) }
     {
         push_section(&mut self.bytes, name, certificate)?;
+        certificate.order_facts();
         write_all(sink, &self.bytes)?;
         Ok(())
     }
@@ -468,14 +473,17 @@ pub fn encode<W: Sink>(
     sink: &mut W,
 ) -> Result<(), EncodeFault>
     ensures written { OnOk result (Appends (W.contents sink.old) (W.contents sink.new)
-        (section_text Form.Four (section_of name certificate.now))) }
+        (family_text Form.Four name certificate.now)) }
     // The section keeps the rules by which it is read, if in each context each call is in one of
     // its turns and no body runs twice.
     ensures fits { OnOk result (AreCallsInTurn certificate.now.contexts
         → Fits Form.Four (section_of name certificate.now)) }
+    // So this is the text of the name with the family.
+    ensures text { OnOk result (AreCallsInTurn certificate.now.contexts
+        → HasText Form.Four name certificate.now) }
     ensures beginning { OnErr result
         (AppendsBeginning (W.contents sink.old) (W.contents sink.new)
-        (section_text Form.Four (section_of name certificate.now))) }
+        (family_text Form.Four name certificate.now)) }
     ensures failures { CountsWrite result (W.failures sink.old) (W.failures sink.new) }
 {
     Encoder::new(alloc).encode(name, certificate, sink)

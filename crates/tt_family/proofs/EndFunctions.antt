@@ -1,6 +1,6 @@
 -- The functions that a family's state lists at a program's end are defined wherever a run ends.
-use Rattle.std.proofs.Common.{◌≡◌, ℕ, List, [], ◌∷◌, Option, Some, true, sym, ◌∙◌, ap, subst}
-use Rattle.std.proofs.lemmas.Bool.{eqb-true}
+use Rattle.std.proofs.Common.{◌≡◌, ℕ, List, [], ◌∷◌, Option, Some, true, sym, inl, inr, ◌∙◌, ap, subst}
+use Rattle.std.proofs.lemmas.Bool.{eq-eqb, eqb-true}
 use Rattle.tt_code.specs.Cut.{size}
 use Rattle.tt_code.specs.Fonts.{Leaves}
 use Rattle.tt_code.specs.Settings.{Setting, is_main_end}
@@ -11,7 +11,8 @@ use Rattle.tt_abs.specs.Cells.{CoversFunctions}
 use Rattle.tt_abs.specs.Soundness.{IsSafe, StartsWith}
 use Rattle.tt_abs.specs.StateFlow.{Place}
 use Rattle.tt_abs.proofs.Soundness.{good_is_safe}
-use Rattle.tt_family.specs.Ends.{AreDefinedAtEnd}
+use Rattle.tt_family.specs.Ends.{AreDefinedAtEnd, AreDefinedWhereFilled, FillingsKeepEnd}
+use Rattle.tt_family.proofs.FillingLaws.{some_or_none}
 
 -- machines that start so have these functions
 abbrev pub AllStartWith : (Machine → Type 0) → List (ℕ × ℕ) → Type 0
@@ -43,3 +44,22 @@ defined_at_end family length functions end at listed s start setting short ascen
     let C : List (ℕ × ℕ) → Type 0 = λ fs. CoversFunctions fs left in
     subst C (sym listed)
     (end_functions_hold s start family (StartsWith start) (good_is_safe s setting short start ascends family good) (λ m h. h) end there left leaves)
+
+-- the same for a family with a good filling, which has the family's state at the end
+pub defined_where_filled : (family : Place → Option State) (length : ℕ) (functions : List (ℕ × ℕ)) (end : State) → family ([], length) ≡ Some end → functions ≡ end.functions
+    → AreDefinedWhereFilled family length functions
+defined_where_filled family length functions end at listed s start setting short ascends (filling, fills, good) long left leaves =
+    defined_at_end filling length functions end (fills.keeps ([], length) end at) listed s start setting short ascends good.good long left leaves
+
+-- a filling adds no state at the end
+pub fillings_keep_end : (family : Place → Option State) (length : ℕ) → FillingsKeepEnd family length
+fillings_keep_end family length s filling fills long = elim (some_or_none (family ([], length))) [
+  | inl (a, at) ↦ fills.keeps ([], length) a at ∙ sym at
+  | inr none ↦ elim (some_or_none (filling ([], length))) [
+    | inl (t, added) ↦
+        let ended : is_main_end s [] length ≡ true = eq-eqb length (size s.main) (sym long) in
+        let inside = (fills.added ([], length) t added none).just_before.inside in
+        absurd (cc)
+    | inr gone ↦ gone ∙ sym none
+  ]
+]

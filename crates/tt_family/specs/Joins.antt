@@ -22,11 +22,15 @@ TellsNew joined old = (joined ≡ New) ↔ (old ≡ None)
 abbrev pub TellsNewAt : Contents → ℕ → ℕ → Joined → Type 0
 TellsNewAt contents context offset joined = TellsNew joined (family_state contents context offset)
 
--- the state was put at the point, with this answer
-abbrev pub PutsState : Contents → Contents → ℕ → ℕ → State → Joined → Type 0
-PutsState old new context offset state joined =
-    PutsAt state_order (family_of old) (family_of new) (place_of old context offset) state
-    (is_change joined)
+-- the state was put at the point; the answer tells whether the one there is new or has changed
+abbrev pub PutsState : Contents → Contents → ℕ → ℕ → State → Bool → Type 0
+PutsState old new context offset state changed =
+    PutsAt state_order (family_of old) (family_of new) (place_of old context offset) state changed
+
+-- the same with an answer that tells new from changed
+abbrev pub PutsStateAs : Contents → Contents → ℕ → ℕ → State → Joined → Type 0
+PutsStateAs old new context offset state joined =
+    PutsState old new context offset state (is_change joined)
 
 -- the same in a list of states by context and offset
 abbrev pub PutsListed : List ((ℕ × ℕ) × State) → List ((ℕ × ℕ) × State) → ℕ × ℕ → State → Joined

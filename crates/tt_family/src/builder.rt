@@ -6,14 +6,14 @@ ghost use Rattle.std.specs.List.Sorted.{IsStrictlySortedBy};
 ghost use Rattle.std.specs.Map.{keys_of};
 ghost use Rattle.tt_abs.specs.Entries.{Ascends};
 ghost use Rattle.tt_abs.specs.States.{state_order};
-ghost use Rattle.tt_family.specs.Joins.{HasOtherDepth, HasSameDepth, PutsState, TellsNewAt};
+ghost use Rattle.tt_family.specs.Joins.{HasOtherDepth, HasSameDepth, PutsState, PutsStateAs, TellsNewAt};
 ghost use Rattle.tt_family.specs.Places.{place_cmp, states_of};
 ghost use Rattle.tt_family.specs.Puts.{Reweighs, family_state, place_of};
 ghost use Rattle.tt_family.specs.Built.{AscendsByKey, key_cmp, key_of as key_of_entry};
 ghost use Rattle.std.specs.BTreeMap.{IsOrdered, get};
 ghost use Rattle.tt_family.specs.Representation.FileOrder.{IsFileOrder, children};
 ghost use Rattle.tt_family.specs.Ascending.{IsFinished, IsContextAt};
-ghost use Rattle.tt_family.specs.Ends.{AreDefinedAtEnd, AreKnownAtEnd};
+ghost use Rattle.tt_family.specs.Ends.{AreDefinedAtEnd, AreDefinedWhereFilled, AreKnownAtEnd, FillingsKeepEnd};
 ghost use Rattle.tt_family.specs.Contents.{AddsChild, HasChild, IsChild, IsFamily, family_of, frames_at, points_of, state_at};
 ghost use Rattle.tt_abs.specs.Spots.{spot_of};
 
@@ -285,8 +285,9 @@ impl Builder {
 
     /// Returns the functions that are known at the end of a program of this length, where no call
     /// is open: by ascending numbers, each with its body. `None` if the end has no state. Where the
-    /// family is good for the program, each run of it that reaches its end has these functions
-    /// there, with these bodies.
+    /// family is good for the program, or can be filled up to a good one, each run of the program
+    /// that reaches its end has these functions there, with these bodies. A filling has the
+    /// family's own state at the end.
     pub fn end_functions(&self, length: u32) -> Option<&[(u16, u32)]>
         ensures none { result ≡ None → family_of self.now ([], length) ≡ None }
         ensures some { IfSome result (λ functions.
@@ -294,6 +295,9 @@ impl Builder {
         ensures ascends { IfSome result (λ functions. Ascends functions.now) }
         ensures defined { IfSome result (λ functions.
             AreDefinedAtEnd (family_of self.now) length functions.now) }
+        ensures filled { IfSome result (λ functions.
+            AreDefinedWhereFilled (family_of self.now) length functions.now) }
+        ensures fillings { FillingsKeepEnd (family_of self.now) length }
     {
         match self.state(0, length) {
             Some(state) => Some(state.functions()),
@@ -302,7 +306,7 @@ impl Builder {
     }
 
     /// Puts a state at a point, by a join where the point has a state already and by a copy
-    /// otherwise, and returns what that makes of the state there.
+    /// otherwise, and returns whether the state there is new or has changed.
     ///
     /// # Errors
     /// `DepthMismatch` exactly if a state of another depth is there; `OutOfMemory`. Then the
@@ -312,10 +316,38 @@ impl Builder {
         context: u32,
         offset: u32,
         state: &State,
-    ) -> Result<Joined, JoinFault>
+    ) -> Result<bool, JoinFault>
         requires there { context < length self.old.contexts }
         requires theirs { state_order.InRange state.now }
         ensures put { IfOk result (PutsState self.old self.new context offset state.now) }
+        ensures sums { IfOk result (λ _.
+            Reweighs self.old self.new (place_of self.old context offset)) }
+        ensures depth { result ≡ Err JoinFault.DepthMismatch
+            → HasOtherDepth (family_state self.old context offset) state.now }
+        ensures joined { IfOk result (λ _.
+            HasSameDepth (family_state self.old context offset) state.now) }
+        ensures contexts { self.new.contexts ≡ self.old.contexts }
+        ensures kept { OnErr result (self.new ≡ self.old) }
+        ensures family { IsFamily self.new }
+    {
+        let joined = self.put_state(context, offset, state)?;
+        Ok(joined.is_change())
+    }
+
+    /// Puts a state at a point as `join_state` does, and returns whether the state there is new,
+    /// has changed or is the same.
+    ///
+    /// # Errors
+    /// As `join_state`.
+    pub fn put_state(
+        &mut self,
+        context: u32,
+        offset: u32,
+        state: &State,
+    ) -> Result<Joined, JoinFault>
+        requires there { context < length self.old.contexts }
+        requires theirs { state_order.InRange state.now }
+        ensures put { IfOk result (PutsStateAs self.old self.new context offset state.now) }
         ensures new { IfOk result (TellsNewAt self.old context offset) }
         ensures sums { IfOk result (λ _.
             Reweighs self.old self.new (place_of self.old context offset)) }

@@ -7,7 +7,7 @@ ghost use Rattle.std.specs.Map.{keys_of};
 ghost use Rattle.tt_abs.specs.Entries.{Ascends};
 ghost use Rattle.tt_family.specs.Places.{place_cmp, states_of};
 ghost use Rattle.tt_family.specs.Puts.{family_state};
-ghost use Rattle.tt_family.specs.Ends.{AreDefinedAtEnd, AreKnownAtEnd};
+ghost use Rattle.tt_family.specs.Ends.{AreDefinedAtEnd, AreDefinedWhereFilled, AreKnownAtEnd, FillingsKeepEnd};
 ghost use Rattle.tt_family.specs.Contents.{HasChild, IsChild, IsFamily, family_of, frames_at, points_of, state_at};
 ghost use Rattle.tt_family.specs.Ascending.{IsFinished, IsContextAt};
 ghost use Rattle.tt_abs.specs.Spots.{spot_of};
@@ -160,8 +160,9 @@ impl Certificate {
 
     /// Returns the functions that are known at the end of a program of this length, where no call
     /// is open: by ascending numbers, each with its body. `None` if the end has no state. Where the
-    /// family is good for the program, each run of it that reaches its end has these functions
-    /// there, with these bodies.
+    /// family is good for the program, or can be filled up to a good one, each run of the program
+    /// that reaches its end has these functions there, with these bodies. A filling has the
+    /// family's own state at the end.
     pub fn end_functions(&self, length: u32) -> Option<&[(u16, u32)]>
         ensures none { result ≡ None → family_of self.now ([], length) ≡ None }
         ensures some { IfSome result (λ functions.
@@ -169,6 +170,9 @@ impl Certificate {
         ensures ascends { IfSome result (λ functions. Ascends functions.now) }
         ensures defined { IfSome result (λ functions.
             AreDefinedAtEnd (family_of self.now) length functions.now) }
+        ensures filled { IfSome result (λ functions.
+            AreDefinedWhereFilled (family_of self.now) length functions.now) }
+        ensures fillings { FillingsKeepEnd (family_of self.now) length }
     {
         self.builder.end_functions(length)
     }

@@ -12,3 +12,4 @@ mod walk;
 mod worklist;
 
 pub use finder::{Explored, Finder, Found, explore, find};
+pub use tt_abs::{Refusal, Spot};

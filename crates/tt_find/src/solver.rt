@@ -97,7 +97,7 @@ impl Solver {
         ensures tells { IfOk result (TellsNewAt self.old.builder context offset) }
         ensures apart { IfErr result (NamesApart self.old.builder context offset state.now) }
     {
-        let joined = match self.builder.join_state(context, offset, state) {
+        let joined = match self.builder.put_state(context, offset, state) {
             Ok(joined) => joined,
             Err(JoinFault::DepthMismatch) => {
                 return Err(refused_at(&self.builder, context, offset, Reason::DepthMismatch));

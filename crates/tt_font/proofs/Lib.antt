@@ -12,3 +12,4 @@ pub mod ReadGlyphs
 pub mod LawProofs
 pub mod CompositeLemmas
 pub mod MemoryLemmas
+pub mod RangeLemmas

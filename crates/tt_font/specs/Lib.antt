@@ -13,5 +13,7 @@ pub mod Conditions
 pub mod Files
 pub mod FileFaults
 pub mod Reading
+pub mod Ranges
+pub mod FontFields
 pub mod Laws
 pub mod Representation

@@ -1,6 +1,5 @@
 -- What the bytes of a font file hold (OpenType specification, "Font tables").
 use Rattle.std.specs.Prelude.{◌≡◌, ℕ, ◌*◌, ◌<◌, ◌≤◌, List, [], length, slice_index_or, Some}
-use denote.Bor.{Bor}
 use Rattle.tt_code.specs.declared.limits.Limits.{Limits}
 use Rattle.tt_font.specs.declared.glyph_part.GlyphPart.{GlyphPart}
 use Rattle.tt_font.specs.declared.tag.Tag.TheVariants.{Fpgm, Prep}

@@ -62,21 +62,15 @@ pub struct Font<'a> {
 }
 
 impl<'a> Model for Font<'a> {
-    ghost use Rattle.std.specs.Prelude.{map, length, ◌<◌, ◌^◌};
-    ghost use Rattle.tt_font.specs.Reading.{FontData, glyph_data};
+    ghost use Rattle.tt_font.specs.Reading.{FontData};
 
     ghost Value = { FontData };
 
-    ghost view = { λ font. record {
-      limits = font.limits;
-      cvt_count = font.cvt_count;
-      fpgm = font.fpgm.now;
-      prep = font.prep.now;
-      glyphs = map glyph_data font.glyphs.items;
-      component_reads = font.component_reads;
-    } };
+    ghost use Rattle.tt_font.specs.FontFields.{IsKept, font_data};
 
-    ghost invariant = { λ font. length font.glyphs.items < 2 ^ 16 };
+    ghost view = { font_data };
+
+    ghost invariant = { IsKept };
 }
 
 impl<'a> Font<'a> {
@@ -84,6 +78,7 @@ impl<'a> Font<'a> {
     ghost use Rattle.std.specs.Option.{option_map};
     ghost use Rattle.tt_font.specs.Conditions.{IsOutOfMemory, TestsWithMemory};
     ghost use Rattle.tt_font.specs.FileFaults.{font_fault, tables_fault};
+    ghost use Rattle.tt_font.specs.Ranges.{IsFontInRange};
     ghost use Rattle.tt_font.specs.Reading.{Reads, ReadsComponents, glyph_data};
 
     /// Reads the bytes of a font file. No glyph and no program is copied, and the memory that is
@@ -126,6 +121,14 @@ impl<'a> Font<'a> {
             glyphs,
             component_reads: reader.reads(),
         })
+    }
+
+    /// States that each program of the font has fewer than 2^31 bytes, and that maxStackElements has
+    /// 16 bits, as is always so.
+    pub fn range_facts(&self)
+        ensures { IsFontInRange self.now }
+    {
+        let _ = &self.limits;
     }
 
     /// Returns what the font allows its programs.

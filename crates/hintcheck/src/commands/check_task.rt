@@ -1,6 +1,6 @@
 //! The subcommand `check`: the verdict on a font file by its certificate.
 
-ghost use Rattle.std.specs.Prelude.{◌≡◌, ◌+◌, ◌<◌, IfErr, IfOk, IfSome, List, Err, Ok, length, ℕ, []};
+ghost use Rattle.std.specs.Prelude.{◌≡◌, ◌+◌, IfErr, IfOk, IfSome, List, Err, Ok, length, ℕ, []};
 ghost use Rattle.hintcheck.specs.Certificates.{IsChecked};
 ghost use Rattle.hintcheck.specs.Commands.{AtForm, IsNoWriteFault};
 ghost use Rattle.hintcheck.specs.CommandFaults.{IsFaultOfChecking, IsWithin};

@@ -1,7 +1,7 @@
 //! Files: their bytes, the numbers by which a system tells them apart, and the rest of what is
 //! written to them.
 
-ghost use Rattle.std.specs.Prelude.{◌≡◌, ◌≢◌, ◌↔◌, ◌+◌, ◌<◌, IfErr, IfOk, IfSome, IsTrue, None, Err, Ok};
+ghost use Rattle.std.specs.Prelude.{◌≡◌, ◌≢◌, ◌↔◌, IfErr, IfOk, IfSome, IsTrue, None, Err, Ok};
 ghost use Rattle.std.specs.Io.Buffered.{writer_contents};
 ghost use Rattle.std.specs.Io.KnownBytes.{Keeps};
 ghost use Rattle.hintcheck.specs.Commands.{HasAll, IsNoWriteFault};

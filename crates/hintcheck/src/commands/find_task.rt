@@ -1,6 +1,6 @@
 //! The subcommand `find`: the verdict on a font file, and its certificate.
 
-ghost use Rattle.std.specs.Prelude.{◌≡◌, ◌≢◌, ◌+◌, ◌<◌, IfErr, IfOk, List, Err, Ok, OnOk, None, ℕ, []};
+ghost use Rattle.std.specs.Prelude.{◌≡◌, ◌≢◌, IfErr, IfOk, List, Err, Ok, OnOk, None, ℕ, []};
 ghost use Rattle.std.specs.Io.KnownBytes.{Keeps};
 ghost use Rattle.hintcheck.specs.BudgetAnswers.{IsFindFaultOutsideFont};
 ghost use Rattle.hintcheck.specs.CertificateFaults.{WritesNothing};

@@ -1,6 +1,6 @@
 //! The subcommand `upgrade`: an old certificate file, written again in the newest form.
 
-ghost use Rattle.std.specs.Prelude.{◌≡◌, ◌≢◌, ◌+◌, ◌<◌, ◌⊎◌, IfErr, IfOk, IfSome, Err, Ok, OnOk};
+ghost use Rattle.std.specs.Prelude.{◌≡◌, ◌≢◌, ◌⊎◌, IfErr, IfOk, IfSome, Err, Ok, OnOk};
 ghost use Rattle.hintcheck.specs.CertificateTexts.{WritesText};
 ghost use Rattle.hintcheck.specs.Commands.{AtForm, IsNoWriteFault, TellsFailure};
 ghost use Rattle.hintcheck.specs.CommandFaults.{IsFaultOfPrinting, IsFaultOfRewriting, IsFaultOfUpgrading};

@@ -102,18 +102,18 @@ fn checks_within_points(rt: HostRuntime) -> Result<(), Fail> {
     Ok(())
 }
 
-/// The same of the search for a certificate, which takes 18 points, and 7 where the font is
+/// The same of the search for a certificate, which takes 27 points, and 11 where the font is
 /// refused; and how many bytes of the certificate are written: of the header and of the sections of
 /// the programs that were found once more.
 const SEARCHES: &[(&[&str], &str, u8, &str, &str, usize)] = &[
     (&FONT, "0", 3, "", BUDGET, 0),
-    (&FONT, "8", 3, "", BUDGET, 0),
-    (&FONT, "9", 3, "", BUDGET, 10),
-    (&FONT, "12", 3, "", BUDGET, 95),
-    (&FONT, "17", 3, "", BUDGET, 145),
-    (&FONT, "18", 0, ACCEPTED, "", 300),
-    (&UNDERFLOWING, "6", 3, "", BUDGET, 0),
-    (&UNDERFLOWING, "7", 1, FOUND, "", 0),
+    (&FONT, "17", 3, "", BUDGET, 0),
+    (&FONT, "18", 3, "", BUDGET, 10),
+    (&FONT, "21", 3, "", BUDGET, 95),
+    (&FONT, "26", 3, "", BUDGET, 145),
+    (&FONT, "27", 0, ACCEPTED, "", 300),
+    (&UNDERFLOWING, "10", 3, "", BUDGET, 0),
+    (&UNDERFLOWING, "11", 1, FOUND, "", 0),
 ];
 
 #[test]
@@ -136,9 +136,10 @@ fn searches_within_points(rt: HostRuntime) -> Result<(), Fail> {
     Ok(())
 }
 
-/// A thousand glyphs of 3 points each: their families are found with 3,002 points, and so again.
-/// With one less than that, all is written except for the last section: a header of 10 bytes, 44
-/// for each empty program and 79 for each of 999 glyphs, more than is written at a time.
+/// A thousand glyphs of 3 points each: the verdict takes 6,004 points, and the families are found
+/// once more with 3,002. With one less than that, all is written except for the last section: a
+/// header of 10 bytes, 44 for each empty program and 79 for each of 999 glyphs, more than is
+/// written at a time.
 #[test]
 fn long_certificate_without_its_last_section(rt: HostRuntime) -> Result<(), Fail> {
     let bytes = font_of(rt.alloc(), "", "", &["B0072E"; 1000]).ok_or("a font")?;
@@ -149,7 +150,7 @@ fn long_certificate_without_its_last_section(rt: HostRuntime) -> Result<(), Fail
         "hintcheck",
         "find",
         "--points",
-        "6003",
+        "9005",
         font.as_str(),
         cert.as_str(),
     ];
@@ -163,7 +164,7 @@ fn long_certificate_without_its_last_section(rt: HostRuntime) -> Result<(), Fail
         "hintcheck",
         "find",
         "--points",
-        "6004",
+        "9006",
         font.as_str(),
         cert.as_str(),
     ];

@@ -1,7 +1,5 @@
 //! The programs of a font checked one by one, each call within a budget.
 
-ghost use Rattle.hintcheck.specs.FontPrograms.{IsFontInRange};
-
 use crate::checker::sessions::{Bytes, Told, told_of};
 use hintcheck::{Budget, Name, Session, read_font};
 use hintcheck_test_fixtures::hex_bytes::bytes_of;
@@ -19,9 +17,7 @@ fn told_each(
     font: &Font<'_>,
     bytes: &[u8],
     budgets: &[u64],
-) -> Result<Vec<Answer>, AllocError>
-    requires { IsFontInRange font.now }
-{
+) -> Result<Vec<Answer>, AllocError> {
     let mut source = Bytes { left: bytes };
     let mut session = Session::new(font);
     let mut answers = Vec::new(alloc);
@@ -39,9 +35,7 @@ fn told_together(
     font: &Font<'_>,
     bytes: &[u8],
     most: u64,
-) -> Result<Vec<Answer>, AllocError>
-    requires { IsFontInRange font.now }
-{
+) -> Result<Vec<Answer>, AllocError> {
     let mut source = Bytes { left: bytes };
     let mut session = Session::new(font);
     let mut answers = Vec::new(alloc);

@@ -18,60 +18,50 @@ type Programs<'a> = (&'a str, &'a str, &'a [&'a str]);
 /// and the check by it. A program costs a point for each offset to which a state comes, its end
 /// included, and that anew in each turn of a call: once to find its family, and once to check it.
 /// So an empty program costs 1 and 1, except that no verdict looks at a glyph without instructions.
-/// A search for a certificate finds each family twice and checks none: the second time it is to
-/// write them, also that of such a glyph.
+/// A search for a certificate makes the verdict, and then finds each family once more, also that of
+/// such a glyph.
 const ACCEPTED: &[(Programs<'static>, u64, u64, u64)] = &[
-    // The font program and the CVT program: 1 each to find and 1 each to check. The search: 1 and
-    // 1, then once more, and 1 for the glyph. The check: 1 for each of the three.
-    (("", "", &[""]), 4, 5, 3),
+    // The font program and the CVT program: 1 each to find and 1 each to check. The search: 4, then
+    // 1 for each of the three. The check: 1 for each of the three.
+    (("", "", &[""]), 4, 7, 3),
     // PUSHB 7; MDAP. The glyph's states are at 0, at 2 and at the end, 3: so it costs 3 and 3.
-    (("", "", &["B0072E"]), 10, 10, 5),
-    // That twice, with a glyph without instructions between them: 4, 6 and 6. The search: 8, and 9.
-    (("", "", &["B0072E", "", "B0072E"]), 16, 17, 9),
+    (("", "", &["B0072E"]), 10, 15, 5),
+    // That twice, with a glyph without instructions between them: 4, 6 and 6. The search: 16 and 9.
+    (("", "", &["B0072E", "", "B0072E"]), 16, 25, 9),
     // FDEF 0: POP, ENDF has 0, 2 and the end, 5: 3. PUSHB 7, 0; CALL has 0 and 3, then 3 and 4 of
     // the font program, and the end, 4: 5. The CVT program costs 1.
-    (("B0002C212D", "", &["B107002B"]), 18, 18, 9),
+    (("B0002C212D", "", &["B107002B"]), 18, 27, 9),
     // PUSHB 1, 2, 3, 3, 0; LOOPCALL has 0 and 6, then 3 and 4 of the font program in each of three
     // turns, and the end, 7: 9.
-    (("B0002C212D", "", &["B401020303002A"]), 26, 26, 13),
+    (("B0002C212D", "", &["B401020303002A"]), 26, 39, 13),
     // MPPEM; IF; PUSHB 1; ELSE; PUSHB 2; EIF; POP. Both ways come to the POP before the state there
     // is carried on: 0, 1, 2, 4, 5, 7, 8 and the end, 9: 8.
-    (("", "", &["4B58B0011BB0025921"]), 20, 20, 10),
+    (("", "", &["4B58B0011BB0025921"]), 20, 30, 10),
     // RTG; RTG; PUSHW -5; MPPEM; JROT to 1. The finder comes to 0, 1, 2, 5 and 6; then a second way
     // leads to 1, where no state was kept, and it starts again: the same and the end, 7. So that
     // costs 5 and 6, and the check 6.
-    (("", "", &["1818B8FFFB4B78"]), 21, 26, 8),
+    (("", "", &["1818B8FFFB4B78"]), 21, 34, 8),
     // PUSHB 1; PUSHB 1; ADD; PUSHW -7; MPPEM; JROT to 2; POP. The finder comes to 0, 2, 4, 5, 8 and
     // 9, and starts again, as above: then it comes to 0, twice to 2, 4, 5, 8 and 9, first with 1
     // and then with any number, and to 10 and the end, 11. So that costs 6 and 13, and the check 8.
-    (("", "", &["B001B00160B8FFF94B7821"]), 31, 42, 10),
+    (("", "", &["B001B00160B8FFF94B7821"]), 31, 52, 10),
 ];
 
-/// Fonts that are refused, and what is told of them; and how many points the verdict makes, and the
-/// search for a certificate. A program that is refused costs the points up to where it is, and
-/// isn't checked; nor is a certificate written then.
-const REFUSED: &[(Programs<'static>, Told, u64, u64)] = &[
+/// Fonts that are refused, and what is told of them; and how many points the verdict makes, which
+/// is all that the search for a certificate makes then. A program that is refused costs the points
+/// up to where it is, and isn't checked.
+const REFUSED: &[(Programs<'static>, Told, u64)] = &[
     // An EIF without its IF: the program has no point.
-    (("59", "", &["B0072E"]), Told::Refused(1, 0, 21), 0, 0),
+    (("59", "", &["B0072E"]), Told::Refused(1, 0, 21), 0),
     // POP in the font program, where all ends: 1.
-    (("21", "", &["B0072E"]), Told::Refused(1, 0, 26), 1, 1),
+    (("21", "", &["B0072E"]), Told::Refused(1, 0, 26), 1),
     // POP in the CVT program, where all ends: 1 and 1 for the font program, then 1.
-    (("", "21", &["B0072E"]), Told::Refused(1, 0, 26), 3, 2),
+    (("", "21", &["B0072E"]), Told::Refused(1, 0, 26), 3),
     // POP in a glyph, after which the next one costs 3 and 3.
-    (("", "", &["21", "B0072E"]), Told::Refused(1, 0, 26), 11, 6),
-    (
-        ("", "", &["B0072E", "59", "21"]),
-        Told::Refused(2, 0, 21),
-        11,
-        6,
-    ),
+    (("", "", &["21", "B0072E"]), Told::Refused(1, 0, 26), 11),
+    (("", "", &["B0072E", "59", "21"]), Told::Refused(2, 0, 21), 11),
     // PUSHB 0; CALL has 0 and 2, and is refused at 3 of the font program: 3 and 3, 1 and 1, and 3.
-    (
-        ("B0002C212D", "", &["B0002B"]),
-        Told::Refused(1, 3, 26),
-        11,
-        7,
-    ),
+    (("B0002C212D", "", &["B0002B"]), Told::Refused(1, 3, 26), 11),
 ];
 
 /// Whether a call that needs `needed` points, and tells `want` with them, told what it should
@@ -155,12 +145,12 @@ fn accepted_fonts_within_each_budget(rt: HostRuntime) {
 #[test]
 fn refused_fonts_within_each_budget(rt: HostRuntime) {
     let alloc = rt.alloc();
-    for (programs, want, verdict, search) in REFUSED {
+    for (programs, want, needed) in REFUSED {
         let (fpgm, prep, glyphs) = *programs;
         let font = font_of(alloc, fpgm, prep, glyphs).expect(&rt, "font");
-        let wrong = first_wrong_verdict(alloc, &font, *verdict, *want);
+        let wrong = first_wrong_verdict(alloc, &font, *needed, *want);
         assert_eq!(rt; wrong, None, "verdict on {programs:?}");
-        let wrong = first_wrong_search(alloc, &font, &[], *search, *want);
+        let wrong = first_wrong_search(alloc, &font, &[], *needed, *want);
         assert_eq!(rt; wrong, None, "search for that of {programs:?}");
     }
 }

@@ -6,7 +6,7 @@ use hintcheck_test_fixtures::hex_bytes::bytes_of;
 use hintcheck_test_fixtures::stored_certificates::{FONT, FORM_4, UNDERFLOWING};
 use hintcheck_test_fixtures::streams::{ALL, Taker, steps_of};
 
-/// The points of these fonts: 18 to judge the first, 9 to check it by its certificate and 18 to
+/// The points of these fonts: 18 to judge the first, 9 to check it by its certificate and 27 to
 /// find that; 11 to judge the other one, which is refused.
 #[test]
 fn one_budget_for_several_fonts(rt: HostRuntime) {
@@ -14,7 +14,7 @@ fn one_budget_for_several_fonts(rt: HostRuntime) {
     let font = bytes_of(alloc, &FONT).expect(&rt, "font");
     let other = bytes_of(alloc, &UNDERFLOWING).expect(&rt, "other font");
     let form_4 = bytes_of(alloc, &FORM_4).expect(&rt, "certificate");
-    let mut budget = Budget::of(60);
+    let mut budget = Budget::of(69);
     assert_eq!(rt; judged_within(alloc, &font, &mut budget), Told::Accepted);
     assert_eq!(rt; budget.made(), 18);
     assert_eq!(rt;
@@ -29,13 +29,13 @@ fn one_budget_for_several_fonts(rt: HostRuntime) {
     let (told, bytes) = found_within(alloc, &font, taker, &mut budget);
     assert_eq!(rt; told, Told::Accepted);
     assert!(rt; *bytes == *form_4, "the stored certificate");
-    assert_eq!(rt; budget.made(), 56);
+    assert_eq!(rt; budget.made(), 65);
     assert!(rt; !budget.is_exceeded());
     assert_eq!(rt; judged_within(alloc, &font, &mut budget), Told::Budget);
-    assert_eq!(rt; budget.made(), 60, "four points were left");
+    assert_eq!(rt; budget.made(), 69, "four points were left");
     assert!(rt; budget.is_exceeded());
     assert_eq!(rt; judged_within(alloc, &font, &mut budget), Told::Budget);
-    assert_eq!(rt; budget.made(), 60, "none is made then");
+    assert_eq!(rt; budget.made(), 69, "none is made then");
 }
 
 #[test]
@@ -92,21 +92,21 @@ fn faults_of_a_certificate_before_the_budget(rt: HostRuntime) {
 }
 
 /// The budget, how many bytes can be written, what is told, how many points were made, and how many
-/// bytes were written. The families are found with 9 points, and once more with 3, 1 and 5: each is
-/// written once it is found, and the header before the first of them.
+/// bytes were written. The verdict takes 18 points, and the families are found once more with 3, 1
+/// and 5: each is written once it is found, and the header before the first of them.
 const SEARCHES: &[(u64, usize, Told, u64, usize)] = &[
-    (8, ALL, Told::Budget, 8, 0),
-    (8, 0, Told::Budget, 8, 0),
-    (9, 0, Told::Write, 9, 0),
-    (9, 9, Told::Write, 9, 9),
-    (9, ALL, Told::Budget, 9, 10),
-    (11, 10, Told::Budget, 11, 10),
-    (12, 10, Told::Write, 12, 10),
-    (12, ALL, Told::Budget, 12, 95),
-    (13, ALL, Told::Budget, 13, 145),
-    (17, 145, Told::Budget, 17, 145),
-    (18, 299, Told::Write, 18, 299),
-    (18, 300, Told::Accepted, 18, 300),
+    (17, ALL, Told::Budget, 17, 0),
+    (17, 0, Told::Budget, 17, 0),
+    (18, 0, Told::Write, 18, 0),
+    (18, 9, Told::Write, 18, 9),
+    (18, ALL, Told::Budget, 18, 10),
+    (20, 10, Told::Budget, 20, 10),
+    (21, 10, Told::Write, 21, 10),
+    (21, ALL, Told::Budget, 21, 95),
+    (22, ALL, Told::Budget, 22, 145),
+    (26, 145, Told::Budget, 26, 145),
+    (27, 299, Told::Write, 27, 299),
+    (27, 300, Told::Accepted, 27, 300),
 ];
 
 #[test]

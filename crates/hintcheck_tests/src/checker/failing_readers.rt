@@ -1,9 +1,6 @@
 //! Readers that give one byte a call, of which one fails: all that was told by then remains valid,
 //! and no further call is made.
 
-ghost use Rattle.std.specs.Prelude.{◌≡◌, ◌<◌};
-ghost use Rattle.hintcheck.specs.FontPrograms.{IsFontInRange};
-
 use crate::checker::certificates::with_byte;
 use hintcheck::{Session, read_font};
 use hintcheck_test_fixtures::font_calls::{
@@ -32,9 +29,7 @@ fn one_by_one(bytes: &[u8], calls: usize) -> Steps<'_> {
 
 /// Returns what the calls of a session tell, one for each program and one for the end. No more than
 /// one program is refused.
-fn told_by_calls<S: Source>(alloc: Global, font: &Font<'_>, source: &mut S) -> Told
-    requires { IsFontInRange font.now }
-{
+fn told_by_calls<S: Source>(alloc: Global, font: &Font<'_>, source: &mut S) -> Told {
     let mut session = Session::new(font);
     let mut told = Told::Accepted;
     for _ in 0..u32::from(font.glyph_count()) + 3 {

@@ -1,63 +1,37 @@
 //! The programs of a font found one by one.
 
-ghost use Rattle.std.specs.Prelude.{◌≡◌, ◌<◌};
-ghost use Rattle.hintcheck.specs.FontPrograms.{IsFontInRange};
-
-use hintcheck::{Name, Outcome, Session, read_font};
+use hintcheck::{Budget, FindFontFault, Name, Outcome, Session, read_font};
 use hintcheck_test_fixtures::hex_bytes::bytes_of;
 use hintcheck_test_fixtures::stored_certificates::{FONT, FORM_4, UNDERFLOWING};
 use hintcheck_test_fixtures::streams::{ALL, Taker};
 use std::alloc::Global;
 use tt_cert::{encode, write_header};
-use tt_find::{Finder, Found};
+use tt_find::Found;
 use tt_font::Font;
 use tt_stream::{Counted, Sink};
 
-/// Writes the section of a program that was found, and gives its memory back to the finder; nothing
-/// where there is none.
-fn write_one<W: Sink>(
-    alloc: Global,
-    finder: &mut Finder,
-    name: Name,
-    found: Option<Found>,
-    sink: &mut W,
-) -> Option<()> {
+/// Writes the section of a program that was found; nothing where there is none.
+fn write_one<W: Sink>(alloc: Global, name: Name, found: Option<Found>, sink: &mut W) -> Option<()> {
     let Some(found) = found else {
         return Some(());
     };
-    encode(alloc, name, &found.certificate, sink).ok()?;
-    finder.take_back(found.certificate);
-    Some(())
+    encode(alloc, name, &found.certificate, sink).ok()
 }
 
 /// Finds the programs of a font one by one and writes the section of each that is accepted: the
 /// outcomes; nothing where memory ran out.
-fn write_each<W: Sink>(alloc: Global, font: &Font<'_>, sink: &mut W) -> Option<Vec<Outcome>>
-    requires { IsFontInRange font.now }
-{
+fn write_each<W: Sink>(alloc: Global, font: &Font<'_>, sink: &mut W) -> Option<Vec<Outcome>> {
     let programs = u32::from(font.glyph_count()) + 2;
     write_header(programs, sink).ok()?;
-    let mut finder = Finder::new(alloc);
     let mut outcomes = Vec::new(alloc);
     let mut session = Session::new(font);
     for _ in 0..programs + 2 {
-        if let Some((outcome, found)) = session.find_next(alloc, &mut finder).ok()? {
+        if let Some((outcome, found)) = session.find_next(alloc).ok()? {
             outcomes.push(outcome).ok()?;
-            write_one(alloc, &mut finder, outcome.program, found, sink)?;
+            write_one(alloc, outcome.program, found, sink)?;
         }
     }
     Some(outcomes)
-}
-
-fn written_on(
-    alloc: Global,
-    font: &Font<'_>,
-) -> Option<(Vec<Outcome>, Vec<u8>)>
-    requires range { IsFontInRange font.now }
-{
-    let mut sink = Counted::new(Taker::new(alloc, ALL, ALL));
-    let outcomes = write_each(alloc, font, &mut sink)?;
-    Some((outcomes, sink.into_inner().bytes))
 }
 
 /// Returns the outcomes of a font's programs and what is written of them; nothing where the bytes
@@ -65,7 +39,9 @@ fn written_on(
 fn written(alloc: Global, parts: &[&str]) -> Option<(Vec<Outcome>, Vec<u8>)> {
     let file = bytes_of(alloc, parts).ok()?;
     let font = read_font(alloc, &file).ok()?;
-    written_on(alloc, &font)
+    let mut sink = Counted::new(Taker::new(alloc, ALL, ALL));
+    let outcomes = write_each(alloc, &font, &mut sink)?;
+    Some((outcomes, sink.into_inner().bytes))
 }
 
 /// The names of the programs, in the order of a font with one glyph.
@@ -99,4 +75,27 @@ fn refused_glyph_without_a_family(rt: HostRuntime) {
     assert_eq!(rt; refused.place.offset, 3);
     assert_eq!(rt; refused.reason.number(), 26);
     assert!(rt; bytes.len() < 300, "two sections alone");
+}
+
+#[test]
+fn found_within_budgets(rt: HostRuntime) {
+    let file = bytes_of(rt.alloc(), &FONT).expect(&rt, "bytes");
+    let font = Font::read(rt.alloc(), &file).expect(&rt, "font");
+    let mut session = Session::new(&font);
+    let mut ample = Budget::of(1000);
+    let first = session.find_next_within(rt.alloc(), &mut ample);
+    let Ok(Some((outcome, Some(_)))) = first else {
+        panic!(rt; "the font program isn't found");
+    };
+    assert_eq!(rt; outcome.program, Name::Font);
+    let second = session.find_next_within(rt.alloc(), &mut Budget::of(0));
+    assert!(rt;
+        matches!(second, Err(FindFontFault::Budget)),
+        "no point may be made"
+    );
+    let third = session.find_next(rt.alloc());
+    assert!(rt;
+        matches!(third, Err(FindFontFault::Budget)),
+        "the session keeps the fault"
+    );
 }

@@ -1,9 +1,6 @@
 //! The programs of a font checked one by one.
 
-ghost use Rattle.std.specs.Prelude.{◌≡◌};
-ghost use Rattle.hintcheck.specs.FontPrograms.{IsFontInRange};
-
-use hintcheck::{CheckFontFault, Name, Outcome, Refused, Session, read_font};
+use hintcheck::{CheckFontFault, Name, Outcome, Refused, Session};
 use hintcheck_test_fixtures::hex_bytes::bytes_of;
 use hintcheck_test_fixtures::stored_certificates::{
     FONT, FORM_1, FORM_2, FORM_3, FORM_4, UNDERFLOWING,
@@ -19,13 +16,11 @@ pub(crate) struct Bytes<'a> {
 }
 
 impl Source for Bytes<'_> {
-    ghost use Rattle.std.specs.Prelude.{Some, []};
+    ghost use Rattle.std.specs.Prelude.{Some};
 
     ghost remaining = { λ bytes. Some bytes.left.now };
 
     ghost failures = { λ _. 0 };
-
-    ghost read_ahead = { λ _. [] };
 
     fn read(&mut self, buf: &mut [u8]) -> Result<usize, ReadFailed> {
         let count = self.left.len().min(buf.len());
@@ -34,12 +29,6 @@ impl Source for Bytes<'_> {
         self.left = rest;
         Ok(count)
     }
-
-    fn ahead(&self) -> &[u8] {
-        &[]
-    }
-
-    fn skip(&mut self, _count: usize) {}
 }
 
 /// Returns the first refused program of a font by its certificate, of which nothing is read after
@@ -48,9 +37,7 @@ fn first_refused<S: Source>(
     alloc: Global,
     font: &Font<'_>,
     source: &mut S,
-) -> Result<Option<Refused>, CheckFontFault>
-    requires { IsFontInRange font.now }
-{
+) -> Result<Option<Refused>, CheckFontFault> {
     let mut session = Session::new(font);
     for _ in 0..u32::from(font.glyph_count()) + 3 {
         let Some(outcome) = session.check_next(alloc, source)? else {
@@ -100,9 +87,7 @@ fn five_calls(
     font: &Font<'_>,
     bytes: &[u8],
     others: &[u8],
-) -> ([Told; 5], usize, usize)
-    requires { IsFontInRange font.now }
-{
+) -> ([Told; 5], usize, usize) {
     let mut source = Bytes { left: bytes };
     let mut other = Bytes { left: others };
     let mut session = Session::new(font);
@@ -122,7 +107,7 @@ fn five_calls(
 /// ran out.
 fn called(alloc: Global, parts: &[&str], bytes: &[u8]) -> Option<([Told; 5], usize, usize)> {
     let file = bytes_of(alloc, parts).ok()?;
-    let font = read_font(alloc, &file).ok()?;
+    let font = Font::read(alloc, &file).ok()?;
     Some(five_calls(alloc, &font, bytes, bytes))
 }
 
@@ -134,7 +119,7 @@ fn first_of(
     bytes: &[u8],
 ) -> Option<Result<Option<Refused>, CheckFontFault>> {
     let file = bytes_of(alloc, parts).ok()?;
-    let font = read_font(alloc, &file).ok()?;
+    let font = Font::read(alloc, &file).ok()?;
     let mut source = Bytes { left: bytes };
     Some(first_refused(alloc, &font, &mut source))
 }

@@ -11,7 +11,9 @@ use hintcheck_test_fixtures::programs::{GLYPH, LIMITS, cut};
 use std::alloc::{AllocError, Global};
 use std::process::Abort;
 use tt_abs::Cell::Unknown;
-use tt_abs::{Cell, Move, Moves, Point, Refusal, Setting, State, Successors, ZoneCell, transfer};
+use tt_abs::{
+    Cell, Move, Moves, Point, Refusal, Setting, Spot, State, Successors, ZoneCell, transfer,
+};
 use tt_code::{Frame, Graphics, Program, Reason};
 
 /// What an instruction should do.
@@ -62,19 +64,45 @@ fn is_left(case: &Case<'_>, stack: &[Cell], state: &State) -> bool {
         && state.storage(1) == case.given.stored
 }
 
-/// Whether a case wants these ways on, with this state.
-fn wants(case: &Case<'_>, moves: Moves, state: &State) -> bool {
-    match case.want {
-        Want::Refused(_) => false,
-        Want::Leaves(stack) => moves == Moves::One(Move::To(1)) && is_left(case, stack, state),
-        Want::Goes(ways, stack) => moves == ways && is_left(case, stack, state),
+/// Whether there are these ways on, each with what a case wants of the state there.
+fn lead(case: &Case<'_>, successors: &Successors, moves: Moves, stack: &[Cell]) -> bool {
+    match successors {
+        Successors::One(next) => {
+            moves == Moves::One(next.way) && is_left(case, stack, &next.state)
+        }
+        Successors::Two(next, other) => {
+            let ways = [Some(next.way), Some(other.way)];
+            ways == [moves.get(0), moves.get(1)]
+                && is_left(case, stack, &next.state)
+                && is_left(case, stack, &other.state)
+        }
     }
 }
 
-/// Whether a case wants this refusal.
-fn wants_refusal(case: &Case<'_>, refusal: &Refusal) -> bool {
+/// Whether a case wants these successors.
+fn wants(case: &Case<'_>, successors: &Successors) -> bool {
     match case.want {
-        Want::Refused(want) => matches!(refusal, Refusal::Refused(reason) if *reason == want),
+        Want::Refused(_) => false,
+        Want::Leaves(stack) => lead(case, successors, Moves::One(Move::To(1)), stack),
+        Want::Goes(ways, stack) => lead(case, successors, ways, stack),
+    }
+}
+
+/// Whether a case wants this refusal, at the place of its instruction.
+fn wants_refusal(case: &Case<'_>, refusal: &Refusal) -> bool {
+    let place = match case.call {
+        Some(_) => Spot::Font,
+        None => Spot::Main,
+    };
+    match (case.want, refusal) {
+        (
+            Want::Refused(want),
+            Refusal::Refused {
+                spot,
+                offset,
+                reason,
+            },
+        ) => *reason == want && *spot == place && *offset == case.offset,
         _ => false,
     }
 }
@@ -88,7 +116,7 @@ fn does(setting: &Setting<'_>, point: &Point<'_>, state: &State, case: &Case<'_>
         return false;
     }
     match transfer(setting, point, state) {
-        Ok(Successors { moves, state }) => wants(case, moves, &state),
+        Ok(successors) => wants(case, &successors),
         Err(refusal) => wants_refusal(case, &refusal),
     }
 }

@@ -8,7 +8,7 @@ use std::alloc::Global;
 use tt_abs::Cell::{Known, Unknown};
 use tt_abs::{Cell, State};
 use tt_code::Frame;
-use tt_family::{Builder, ContextFault, JoinFault, Joined};
+use tt_family::{Builder, ContextFault, JoinFault};
 
 /// A context, an offset, and the cells of the stack there, the bottom first, if there is a state.
 type Seen<'a> = (u32, u32, Option<&'a [Cell]>);
@@ -39,7 +39,7 @@ fn has_stacks(builder: &Builder, stacks: &[Seen<'_>]) -> bool {
 /// States that are put one after the other, how each is joined, and what the builder holds then.
 struct Puts<'a> {
     name: &'a str,
-    states: &'a [(Listed<'a>, Result<Joined, JoinFault>)],
+    states: &'a [(Listed<'a>, Result<bool, JoinFault>)],
     points: u32,
     stacks: &'a [Seen<'a>],
 }
@@ -48,9 +48,9 @@ const PUTS: &[Puts<'static>] = &[
     Puts {
         name: "states at one point",
         states: &[
-            ((0, 5, &[1, 2]), Ok(Joined::New)),
-            ((0, 5, &[1, 2]), Ok(Joined::Same)),
-            ((0, 5, &[1, 3]), Ok(Joined::Changed)),
+            ((0, 5, &[1, 2]), Ok(true)),
+            ((0, 5, &[1, 2]), Ok(false)),
+            ((0, 5, &[1, 3]), Ok(true)),
         ],
         points: 1,
         stacks: &[(0, 5, Some(&[Known(1), Unknown]))],
@@ -58,9 +58,9 @@ const PUTS: &[Puts<'static>] = &[
     Puts {
         name: "states of other depths",
         states: &[
-            ((0, 5, &[1, 2]), Ok(Joined::New)),
+            ((0, 5, &[1, 2]), Ok(true)),
             ((0, 5, &[]), Err(JoinFault::DepthMismatch)),
-            ((0, 4, &[]), Ok(Joined::New)),
+            ((0, 4, &[]), Ok(true)),
         ],
         points: 2,
         stacks: &[(0, 5, Some(&[Known(1), Known(2)]))],

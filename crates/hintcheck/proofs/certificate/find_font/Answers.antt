@@ -19,4 +19,10 @@ returns-in_err-read-clause-begun g c =
 
 pub returns-clause-begun : goal.returns-clause-begun
 returns-clause-begun g c =
-    on_err_weaker c.find_programs.result (λ begun. inr (c.in_ok-read.read, c.in_ok-read.ensures.reads, begun)) c.find_programs.ensures.begun
+    on_err_weaker c.find_programs.result (λ begun. elim begun [
+      | inl same ↦ inl same
+      | inr begun_for ↦ inr (c.in_ok-read.read, c.in_ok-read.ensures.reads, begun_for)
+    ]) c.find_programs.ensures.begun
+
+pub returns-clause-write_fault : goal.returns-clause-write_fault
+returns-clause-write_fault g c = λ failed. (c.in_ok-read.read, c.in_ok-read.ensures.reads, c.find_programs.ensures.write_fault failed)

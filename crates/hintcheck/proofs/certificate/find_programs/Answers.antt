@@ -1,8 +1,10 @@
-use Rattle.std.proofs.Common.{◌≡◌, [], sym, ◌∙◌, ap, subst}
+use Rattle.std.proofs.Common.{◌≡◌, [], inl, inr, refl, sym, ◌∙◌, ap, subst}
+use Rattle.std.proofs.lemmas.Bool.{eqb-true}
+use Rattle.std.proofs.lemmas.List.{nil_from_length}
 use Rattle.std.proofs.lemmas.Result.{err_from_is_err_and}
 use Rattle.hintcheck.specs.CertificateTexts.{IsPassingCertificate, WritesText}
 use Rattle.hintcheck.specs.Verdicts.{Judgement}
-use Rattle.hintcheck.proofs.CertificateWriting.{nothing_begun, told_empty}
+use Rattle.hintcheck.proofs.CertificateWriting.{refuses_none, told_empty}
 use Rattle.hintcheck.proofs.certificate.find_programs.Goals as goal
 use Rattle.hintcheck.proofs.certificate.find_programs.Goals.{then-is_empty+in_ok-write_certificate, else-is_empty}
 
@@ -17,4 +19,15 @@ returns-clause-written g c = λ none.
 
 pub returns-in_err-refused-clause-begun : goal.returns-in_err-refused-clause-begun
 returns-in_err-refused-clause-begun g c =
-    let p = err_from_is_err_and c.from_residual.result c.from_residual.ensures.1 in rw p.1 (nothing_begun c.args.font.now (g.W.Sink.contents c.args.sink.now))
+    let p = err_from_is_err_and c.from_residual.result c.from_residual.ensures.1 in rw p.1 (inl refl)
+
+pub returns-in_err-write_certificate-clause-begun : goal.returns-in_err-write_certificate-clause-begun
+returns-in_err-write_certificate-clause-begun g c =
+    let p = err_from_is_err_and c.from_residual-in_err-write_certificate.result c.from_residual-in_err-write_certificate.ensures.1 in
+    rw p.1 (inr (refuses_none c.args.font.now c.in_ok-refused.refused.items c.in_ok-refused.refused.len c.in_ok-refused.refused.ok.0 c.in_ok-refused.ensures.refused
+    (eqb-true _ _ (sym c.if-is_empty.ensures)), c.in_err-write_certificate.ensures.begun))
+
+pub returns-in_err-write_certificate-clause-write_fault : goal.returns-in_err-write_certificate-clause-write_fault
+returns-in_err-write_certificate-clause-write_fault g c = λ _.
+    refuses_none c.args.font.now c.in_ok-refused.refused.items c.in_ok-refused.refused.len c.in_ok-refused.refused.ok.0 c.in_ok-refused.ensures.refused
+    (eqb-true _ _ (sym c.if-is_empty.ensures))

@@ -1,10 +1,11 @@
-use Rattle.std.proofs.Common.{refl, arith, ◌∙◌}
+use Rattle.std.proofs.Common.{refl, arith, ◌∙◌, ap}
 use Rattle.std.proofs.KnownBytes.{Consumes-nil}
 use Rattle.std.proofs.lemmas.Result.{err_from_is_err_and}
 use Rattle.tt_stream.proofs.Beginnings.{consumes_beginning, consumes_then}
 use Rattle.tt_family.proofs.Spending.{spends_on}
 use Rattle.hintcheck.proofs.CheckedSections.{counts_from, finds_fault}
 use Rattle.hintcheck.proofs.SessionRuns.{all_checked_good, checked_all, checked_fault, checked_next, fewer_after, nothing_checked, read_failed}
+use Rattle.hintcheck.proofs.UnreadBytes.{all_unread, unread_last, unread_next}
 use Rattle.hintcheck.proofs.font_check.check_programs.Goals as goal
 
 pub loop-refused-init : goal.loop-refused-init
@@ -14,6 +15,7 @@ loop-refused-init g c =
       refl,
       consumes_beginning _ _ _ (Consumes-nil bytes),
       (refl, omega arith),
+      all_unread c.args.font.now bytes c.new-session.result c.new-refused.result.items c.new-session.ensures c.new-refused.ensures.items,
     )
 
 pub check_next_spending-requires : goal.check_next_spending-requires
@@ -49,6 +51,9 @@ loop-refused-preserved g c =
       e.failures so_far.none ∙ c.loop-refused.invariant.1,
       consumes_then _ _ _ c.loop-refused.invariant.2 c.check_next_spending.ensures.beginning,
       spends_on c.args.budget.now c.loop-refused.budget c.check_next_spending.new.budget c.loop-refused.invariant.3 c.check_next_spending.ensures.spends,
+      unread_next (g.S.Source.remaining c.args.source.now) (g.S.Source.remaining c.loop-refused.source) (g.S.Source.remaining c.check_next_spending.new.source) c.loop-refused.session
+          c.check_next_spending.new.self c.loop-refused.refused.items c.list_outcome.new.refused.items c.in_ok-outcome.field-0 c.in-Some.outcome c.in-Some.is c.loop-refused.invariant.4
+          (λ told. e.exact so_far.none (so_far.told told)) c.in_ok-list_outcome.ensures,
     )
 
 pub returns-in_err-list_outcome-clause-beginning : goal.returns-in_err-list_outcome-clause-beginning
@@ -83,3 +88,11 @@ returns-in_err-outcome-clause-whole_units g c =
     let so_far = c.loop-refused.invariant.0 in
     rw (p.1, p.2) (read_failed c.args.font.now (g.S.Source.remaining c.args.source.now) c.loop-refused.session (g.S.Source.remaining c.loop-refused.source)
     (g.S.Source.remaining c.check_next_spending.new.source) c.loop-refused.refused.items c.in_err-outcome.field-0.0 so_far (c.in_err-outcome.ensures.whole_units so_far.none))
+
+pub returns-clause-unread : goal.returns-clause-unread
+returns-clause-unread g c =
+    let so_far = c.loop-refused.invariant.0 in
+    let e = c.in_ok-outcome.ensures in
+    unread_last (g.S.Source.remaining c.args.source.now) (g.S.Source.remaining c.loop-refused.source) (g.S.Source.remaining c.check_next_spending.new.source) c.loop-refused.session
+    c.check_next_spending.new.self c.loop-refused.refused.items c.in_ok-outcome.field-0 c.in_default.is c.loop-refused.invariant.4 (λ told. e.exact so_far.none (so_far.told told))
+    (λ last. ap g.S.Source.remaining (c.check_next_spending.ensures.after_none so_far.none last).2) c.check_next_spending.ensures.beginning

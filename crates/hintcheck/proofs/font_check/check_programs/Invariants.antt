@@ -2,6 +2,7 @@ use Rattle.std.proofs.Common.{◌≡◌}
 use Rattle.tt_family.specs.Budgets.{Spends}
 use Rattle.tt_stream.specs.Reads.{ConsumesBeginning}
 use Rattle.hintcheck.proofs.SessionRuns.{IsCheckedSoFar, calls_left}
+use Rattle.hintcheck.proofs.UnreadBytes.{IsUnreadSoFar}
 use Rattle.hintcheck.proofs.font_check.check_programs.Given as goal
 
 abbrev pub invariant-loop-refused : goal.invariant-loop-refused
@@ -10,6 +11,7 @@ invariant-loop-refused g l =
     × (g.S.Source.failures l.source ≡ g.S.Source.failures l.fn.source)
     × ConsumesBeginning (g.S.Source.remaining l.fn.source) (g.S.Source.remaining l.source)
     × Spends l.fn.budget l.budget
+    × IsUnreadSoFar (g.S.Source.remaining l.fn.source) l.session (g.S.Source.remaining l.source) l.refused.items
 
 abbrev pub decreases-loop-refused : goal.decreases-loop-refused
 decreases-loop-refused g l = calls_left l.session.font l.session.stage

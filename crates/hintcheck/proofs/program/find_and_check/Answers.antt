@@ -6,16 +6,16 @@ use Rattle.hintcheck.specs.Programs.{HasGoodFamily, IsRefusal}
 use Rattle.hintcheck.proofs.ProgramVerdictLemmas.{HasFlow, accepted_found, found_for, found_refusal, glyph_without_good, passed_on, still_found}
 use Rattle.hintcheck.proofs.program.find_and_check.Goals as goal
 
-pub returns-in-BeforeWriting-clause-accepted : goal.returns-in-BeforeWriting-clause-accepted
-returns-in-BeforeWriting-clause-accepted c = λ x subject.
+pub returns-in-Writing-clause-accepted : goal.returns-in-Writing-clause-accepted
+returns-in-Writing-clause-accepted c = λ x subject.
     let s = setting_of c.args.setting.now in
     let fs = c.args.setting.now.start.now in
     let h : HasFlow s fs = record { range = c.range_facts.ensures.range; short = c.range_facts.ensures.short; ascends = c.requires.ascends; fits = c.requires.fits } in
     accepted_found x c.args.setting.now.main.now s fs c.in_ok-found.found.updates c.in_ok-found.found.certificate subject.cut subject.setting subject.functions h
     c.in_ok-found.ensures.filling
 
-pub returns-in-BeforeWriting-clause-found : goal.returns-in-BeforeWriting-clause-found
-returns-in-BeforeWriting-clause-found c = λ certificate x subject.
+pub returns-in-Writing-clause-found : goal.returns-in-Writing-clause-found
+returns-in-Writing-clause-found c = λ certificate x subject.
     let s = setting_of c.args.setting.now in
     let fs = c.args.setting.now.start.now in
     let h : HasFlow s fs = record { range = c.range_facts.ensures.range; short = c.range_facts.ensures.short; ascends = c.requires.ascends; fits = c.requires.fits } in

@@ -1,7 +1,6 @@
 use Rattle.std.proofs.Common.{sym, subst, List, ◌∙◌}
 use Rattle.std.proofs.lemmas.Option.{slice_get-get_or}
 use Rattle.tt_code.specs.declared.machine.Frame.{Frame}
-use Rattle.tt_family.specs.Joins.{is_change}
 use Rattle.tt_family.specs.Ascending.{AreMoved}
 use Rattle.tt_family.proofs.Amounts.{amount_step, next_free, none_there}
 use Rattle.tt_family.proofs.Moves.{next_context, next_range, moved_there, none_spare, HasSoFar-spare, HasSoFar-step}
@@ -50,9 +49,9 @@ loop-context-preserved-in_ok-join_state c =
       family = c.in_ok-join_state.ensures.family;
       contexts = c.in_ok-join_state.ensures.contexts ∙ c.loop-context.invariant.contexts;
       same = HasSoFar-step c.args.old.now c.loop-context.new c.join_state.new.self c.args.numbers.now c.args.spare.now.keys (c.in-Some.context, c.in-Some.offset) c.in-Some.state.now _
-          (is_change c.in_ok-join_state.field-0) listed c.states-states.ensures.family moved c.states-states.ensures.found known
+          c.in_ok-join_state.field-0 listed c.states-states.ensures.family moved c.states-states.ensures.found known
           c.in_ok-join_state.ensures.put _ _ c.loop-context.invariant.same c.in-Some.ensures.some;
-      points = λ none. amount_step c.args.old.now c.loop-context.new c.join_state.new.self _ c.in-Some.state.now (is_change c.in_ok-join_state.field-0) free
+      points = λ none. amount_step c.args.old.now c.loop-context.new c.join_state.new.self _ c.in-Some.state.now c.in_ok-join_state.field-0 free
           c.in_ok-join_state.ensures.put c.in_ok-join_state.ensures.sums _ _ ((c.in-Some.context, c.in-Some.offset), c.in-Some.state.now) c.in-Some.ensures.some (c.loop-context.invariant.points none);
     }
 

@@ -25,5 +25,5 @@ returns-clause-put c =
 
 pub returns-clause-new : goal.returns-clause-new
 returns-clause-new c = λ new.
-    put_new state_order c.args.self.now.builder c.join_state.new.self c.args.context c.args.offset c.args.state.now (is_change c.in-Ok.joined) c.requires.there c.in-Ok.ensures.put c.in-Ok.ensures.contexts
+    put_new state_order c.args.self.now.builder c.put_state.new.self c.args.context c.args.offset c.args.state.now (is_change c.in-Ok.joined) c.requires.there c.in-Ok.ensures.put c.in-Ok.ensures.contexts
     c.in-Ok.ensures.family (c.in-Ok.ensures.new.0 new)

@@ -1,11 +1,20 @@
-use Rattle.std.proofs.Common.{subst, ℕ, List, map, arith}
+use Rattle.std.proofs.Common.{◌≡◌, subst, ℕ, List, map, arith}
+use Rattle.std.proofs.lemmas.List.{length-map}
 use Rattle.std.proofs.lemmas.Result.{err_from_is_err_and}
+use Rattle.tt_code.proofs.ByteLemmas.{bytes_fit}
+use Rattle.tt_font.specs.declared.glyph_part.GlyphPart.{GlyphPart}
+use Rattle.tt_font.specs.declared.glyph_table.GlyphTable.{GlyphTable}
+use Rattle.tt_font.specs.declared.tag.Tag.TheVariants.{Glyf, Head, Loca}
+use Rattle.tt_font.specs.Directory.{table}
+use Rattle.tt_font.specs.Locations.{loca_format}
+use Rattle.tt_font.specs.Representation.GlyphParts.{AreRead}
 use Rattle.tt_font.specs.Representation.GlyphTables.{glyphs_of}
 use Rattle.tt_font.specs.Outlines.{outlines_of}
 use Rattle.tt_font.specs.Reading.{glyph_data, ReadsGlyphs}
-use Rattle.tt_font.specs.Files.{font_glyph_count}
+use Rattle.tt_font.specs.Files.{font_glyph_count, font_glyphs, font_outlines}
 use Rattle.tt_font.proofs.ReadGlyphs.{room_for_all, same_glyphs}
 use Rattle.tt_font.proofs.MemoryLemmas.{tables_never}
+use Rattle.tt_font.proofs.RangeLemmas.{font_in_range}
 use Rattle.tt_font.proofs.font.Font.read.Goals as goal
 
 pub read_glyphs-requires : goal.read_glyphs-requires
@@ -15,18 +24,34 @@ read_glyphs-requires c =
     let none = c.new-reader.ensures in
     record { room = omega arith }
 
+-- the glyphs of the tables are those of the file
+in_file : (bytes : List ℕ) (glyphs : GlyphTable) (parts : List GlyphPart) → glyphs.count ≡ font_glyph_count bytes → glyphs.format ≡ loca_format (table Head bytes)
+    → glyphs.loca.now ≡ table Loca bytes → glyphs.glyf.now ≡ table Glyf bytes → AreRead glyphs parts
+    → ReadsGlyphs (font_glyph_count bytes) (font_glyphs bytes) (font_outlines bytes) (map glyph_data parts)
+in_file bytes glyphs parts count format loca glyf are =
+    let C : ℕ → Type 0 = λ n. ReadsGlyphs n (glyphs_of glyphs) (outlines_of n (glyphs_of glyphs)) (map glyph_data parts) in
+    let G : (ℕ → List ℕ) → Type 0 = λ f. ReadsGlyphs (font_glyph_count bytes) f (outlines_of (font_glyph_count bytes) f) (map glyph_data parts) in
+    subst G (same_glyphs _ _ _ _ _ _ format loca glyf) (subst C count are)
+
+pub invariant_of-result : goal.invariant_of-result
+invariant_of-result c =
+    let t = c.in_ok-tables.ensures in
+    let glyphs = in_file c.args.bytes.now c.in_ok-tables.tables.glyphs c.in_ok-glyphs.glyphs.items t.glyph_count t.format t.loca t.glyf c.in_ok-glyphs.ensures.glyphs in
+    record {
+      few_glyphs = let count = simp length-map at c.in_ok-glyphs.ensures.glyphs.len in let few = t.few_glyphs in omega arith;
+      in_range = font_in_range c.args.bytes.now _ (bytes_fit c.args.bytes.now c.type_inv.bytes) t.fault
+          (record { limits = t.limits; cvt_count = t.cvt_count; fpgm = t.fpgm; prep = t.prep; glyphs = glyphs });
+    }
+
 pub returns-clause-reads : goal.returns-clause-reads
 returns-clause-reads c =
-    let count = c.in_ok-tables.ensures.glyph_count in
-    let glyphs = same_glyphs _ _ _ _ _ _ c.in_ok-tables.ensures.format c.in_ok-tables.ensures.loca c.in_ok-tables.ensures.glyf in
-    let C : ℕ → Type 0 = λ n. ReadsGlyphs n (glyphs_of c.in_ok-tables.tables.glyphs) (outlines_of n (glyphs_of c.in_ok-tables.tables.glyphs)) (map glyph_data c.in_ok-glyphs.glyphs.items) in
-    let G : (ℕ → List ℕ) → Type 0 = λ f. ReadsGlyphs (font_glyph_count c.args.bytes.now) f (outlines_of (font_glyph_count c.args.bytes.now) f) (map glyph_data c.in_ok-glyphs.glyphs.items) in
+    let t = c.in_ok-tables.ensures in
     record {
-      limits = c.in_ok-tables.ensures.limits;
-      cvt_count = c.in_ok-tables.ensures.cvt_count;
-      fpgm = c.in_ok-tables.ensures.fpgm;
-      prep = c.in_ok-tables.ensures.prep;
-      glyphs = subst G glyphs (subst C count c.in_ok-glyphs.ensures.glyphs);
+      limits = t.limits;
+      cvt_count = t.cvt_count;
+      fpgm = t.fpgm;
+      prep = t.prep;
+      glyphs = in_file c.args.bytes.now c.in_ok-tables.tables.glyphs c.in_ok-glyphs.glyphs.items t.glyph_count t.format t.loca t.glyf c.in_ok-glyphs.ensures.glyphs;
     }
 
 pub returns-in_err-tables-clause-memory : goal.returns-in_err-tables-clause-memory

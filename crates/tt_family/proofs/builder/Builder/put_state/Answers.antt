@@ -1,5 +1,5 @@
 use Rattle.tt_family.proofs.Putting.{joined_built, joined_new, joined_puts, joined_sums, joined_depth, joined_joined}
-use Rattle.tt_family.proofs.builder.Builder.join_state.Goals as goal
+use Rattle.tt_family.proofs.builder.Builder.put_state.Goals as goal
 
 pub invariant_of-self : goal.invariant_of-self
 invariant_of-self c =

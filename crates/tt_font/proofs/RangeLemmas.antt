@@ -1,25 +1,28 @@
 -- Each program of a font that was read is a list of fewer than 2^31 bytes.
-use Rattle.std.specs.Prelude.{◌==◌, nat_le, if◌then◌else◌, ◌&&◌, ◌-◌, ◌*◌, ◌^◌, slice_get, slice_range, IfOk, Result, Ok, Err}
+use Rattle.std.specs.Prelude.{◌==◌, nat_le, if◌then◌else◌, ◌&&◌, ◌-◌, ◌*◌, ◌^◌, slice_get, slice_range}
+use Rattle.std.specs.List.{AllByRecursion}
 use Rattle.std.specs.Option.{option_map_or}
 use Rattle.std.proofs.Common.{◌≡◌, ℕ, zero, suc, ◌+◌, ◌<◌, ◌≤◌, List, [], ◌∷◌, Option, None, Some, Bool, true, false, length, take, drop, get_or, refl, sym, subst, arith}
 use Rattle.std.proofs.lemmas.Bool.{leb-true}
 use Rattle.std.proofs.lemmas.Option.{get_or_from_slice_get, slice_get_within}
-use Rattle.tt_abs.specs.Ranges.{AreBytes}
 use Rattle.tt_font.specs.Numbers.{u16_at}
 use Rattle.tt_font.specs.Directory.{Extent, extent, table}
-use Rattle.tt_font.specs.Conditions.{TestsWithMemory, Condition, directory_fault, first, glyphs_fault, lies_in, loca_fault, maxp_fault, optional_table_fault, table_fault, unless}
+use Rattle.tt_font.specs.Conditions.{Condition, directory_fault, first, lies_in, loca_fault, maxp_fault, optional_table_fault, table_fault, unless}
 use Rattle.tt_font.specs.declared.tag.Tag.{Tag}
 use Rattle.tt_font.specs.declared.tag.Tag.TheVariants.{Cvt, Fpgm, Glyf, Head, Loca, Maxp, Prep}
 use Rattle.tt_font.specs.declared.fault.FontFault.{FontFault}
 use Rattle.tt_font.specs.declared.fault.FontFault.TheVariants as faults
 use Rattle.tt_font.specs.Components.{last_of, components, has_instructions}
 use Rattle.tt_font.specs.Glyphs.{contour_count, is_composite, program_at, simple_program, composite_program, program_of}
-use Rattle.tt_font.specs.FileFaults.{font_fault, tables_fault, program_most}
-use Rattle.tt_font.specs.Files.{font_glyph_count, font_glyphs, font_outlines}
+use Rattle.tt_font.specs.FileFaults.{tables_fault, program_most}
+use Rattle.tt_font.specs.Files.{font_glyph_count, font_glyphs}
 use Rattle.tt_font.specs.Locations.{glyph_bytes, loca_format}
 use Rattle.tt_font.specs.Reading.{FontData, GlyphData, Reads, glyph_at, no_glyph}
 use Rattle.tt_code.specs.declared.limits.Limits.{Limits}
-use Rattle.hintcheck.specs.FontPrograms.{AreFewBytes, IsFontInRange}
+use Rattle.tt_font.specs.Ranges.{AreFewBytes, IsFontInRange}
+
+abbrev AreBytes : List ℕ → Type 0
+AreBytes bytes = AllByRecursion (λ b. b < 256) bytes
 
 -- lists of bytes
 
@@ -138,10 +141,9 @@ conditions bytes =
     ∷ optional_table_fault Fpgm program_most bytes ∷ optional_table_fault Prep program_most bytes
     ∷ loca_fault (loca_format (table Head bytes)) (table Loca bytes) (table Glyf bytes) (font_glyph_count bytes) ∷ []
 
-no_table_fault : (bytes : List ℕ) → font_fault bytes ≡ None → first (conditions bytes) ≡ None
-unfolding font_fault tables_fault
-no_table_fault bytes e =
-    none_stands (tables_fault bytes ∷ glyphs_fault (font_glyph_count bytes) (font_glyphs bytes) (font_outlines bytes) ∷ []) e 0 (tables_fault bytes) refl
+no_table_fault : (bytes : List ℕ) → tables_fault bytes ≡ None → first (conditions bytes) ≡ None
+unfolding tables_fault
+no_table_fault bytes e = e
 
 -- the font
 
@@ -150,7 +152,7 @@ table_few tag bytes program h fits is =
     let most = table_most tag program_most bytes fits in
     subst AreFewBytes (sym is) (record { bytes = table_bytes tag bytes h; few = omega arith })
 
-pub font_in_range : (bytes : List ℕ) (d : FontData) → AreBytes bytes → font_fault bytes ≡ None → Reads bytes d → IsFontInRange d
+pub font_in_range : (bytes : List ℕ) (d : FontData) → AreBytes bytes → tables_fault bytes ≡ None → Reads bytes d → IsFontInRange d
 font_in_range bytes d h none reads = record {
   depth = let D : Limits → Type 0 = λ l. l.stack < 2 ^ 16 in subst D (sym reads.limits) (small_number 24 (table Maxp bytes) (table_bytes Maxp bytes h));
   fpgm = table_few Fpgm bytes d.fpgm h (none_stands (conditions bytes) (no_table_fault bytes none) 7 (optional_table_fault Fpgm program_most bytes) refl) reads.fpgm;
@@ -162,9 +164,3 @@ font_in_range bytes d h none reads = record {
       let G : GlyphData → Type 0 = λ x. AreFewBytes x.program in
       subst G is (subst HasFewBytes glyph.program (program_few (font_glyphs bytes id) (glyph_are_bytes bytes id h)));
 }
-
--- the same for a font that was read
-pub read_in_range : (bytes : List ℕ) (r : Result FontData FontFault) → AreBytes bytes → TestsWithMemory (font_fault bytes) r → IfOk r (λ font. Reads bytes font)
-    → IfOk r (λ font. IsFontInRange font)
-read_in_range bytes (Ok d) h tests reads = font_in_range bytes d h tests reads
-read_in_range bytes (Err e) h tests reads = tt
