@@ -2,8 +2,9 @@
 #![tactic(auto)]
 
 use hintcheck_process::program;
+use std::env;
 use std::process::ExitCode;
 
 fn main(rt: HostRuntime) -> ExitCode {
-    program(&rt)
+    program(&rt, env::args(&rt))
 }

@@ -1,8 +1,6 @@
 //! Commands, which tell of a refused growth in one line of the error output. Printing takes no
 //! memory: nothing is left then.
 
-ghost use Rattle.std.specs.Prelude.{◌≡◌, ◌<◌};
-
 use crate::examples::{CALL_POPS, CALL_UNDERFLOWS, Programs, file_of, files_of};
 use crate::heap::Heap;
 use crate::matching::{Either, Matching};
@@ -11,10 +9,8 @@ use hintcheck::command;
 use hintcheck_test_fixtures::fonts::MAXP_WORD;
 use hintcheck_test_fixtures::paths::path_of;
 use std::io::Print;
-use std::marker::Brand;
 use std::path::PathBuf;
 use std::process::Abort;
-use std::sync::ledger::{Blank, Ledger};
 use std::test::Fail;
 use std::{env, fs, process};
 use tt_stream::Counted;
@@ -76,27 +72,14 @@ fn writer_of<'a>(printed: Printed<'a>) -> Either<'a> {
     }
 }
 
-fn command_over<L: Ledger, M: Ledger>(
-    rt: &HostRuntime,
-    heap: &mut Heap,
-    order: &Order<'_>,
-    first: Blank,
-    second: Blank,
-) -> Told
-    requires out { (first.name ≡ L.name) × (first.parts ≡ L.parts) × (0 < first.parts) }
-    requires err { (second.name ≡ M.name) × (second.parts ≡ M.parts) × (0 < second.parts) }
-{
-    let mut out = Counted::<Either<'_>, L>::new(writer_of(order.printed), first);
-    let mut err = Counted::<Matching<'_>, M>::new(Matching::new(OUT_OF_MEMORY), second);
+/// Returns what a command tells.
+pub(crate) fn told_of_command(rt: &HostRuntime, heap: &mut Heap, order: &Order<'_>) -> Told {
+    let mut out = Counted::new(writer_of(order.printed));
+    let mut err = Counted::new(Matching::new(OUT_OF_MEMORY));
     heap.take_room();
     let status = command(rt, order.words, &mut out, &mut err);
     heap.give_back();
     told_of_status(status, order.printed, &out.into_inner(), &err.into_inner())
-}
-
-/// Returns what a command tells.
-pub(crate) fn told_of_command(rt: &HostRuntime, heap: &mut Heap, order: &Order<'_>) -> Told {
-    command_over::<Brand, Brand>(rt, heap, order, Blank::new(1), Blank::new(1))
 }
 
 /// Asserts that a command is refused memory, which prints this.

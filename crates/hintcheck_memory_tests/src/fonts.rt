@@ -1,7 +1,5 @@
 //! Calls on whole fonts.
 
-ghost use Rattle.std.specs.Prelude.{◌≡◌, ◌<◌};
-
 use crate::examples::{EXAMPLES, Example, example_of, files_of};
 use crate::heap::Heap;
 use crate::matching::Matching;
@@ -10,8 +8,6 @@ use hintcheck::{FindFontFault, FontFault, UpgradeFault, bare, find_font, upgrade
 use hintcheck_test_fixtures::font_calls::{Told as Font, checked, judged};
 use hintcheck_test_fixtures::fonts::MAXP;
 use hintcheck_test_fixtures::streams::{Steps, steps_of};
-use std::marker::Brand;
-use std::sync::ledger::{Blank, Ledger};
 use std::test::Fail;
 use tt_stream::Counted;
 
@@ -79,10 +75,8 @@ pub(crate) fn told_of_written(told: Told, matching: &Matching<'_>) -> Told {
     if is_promised { told } else { Told::Wrong }
 }
 
-fn find_over<L: Ledger>(heap: &mut Heap, example: &Example<'_>, blank: Blank) -> Told
-    requires { (blank.name ≡ L.name) × (blank.parts ≡ L.parts) × (0 < blank.parts) }
-{
-    let mut sink = Counted::<Matching<'_>, L>::new(Matching::new(example.certificate), blank);
+fn told_of_search(heap: &mut Heap, example: &Example<'_>) -> Told {
+    let mut sink = Counted::new(Matching::new(example.certificate));
     heap.take_room();
     let found = find_font(heap.alloc, example.font, &mut sink);
     heap.give_back();
@@ -95,21 +89,9 @@ fn find_over<L: Ledger>(heap: &mut Heap, example: &Example<'_>, blank: Blank) ->
     told_of_written(told, &sink.into_inner())
 }
 
-fn told_of_search(heap: &mut Heap, example: &Example<'_>) -> Told {
-    find_over::<Brand>(heap, example, Blank::new(1))
-}
-
-fn upgrade_over<L: Ledger, M: Ledger>(
-    heap: &mut Heap,
-    example: &Example<'_>,
-    reads: Blank,
-    writes: Blank,
-) -> Told
-    requires reads { (reads.name ≡ L.name) × (reads.parts ≡ L.parts) × (0 < reads.parts) }
-    requires writes { (writes.name ≡ M.name) × (writes.parts ≡ M.parts) × (0 < writes.parts) }
-{
-    let mut source = Counted::<Steps<'_>, L>::new(steps_of(example.certificate, false), reads);
-    let mut sink = Counted::<Matching<'_>, M>::new(Matching::new(example.certificate), writes);
+fn told_of_upgrade(heap: &mut Heap, example: &Example<'_>) -> Told {
+    let mut source = Counted::new(steps_of(example.certificate, false));
+    let mut sink = Counted::new(Matching::new(example.certificate));
     heap.take_room();
     let upgraded = upgrade(heap.alloc, &mut source, &mut sink);
     heap.give_back();
@@ -119,10 +101,6 @@ fn upgrade_over<L: Ledger, M: Ledger>(
         Err(_) => Told::Wrong,
     };
     told_of_written(told, &sink.into_inner())
-}
-
-fn told_of_upgrade(heap: &mut Heap, example: &Example<'_>) -> Told {
-    upgrade_over::<Brand, Brand>(heap, example, Blank::new(1), Blank::new(1))
 }
 
 fn told_of_bare(heap: &mut Heap, example: &Example<'_>) -> Told {

@@ -1,7 +1,5 @@
 //! Calls on one section of a certificate.
 
-ghost use Rattle.std.specs.Prelude.{◌≡◌, ◌<◌};
-
 use crate::examples::{EXAMPLES, Example, example_of, files_of};
 use crate::fonts::told_of_written;
 use crate::heap::Heap;
@@ -10,8 +8,6 @@ use crate::trials::{Told, Trial, refusals_of};
 use hintcheck_test_fixtures::section_calls::{Section, Told as Read, decoded};
 use hintcheck_test_fixtures::streams::steps_of;
 use std::alloc::Global;
-use std::marker::Brand;
-use std::sync::ledger::{Blank, Ledger};
 use std::test::Fail;
 use tt_cert::{EncodeFault, encode};
 use tt_stream::Counted;
@@ -46,10 +42,9 @@ fn told_of_decoding(heap: &mut Heap, example: &Example<'_>) -> Told {
     }
 }
 
-fn encode_over<L: Ledger>(heap: &mut Heap, section: &Section, want: &[u8], blank: Blank) -> Told
-    requires { (blank.name ≡ L.name) × (blank.parts ≡ L.parts) × (0 < blank.parts) }
+fn encode_over(heap: &mut Heap, section: &Section, want: &[u8]) -> Told
 {
-    let mut sink = Counted::<Matching<'_>, L>::new(Matching::new(want), blank);
+    let mut sink = Counted::new(Matching::new(want));
     heap.take_room();
     let encoded = encode(heap.alloc, section.name, &section.certificate, &mut sink);
     heap.give_back();
@@ -63,7 +58,7 @@ fn encode_over<L: Ledger>(heap: &mut Heap, section: &Section, want: &[u8], blank
 
 fn told_of_encoding(heap: &mut Heap, example: &Example<'_>) -> Told {
     match section_of(heap.alloc, example) {
-        Some(section) => encode_over::<Brand>(heap, &section, example.section, Blank::new(1)),
+        Some(section) => encode_over(heap, &section, example.section),
         None => Told::Wrong,
     }
 }

@@ -1,12 +1,17 @@
--- What the process's exit status tells.
-use Rattle.std.specs.Prelude.{◌≡◌, ◌⊎◌, ℕ, List}
+-- What the process's exit status tells of the words that the runtime gives it.
+use Rattle.std.specs.Prelude.{◌≡◌, ◌⊎◌, ℕ, List, map, string_bytes}
+use Rattle.std.specs.declared.string.String.{String}
 use Rattle.hintcheck.specs.MeansSafe.{IsStatusOf}
 
--- the command returns this status for some words
-abbrev pub IsStatusOfSomeWords : ℕ → Type 0
-IsStatusOfSomeWords status = (words : List (List ℕ)) × IsStatusOf words status
+-- the bytes of each word's text
+abbrev pub texts_of : {A : Type 0} → List (String A) → List (List ℕ)
+texts_of words = map (λ word. string_bytes word) words
 
--- the status is 2 or 3, as where the program's own words can't be read; or one that the command
--- returns for some words
-abbrev pub IsStatus : ℕ → Type 0
-IsStatus status = (status ≡ 2) ⊎ (status ≡ 3) ⊎ IsStatusOfSomeWords status
+-- the status is the one that the command returns for these words, or 3, as where there is no memory
+-- for them
+abbrev pub IsStatusAt : List (List ℕ) → ℕ → Type 0
+IsStatusAt words status = (status ≡ 3) ⊎ IsStatusOf words status
+
+-- the status is 2 or 3, as where the words can't be read
+abbrev pub IsStatusUnread : ℕ → Type 0
+IsStatusUnread status = (status ≡ 2) ⊎ (status ≡ 3)

@@ -1,18 +1,19 @@
-//! The program: its own words and streams, handed to the command, whose answer is the exit status.
+//! The program: its words and its own streams, handed to the command, whose answer is the exit
+//! status.
 #![tactic(auto)]
 
-ghost use Rattle.std.specs.Prelude.{◌≡◌, ◌⊎◌, ◌<◌, ℕ, IfErr, IfOk, List, map};
+ghost use Rattle.std.specs.Prelude.{IfErr, IfOk, map};
 ghost use Rattle.std.specs.Process.{exit_status};
+ghost use Rattle.std.specs.Vec.Iter.{into_iter_items};
 ghost use Rattle.hintcheck.specs.MeansSafe.{IsStatusOf};
-ghost use Rattle.hintcheck_process.specs.Statuses.{IsStatus, IsStatusOfSomeWords};
+ghost use Rattle.hintcheck_process.specs.Statuses.{IsStatusAt, IsStatusUnread, texts_of};
 
 use hintcheck::command;
-use std::io::{ErrorKind, Write};
-use std::marker::Brand;
+use std::alloc::AllocError;
+use std::env::Args;
+use std::io;
+use std::io::ErrorKind;
 use std::process::ExitCode;
-use std::rt::Files;
-use std::sync::ledger::{Blank, Ledger};
-use std::{env, io};
 use tt_stream::Counted;
 
 /// The exit status where a word isn't text, the same as where the command doesn't take the words.
@@ -21,61 +22,66 @@ const WORDS: u8 = 2;
 /// The exit status where memory ran out.
 const OUT_OF_MEMORY: u8 = 3;
 
-/// Runs the command on streams whose failed writes are counted, and returns the exit status.
-fn run<L: Ledger, M: Ledger, R: Files + AllocGlobal, O: Write + Drop, E: Write + Drop>(
-    rt: &R,
-    words: &[&str],
-    out: O,
-    err: E,
-    first: Blank,
-    second: Blank,
-) -> u8
-    requires out { (first.name ≡ L.name) × (first.parts ≡ L.parts) × (0 < first.parts) }
-    requires err { (second.name ≡ M.name) × (second.parts ≡ M.parts) × (0 < second.parts) }
+/// Runs the command on the program's own streams, and returns the exit status.
+fn run(rt: &HostRuntime, words: &[&str]) -> u8
     ensures { IsStatusOf (map (λ w. w.now) words.entry.now) result }
 {
-    let mut out = Counted::<O, L>::new(out, first);
-    let mut err = Counted::<E, M>::new(err, second);
+    let mut out = Counted::new(rt.stdout());
+    let mut err = Counted::new(rt.stderr());
     command(rt, words, &mut out, &mut err)
 }
 
-/// Returns the exit status of the command that the program's own words name.
-fn run_own_words(rt: &HostRuntime) -> io::Result<u8>
-    ensures { IfOk result IsStatusOfSomeWords }
+/// Returns the exit status of the command at these words.
+///
+/// # Errors
+/// If memory runs out for the words.
+fn run_words(rt: &HostRuntime, words: Args) -> Result<u8, AllocError>
+    ensures { IfOk result (IsStatusOf (texts_of (into_iter_items words))) }
 {
-    let words: Vec<String> = env::args(rt)?.collect(rt.alloc())?;
+    let words: Vec<String> = words.collect(rt.alloc())?;
     let texts: Vec<&str> = words.iter().map(|word| word.as_str()).collect(rt.alloc())?;
-    let (first, second) = (Blank::new(1), Blank::new(1));
-    let status = run::<Brand, Brand, _, _, _>(rt, &texts, rt.stdout(), rt.stderr(), first, second);
-    Ok(status)
+    Ok(run(rt, &texts))
 }
 
-/// Returns what the process ends with: the command's status, 3 where memory ran out for the words,
-/// and 2 where a word isn't text.
-fn exit_code(answer: io::Result<u8>) -> ExitCode
-    ensures ok { IfOk answer (λ status. exit_status result ≡ status) }
-    ensures err { IfErr answer (λ _. (exit_status result ≡ 2) ⊎ (exit_status result ≡ 3)) }
+/// Returns the exit status at these words: the command's, or 3 where memory ran out for them.
+fn status_at(rt: &HostRuntime, words: Args) -> u8
+    ensures { IsStatusAt (texts_of (into_iter_items words)) result }
 {
-    match answer {
-        Ok(status) => ExitCode::from(status),
-        Err(error) if error.kind() == ErrorKind::OutOfMemory => ExitCode::from(OUT_OF_MEMORY),
-        Err(_) => ExitCode::from(WORDS),
+    match run_words(rt, words) {
+        Ok(status) => status,
+        Err(AllocError) => {
+            let _ = eprintln!(rt; "fault: 9 out of memory");
+            OUT_OF_MEMORY
+        }
     }
 }
 
-/// Does what the program's own words ask for, on its own streams. No contract of the runtime tells
-/// what the words are: the status is that of some words, or 2 or 3 where they can't be read.
-pub fn program(rt: &HostRuntime) -> ExitCode
-    ensures { IsStatus (exit_status result) }
+/// Returns the exit status where the words can't be read: 3 where memory ran out, and 2 where a
+/// word isn't text.
+fn status_unread(rt: &HostRuntime, error: &io::Error) -> u8
+    ensures { IsStatusUnread result }
 {
-    let answer = run_own_words(rt);
-    if let Err(error) = &answer {
-        // A word isn't text, or memory ran out.
-        let _ = if error.kind() == ErrorKind::OutOfMemory {
-            eprintln!(rt; "fault: 9 out of memory")
-        } else {
-            eprintln!(rt; "fault: words")
-        };
+    if error.kind() == ErrorKind::OutOfMemory {
+        let _ = eprintln!(rt; "fault: 9 out of memory");
+        return OUT_OF_MEMORY;
     }
-    exit_code(answer)
+    let _ = eprintln!(rt; "fault: words");
+    WORDS
+}
+
+/// Does what the words ask for, on the program's own streams, and returns what the process ends
+/// with. The first word is the program's own name. No contract of the runtime tells that the words
+/// that it gives are those that the process was started with.
+pub fn program(rt: &HostRuntime, words: io::Result<Args>) -> ExitCode
+    // The status is the one that the command returns for these words, or 3 without memory for them.
+    ensures words { IfOk words
+        (λ args. IsStatusAt (texts_of (into_iter_items args)) (exit_status result)) }
+    // Where they can't be read it is 2 or 3.
+    ensures unread { IfErr words (λ _. IsStatusUnread (exit_status result)) }
+{
+    let status = match words {
+        Ok(words) => status_at(rt, words),
+        Err(error) => status_unread(rt, &error),
+    };
+    ExitCode::from(status)
 }

@@ -1,15 +1,11 @@
 //! What a check by a certificate, the search for one and an upgrade answer, on bytes in memory.
 
-ghost use Rattle.std.specs.Prelude.{◌≡◌, ◌<◌};
-
 use crate::streams::{Steps, Taker, steps_of};
 use hintcheck::{
     Budget, CheckFontFault, FindFontFault, UpgradeFault, Verdict, VerdictFault, check_font,
     check_font_within, find_font, find_font_within, upgrade, verdict, verdict_within,
 };
 use std::alloc::Global;
-use std::marker::Brand;
-use std::sync::ledger::{Blank, Ledger};
 use tt_stream::Counted;
 
 /// What a check answers.
@@ -67,20 +63,13 @@ pub fn told_of_check_fault(fault: &CheckFontFault) -> Told {
     }
 }
 
-/// Returns what the check of a font answers by what this reader gives, counted by a ledger.
-fn check_on<L: Ledger>(alloc: Global, font: &[u8], steps: Steps<'_>, blank: Blank) -> Told
-    requires { (blank.name ≡ L.name) × (blank.parts ≡ L.parts) × (0 < blank.parts) }
-{
-    let mut source = Counted::<Steps<'_>, L>::new(steps, blank);
+/// Returns what the check of a font answers by what this reader gives.
+pub fn checked_by(alloc: Global, font: &[u8], steps: Steps<'_>) -> Told {
+    let mut source = Counted::new(steps);
     match check_font(alloc, font, &mut source) {
         Ok(verdict) => told_of_verdict(&verdict),
         Err(fault) => told_of_check_fault(&fault),
     }
-}
-
-/// Returns what the check of a font answers by what this reader gives.
-pub fn checked_by(alloc: Global, font: &[u8], steps: Steps<'_>) -> Told {
-    check_on::<Brand>(alloc, font, steps, Blank::new(1))
 }
 
 /// Returns what the check of a font answers by these bytes, after which a read fails where it
@@ -89,27 +78,13 @@ pub fn checked(alloc: Global, font: &[u8], bytes: &[u8], fails: bool) -> Told {
     checked_by(alloc, font, steps_of(bytes, fails))
 }
 
-/// Returns what the check of a font answers by what this reader gives, counted by a ledger, within
-/// a budget.
-fn check_within_on<L: Ledger>(
-    alloc: Global,
-    font: &[u8],
-    steps: Steps<'_>,
-    budget: &mut Budget,
-    blank: Blank,
-) -> Told
-    requires { (blank.name ≡ L.name) × (blank.parts ≡ L.parts) × (0 < blank.parts) }
-{
-    let mut source = Counted::<Steps<'_>, L>::new(steps, blank);
+/// Returns what the check of a font answers by what this reader gives, within a budget.
+pub fn checked_within(alloc: Global, font: &[u8], steps: Steps<'_>, budget: &mut Budget) -> Told {
+    let mut source = Counted::new(steps);
     match check_font_within(alloc, font, &mut source, budget) {
         Ok(verdict) => told_of_verdict(&verdict),
         Err(fault) => told_of_check_fault(&fault),
     }
-}
-
-/// Returns what the check of a font answers by what this reader gives, within a budget.
-pub fn checked_within(alloc: Global, font: &[u8], steps: Steps<'_>, budget: &mut Budget) -> Told {
-    check_within_on::<Brand>(alloc, font, steps, budget, Blank::new(1))
 }
 
 /// Returns what the search for a font's certificate says.
@@ -123,41 +98,17 @@ fn told_of_search(answer: &Result<Verdict, FindFontFault>) -> Told {
     }
 }
 
-/// Returns what the search for a font's certificate answers, and what this writer took, counted by
-/// a ledger.
-fn find_on<L: Ledger>(alloc: Global, font: &[u8], taker: Taker, blank: Blank) -> (Told, Vec<u8>)
-    requires { (blank.name ≡ L.name) × (blank.parts ≡ L.parts) × (0 < blank.parts) }
-{
-    let mut sink = Counted::<Taker, L>::new(taker, blank);
-    let told = told_of_search(&find_font(alloc, font, &mut sink));
-    (told, sink.into_inner().bytes)
-}
-
 /// Returns what the search for a font's certificate answers, and what this writer took.
 pub fn found_by(alloc: Global, font: &[u8], taker: Taker) -> (Told, Vec<u8>) {
-    find_on::<Brand>(alloc, font, taker, Blank::new(1))
+    let mut sink = Counted::new(taker);
+    let told = told_of_search(&find_font(alloc, font, &mut sink));
+    (told, sink.into_inner().bytes)
 }
 
 /// Returns what the search for a font's certificate answers, and what is written, where there is
 /// room for this many bytes.
 pub fn found(alloc: Global, font: &[u8], room: usize) -> (Told, Vec<u8>) {
     found_by(alloc, font, Taker::new(alloc, 1, room))
-}
-
-/// Returns what the search for a font's certificate answers within a budget, and what this writer
-/// took, counted by a ledger.
-fn find_within_on<L: Ledger>(
-    alloc: Global,
-    font: &[u8],
-    taker: Taker,
-    budget: &mut Budget,
-    blank: Blank,
-) -> (Told, Vec<u8>)
-    requires { (blank.name ≡ L.name) × (blank.parts ≡ L.parts) × (0 < blank.parts) }
-{
-    let mut sink = Counted::<Taker, L>::new(taker, blank);
-    let told = told_of_search(&find_font_within(alloc, font, &mut sink, budget));
-    (told, sink.into_inner().bytes)
 }
 
 /// Returns what the search for a font's certificate answers within a budget, and what this writer
@@ -168,23 +119,15 @@ pub fn found_within(
     taker: Taker,
     budget: &mut Budget,
 ) -> (Told, Vec<u8>) {
-    find_within_on::<Brand>(alloc, font, taker, budget, Blank::new(1))
+    let mut sink = Counted::new(taker);
+    let told = told_of_search(&find_font_within(alloc, font, &mut sink, budget));
+    (told, sink.into_inner().bytes)
 }
 
-/// Returns how many sections an upgrade tells of what this reader gives, and what this writer took,
-/// each counted by a ledger.
-fn upgrade_on<L: Ledger, M: Ledger>(
-    alloc: Global,
-    steps: Steps<'_>,
-    taker: Taker,
-    reads: Blank,
-    writes: Blank,
-) -> (Result<u32, Told>, Vec<u8>)
-    requires reads { (reads.name ≡ L.name) × (reads.parts ≡ L.parts) × (0 < reads.parts) }
-    requires writes { (writes.name ≡ M.name) × (writes.parts ≡ M.parts) × (0 < writes.parts) }
-{
-    let mut source = Counted::<Steps<'_>, L>::new(steps, reads);
-    let mut sink = Counted::<Taker, M>::new(taker, writes);
+/// Returns how many sections an upgrade tells of what this reader gives, and what this writer took.
+pub fn upgraded_by(alloc: Global, steps: Steps<'_>, taker: Taker) -> (Result<u32, Told>, Vec<u8>) {
+    let mut source = Counted::new(steps);
+    let mut sink = Counted::new(taker);
     let told = match upgrade(alloc, &mut source, &mut sink) {
         Ok(sections) => Ok(sections),
         Err(UpgradeFault::Form(place)) => Err(Told::Form(place)),
@@ -193,11 +136,6 @@ fn upgrade_on<L: Ledger, M: Ledger>(
         Err(UpgradeFault::OutOfMemory(_)) => Err(Told::OutOfMemory),
     };
     (told, sink.into_inner().bytes)
-}
-
-/// Returns how many sections an upgrade tells of what this reader gives, and what this writer took.
-pub fn upgraded_by(alloc: Global, steps: Steps<'_>, taker: Taker) -> (Result<u32, Told>, Vec<u8>) {
-    upgrade_on::<Brand, Brand>(alloc, steps, taker, Blank::new(1), Blank::new(1))
 }
 
 /// Returns how many sections an upgrade of these bytes tells, after which a read fails where it

@@ -1,12 +1,8 @@
 //! What the calls of `tt_cert` tell of readers and writers that pass little at a time, or
 //! fail.
 
-ghost use Rattle.std.specs.Prelude.{◌≡◌, ◌<◌};
-
 use crate::streams::{ALL, Steps, Taker};
 use std::alloc::Global;
-use std::marker::Brand;
-use std::sync::ledger::{Blank, Ledger};
 use tt_cert::{
     DecodeFault, EncodeFault, Form, Name, decode, encode, read_end, read_header, write_header,
 };
@@ -61,19 +57,9 @@ pub struct Section {
     pub certificate: Certificate,
 }
 
-/// Reads a section over a ledger.
-fn decode_over<L: Ledger>(
-    alloc: Global,
-    steps: Steps<'_>,
-    start: u64,
-    form: Form,
-    blank: Blank,
-) -> (Option<Section>, Told)
-    requires name { blank.name ≡ L.name }
-    requires parts { blank.parts ≡ L.parts }
-    requires some { 0 < blank.parts }
-{
-    let mut source = Counted::<Steps<'_>, L>::new(steps, blank);
+/// Returns the section that these bytes begin with, if they do, and what was told.
+pub fn decoded(alloc: Global, steps: Steps<'_>, start: u64, form: Form) -> (Option<Section>, Told) {
+    let mut source = Counted::new(steps);
     match decode(alloc, &mut source, start, form) {
         Ok((name, certificate, after)) => {
             let left = source.into_inner().bytes.len();
@@ -84,11 +70,6 @@ fn decode_over<L: Ledger>(
         }
         Err(fault) => (None, told_by_decode_fault(fault)),
     }
-}
-
-/// Returns the section that these bytes begin with, if they do, and what was told.
-pub fn decoded(alloc: Global, steps: Steps<'_>, start: u64, form: Form) -> (Option<Section>, Told) {
-    decode_over::<Brand>(alloc, steps, start, form, Blank::new(1))
 }
 
 /// Returns what reading a section in steps of this many bytes tells.
@@ -111,49 +92,28 @@ pub fn told_of_calls(alloc: Global, bytes: &[u8], calls: usize, form: Form) -> T
     decoded(alloc, steps, 0, form).1
 }
 
-/// Reads a header over a ledger, and returns what that tells.
-fn header_over<L: Ledger>(steps: Steps<'_>, blank: Blank) -> Told
-    requires name { blank.name ≡ L.name }
-    requires parts { blank.parts ≡ L.parts }
-    requires some { 0 < blank.parts }
-{
-    let mut source = Counted::<Steps<'_>, L>::new(steps, blank);
+/// Returns what reading a header tells.
+pub fn told_of_header(steps: Steps<'_>) -> Told {
+    let mut source = Counted::new(steps);
     match read_header(&mut source) {
         Ok((form, sections)) => Told::Header(form, sections),
         Err(fault) => told_by_decode_fault(fault),
     }
 }
 
-/// Returns what reading a header tells.
-pub fn told_of_header(steps: Steps<'_>) -> Told {
-    header_over::<Brand>(steps, Blank::new(1))
-}
-
-/// Looks for the end at a place over a ledger, and returns what that tells.
-fn end_over<L: Ledger>(steps: Steps<'_>, place: u64, blank: Blank) -> Told
-    requires name { blank.name ≡ L.name }
-    requires parts { blank.parts ≡ L.parts }
-    requires some { 0 < blank.parts }
-{
-    let mut source = Counted::<Steps<'_>, L>::new(steps, blank);
+/// Returns what a look for the end at a place tells.
+pub fn told_of_end(steps: Steps<'_>, place: u64) -> Told {
+    let mut source = Counted::new(steps);
     match read_end(&mut source, place) {
         Ok(()) => Told::Done,
         Err(fault) => told_by_decode_fault(fault),
     }
 }
 
-/// Returns what a look for the end at a place tells.
-pub fn told_of_end(steps: Steps<'_>, place: u64) -> Told {
-    end_over::<Brand>(steps, place, Blank::new(1))
-}
-
-/// Reads a file over a ledger: its header, its sections, and its end.
-fn file_over<L: Ledger>(alloc: Global, steps: Steps<'_>, blank: Blank) -> Result<u64, DecodeFault>
-    requires name { blank.name ≡ L.name }
-    requires parts { blank.parts ≡ L.parts }
-    requires some { 0 < blank.parts }
+/// Reads a file: its header, its sections, and its end.
+fn file_over(alloc: Global, steps: Steps<'_>) -> Result<u64, DecodeFault>
 {
-    let mut source = Counted::<Steps<'_>, L>::new(steps, blank);
+    let mut source = Counted::new(steps);
     let (form, sections) = read_header(&mut source)?;
     let mut place = 10;
     for _ in 0..sections {
@@ -166,7 +126,7 @@ fn file_over<L: Ledger>(alloc: Global, steps: Steps<'_>, blank: Blank) -> Result
 
 /// Returns what reading a file tells.
 pub fn told_of_file_by(alloc: Global, steps: Steps<'_>) -> Told {
-    match file_over::<Brand>(alloc, steps, Blank::new(1)) {
+    match file_over(alloc, steps) {
         Ok(after) => Told::Section { after, left: 0 },
         Err(fault) => told_by_decode_fault(fault),
     }
@@ -182,39 +142,16 @@ pub fn told_of_file(alloc: Global, bytes: &[u8]) -> Told {
     told_of_file_by(alloc, steps)
 }
 
-/// Writes a section over a ledger, and returns what that tells, and the bytes that were taken.
-fn encode_over<L: Ledger>(
-    alloc: Global,
-    section: &Section,
-    taker: Taker,
-    blank: Blank,
-) -> (Told, Vec<u8>)
-    requires name { blank.name ≡ L.name }
-    requires parts { blank.parts ≡ L.parts }
-    requires some { 0 < blank.parts }
-{
-    let mut sink = Counted::<Taker, L>::new(taker, blank);
-    let result = encode(alloc, section.name, &section.certificate, &mut sink);
-    (told_by_writing(result), sink.into_inner().bytes)
-}
-
 /// Returns what writing a section tells, and the bytes that were taken.
 pub fn encoded(alloc: Global, section: &Section, taker: Taker) -> (Told, Vec<u8>) {
-    encode_over::<Brand>(alloc, section, taker, Blank::new(1))
-}
-
-/// Writes a header over a ledger, and returns what that tells, and the bytes that were taken.
-fn write_header_over<L: Ledger>(sections: u32, taker: Taker, blank: Blank) -> (Told, Vec<u8>)
-    requires name { blank.name ≡ L.name }
-    requires parts { blank.parts ≡ L.parts }
-    requires some { 0 < blank.parts }
-{
-    let mut sink = Counted::<Taker, L>::new(taker, blank);
-    let result = write_header(sections, &mut sink);
+    let mut sink = Counted::new(taker);
+    let result = encode(alloc, section.name, &section.certificate, &mut sink);
     (told_by_writing(result), sink.into_inner().bytes)
 }
 
 /// Returns what writing a header tells, and the bytes that were taken.
 pub fn written_header(sections: u32, taker: Taker) -> (Told, Vec<u8>) {
-    write_header_over::<Brand>(sections, taker, Blank::new(1))
+    let mut sink = Counted::new(taker);
+    let result = write_header(sections, &mut sink);
+    (told_by_writing(result), sink.into_inner().bytes)
 }

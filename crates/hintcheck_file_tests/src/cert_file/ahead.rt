@@ -1,23 +1,15 @@
 //! Sections that are read ahead: what they tell is what is told of them read step by step.
 
-ghost use Rattle.std.specs.Prelude.{◌≡◌, ◌<◌};
-
 use crate::cert_file::sections::{FULL, FULL_LENGTH};
 use hintcheck_test_fixtures::hex_bytes::bytes_of;
 use hintcheck_test_fixtures::section_calls::{Told, told_by_decode_fault, told_of_calls};
 use hintcheck_test_fixtures::streams::{ALL, Steps};
 use std::alloc::{AllocError, Global};
-use std::marker::Brand;
-use std::sync::ledger::{Blank, Ledger};
 use tt_cert::{Form, decode};
 use tt_stream::{Buffered, Counted, read_all};
 
-fn decode_ahead<L: Ledger>(alloc: Global, steps: Steps<'_>, blank: Blank) -> Told
-    requires name { blank.name ≡ L.name }
-    requires parts { blank.parts ≡ L.parts }
-    requires some { 0 < blank.parts }
-{
-    let counted = Counted::<Steps<'_>, L>::new(steps, blank);
+fn told_ahead(alloc: Global, steps: Steps<'_>) -> Told {
+    let counted = Counted::new(steps);
     let Ok(mut source) = Buffered::new(alloc, counted) else {
         return Told::OutOfMemory;
     };
@@ -31,10 +23,6 @@ fn decode_ahead<L: Ledger>(alloc: Global, steps: Steps<'_>, blank: Blank) -> Tol
         },
         Err(fault) => told_by_decode_fault(fault),
     }
-}
-
-fn told_ahead(alloc: Global, steps: Steps<'_>) -> Told {
-    decode_ahead::<Brand>(alloc, steps, Blank::new(1))
 }
 
 #[test]

@@ -1,8 +1,6 @@
 //! Readers that give one byte a call, of which one fails: all that was told by then remains valid,
 //! and no further call is made.
 
-ghost use Rattle.std.specs.Prelude.{◌≡◌, ◌<◌};
-
 use crate::checker::certificates::with_byte;
 use hintcheck::{Session, read_font};
 use hintcheck_test_fixtures::font_calls::{
@@ -16,8 +14,6 @@ use hintcheck_test_fixtures::stored_certificates::{
 };
 use hintcheck_test_fixtures::streams::{ALL, Steps, Taker};
 use std::alloc::Global;
-use std::marker::Brand;
-use std::sync::ledger::{Blank, Ledger};
 use std::test::Fail;
 use tt_font::Font;
 use tt_stream::{Counted, Source};
@@ -50,19 +46,13 @@ fn told_by_calls<S: Source>(alloc: Global, font: &Font<'_>, source: &mut S) -> T
     told
 }
 
-fn session_on<L: Ledger>(alloc: Global, file: &[u8], steps: Steps<'_>, blank: Blank) -> Told
-    requires { (blank.name ≡ L.name) × (blank.parts ≡ L.parts) × (0 < blank.parts) }
-{
-    let mut source = Counted::<Steps<'_>, L>::new(steps, blank);
+/// Returns what a session of a font tells of what this reader gives.
+fn told_by_session(alloc: Global, file: &[u8], steps: Steps<'_>) -> Told {
+    let mut source = Counted::new(steps);
     match read_font(alloc, file) {
         Ok(font) => told_by_calls(alloc, &font, &mut source),
         Err(fault) => Told::Font(fault.number()),
     }
-}
-
-/// Returns what a session of a font tells of what this reader gives.
-fn told_by_session(alloc: Global, file: &[u8], steps: Steps<'_>) -> Told {
-    session_on::<Brand>(alloc, file, steps, Blank::new(1))
 }
 
 /// A font, a certificate, how many calls are made of its reader, and what is told after them.

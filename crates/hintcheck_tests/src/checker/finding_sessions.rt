@@ -1,14 +1,10 @@
 //! The programs of a font found one by one.
 
-ghost use Rattle.std.specs.Prelude.{◌≡◌, ◌<◌};
-
 use hintcheck::{Budget, FindFontFault, Name, Outcome, Session, read_font};
 use hintcheck_test_fixtures::hex_bytes::bytes_of;
 use hintcheck_test_fixtures::stored_certificates::{FONT, FORM_4, UNDERFLOWING};
 use hintcheck_test_fixtures::streams::{ALL, Taker};
 use std::alloc::Global;
-use std::marker::Brand;
-use std::sync::ledger::{Blank, Ledger};
 use tt_cert::{encode, write_header};
 use tt_find::Found;
 use tt_font::Font;
@@ -38,24 +34,14 @@ fn write_each<W: Sink>(alloc: Global, font: &Font<'_>, sink: &mut W) -> Option<V
     Some(outcomes)
 }
 
-fn written_on<L: Ledger>(
-    alloc: Global,
-    font: &Font<'_>,
-    blank: Blank,
-) -> Option<(Vec<Outcome>, Vec<u8>)>
-    requires { (blank.name ≡ L.name) × (blank.parts ≡ L.parts) × (0 < blank.parts) }
-{
-    let mut sink = Counted::<Taker, L>::new(Taker::new(alloc, ALL, ALL), blank);
-    let outcomes = write_each(alloc, font, &mut sink)?;
-    Some((outcomes, sink.into_inner().bytes))
-}
-
 /// Returns the outcomes of a font's programs and what is written of them; nothing where the bytes
 /// hold no font, or where memory ran out.
 fn written(alloc: Global, parts: &[&str]) -> Option<(Vec<Outcome>, Vec<u8>)> {
     let file = bytes_of(alloc, parts).ok()?;
     let font = read_font(alloc, &file).ok()?;
-    written_on::<Brand>(alloc, &font, Blank::new(1))
+    let mut sink = Counted::new(Taker::new(alloc, ALL, ALL));
+    let outcomes = write_each(alloc, &font, &mut sink)?;
+    Some((outcomes, sink.into_inner().bytes))
 }
 
 /// The names of the programs, in the order of a font with one glyph.

@@ -1,33 +1,11 @@
 //! What the command prints, on two writers in memory.
 
-ghost use Rattle.std.specs.Prelude.{◌≡◌, ◌<◌};
-
 use hintcheck::command;
 use hintcheck_test_fixtures::paths::path_of;
 use hintcheck_test_fixtures::streams::Narrow;
 use std::fs;
-use std::marker::Brand;
 use std::rt::Files;
-use std::sync::ledger::{Blank, Ledger};
 use tt_stream::Counted;
-
-/// Returns the exit status at these words, and both writers afterwards.
-fn run<L: Ledger, M: Ledger, R: Files + AllocGlobal>(
-    rt: &R,
-    words: &[&str],
-    out: Narrow,
-    err: Narrow,
-    first: Blank,
-    second: Blank,
-) -> (u8, Vec<u8>, Vec<u8>)
-    requires out { (first.name ≡ L.name) × (first.parts ≡ L.parts) × (0 < first.parts) }
-    requires err { (second.name ≡ M.name) × (second.parts ≡ M.parts) × (0 < second.parts) }
-{
-    let mut out = Counted::<Narrow, L>::new(out, first);
-    let mut err = Counted::<Narrow, M>::new(err, second);
-    let status = command(rt, words, &mut out, &mut err);
-    (status, out.into_inner().bytes, err.into_inner().bytes)
-}
 
 /// Returns the exit status at these words, and what writers with room for this many bytes have
 /// taken.
@@ -37,15 +15,16 @@ pub(crate) fn printed<R: Files + AllocGlobal>(
     out_room: usize,
     err_room: usize,
 ) -> (u8, Vec<u8>, Vec<u8>) {
-    let out = Narrow {
+    let mut out = Counted::new(Narrow {
         bytes: Vec::new(rt.alloc()),
         room: out_room,
-    };
-    let err = Narrow {
+    });
+    let mut err = Counted::new(Narrow {
         bytes: Vec::new(rt.alloc()),
         room: err_room,
-    };
-    run::<Brand, Brand, R>(rt, words, out, err, Blank::new(1), Blank::new(1))
+    });
+    let status = command(rt, words, &mut out, &mut err);
+    (status, out.into_inner().bytes, err.into_inner().bytes)
 }
 
 /// More bytes than are printed or written.

@@ -1,7 +1,5 @@
 //! The programs of a font checked one by one.
 
-ghost use Rattle.std.specs.Prelude.{◌≡◌};
-
 use hintcheck::{CheckFontFault, Name, Outcome, Refused, Session};
 use hintcheck_test_fixtures::hex_bytes::bytes_of;
 use hintcheck_test_fixtures::stored_certificates::{
@@ -18,13 +16,11 @@ pub(crate) struct Bytes<'a> {
 }
 
 impl Source for Bytes<'_> {
-    ghost use Rattle.std.specs.Prelude.{Some, []};
+    ghost use Rattle.std.specs.Prelude.{Some};
 
     ghost remaining = { λ bytes. Some bytes.left.now };
 
     ghost failures = { λ _. 0 };
-
-    ghost read_ahead = { λ _. [] };
 
     fn read(&mut self, buf: &mut [u8]) -> Result<usize, ReadFailed> {
         let count = self.left.len().min(buf.len());
@@ -33,12 +29,6 @@ impl Source for Bytes<'_> {
         self.left = rest;
         Ok(count)
     }
-
-    fn ahead(&self) -> &[u8] {
-        &[]
-    }
-
-    fn skip(&mut self, _count: usize) {}
 }
 
 /// Returns the first refused program of a font by its certificate, of which nothing is read after

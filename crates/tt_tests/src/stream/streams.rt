@@ -1,12 +1,8 @@
 //! Readers and writers that take or give little at a time, or fail.
 
-ghost use Rattle.std.specs.Prelude.{◌≡◌, ◌<◌};
-
 use hintcheck_test_fixtures::streams::Narrow;
 use std::alloc::Global;
 use std::io::{ErrorKind, Write};
-use std::marker::Brand;
-use std::sync::ledger::{Blank, Ledger};
 use std::test::Fail;
 use std::{fmt, io};
 use tt_stream::{
@@ -28,50 +24,24 @@ impl fmt::Display for Letters {
 }
 
 /// Returns what `write!` answers for that many letters, and the writer afterwards.
-fn write_letters<L: Ledger, W: Write + Drop>(
+fn write_letters<W: Write + Drop>(
     writer: W,
     letters: usize,
-    blank: Blank,
 ) -> (Result<(), PrintFailed>, W)
-    requires name { blank.name ≡ L.name }
-    requires parts { blank.parts ≡ L.parts }
-    requires some { 0 < blank.parts }
 {
-    let mut sink = Counted::<W, L>::new(writer, blank);
+    let mut sink = Counted::new(writer);
     let result = write!(sink, "{}", Letters(letters));
     (result, sink.into_inner())
 }
 
-/// Returns what a read of at most four bytes gives, and what a write of all of them gives.
-fn copy_some<L: Ledger, M: Ledger>(
-    bytes: &[u8],
-    into: Vec<u8>,
-    first: Blank,
-    second: Blank,
-) -> (Result<usize, ReadFailed>, Result<(), WriteFailed>, Vec<u8>)
-    requires source { (first.name ≡ L.name) × (first.parts ≡ L.parts) × (0 < first.parts) }
-    requires sink { (second.name ≡ M.name) × (second.parts ≡ M.parts) × (0 < second.parts) }
-{
-    let mut source = Counted::<&[u8], L>::new(bytes, first);
-    let mut sink = Counted::<Vec<u8>, M>::new(into, second);
-    let mut buf = [0u8; 4];
-    let count = source.read(&mut buf);
-    let written = write_all(&mut sink, &buf);
-    (count, written, sink.into_inner())
-}
-
 #[test]
 fn reads_and_writes(rt: HostRuntime) {
-    let into = Vec::new(rt.alloc());
-    let (count, written, into) = copy_some::<Brand, Brand>(
-        b"abc",
-        into,
-        Blank::new(1),
-        Blank::new(1),
-    );
-    assert_eq!(rt; count, Ok(3));
-    assert_eq!(rt; written, Ok(()));
-    assert_eq!(rt; into.as_slice(), b"abc\0".as_slice());
+    let mut source = Counted::new(b"abc".as_slice());
+    let mut sink = Counted::new(Vec::new(rt.alloc()));
+    let mut buf = [0u8; 4];
+    assert_eq!(rt; source.read(&mut buf), Ok(3));
+    assert_eq!(rt; write_all(&mut sink, &buf), Ok(()));
+    assert_eq!(rt; sink.into_inner().as_slice(), b"abc\0".as_slice());
 }
 
 /// All bytes of a reader that gives no more than `step` at a time and fails at the end where it is
@@ -96,12 +66,9 @@ impl io::Read for Steps<'_> {
     }
 }
 
-fn read_steps<L: Ledger>(alloc: Global, steps: Steps<'_>, blank: Blank) -> Option<Vec<u8>>
-    requires name { blank.name ≡ L.name }
-    requires parts { blank.parts ≡ L.parts }
-    requires some { 0 < blank.parts }
+fn read_steps(alloc: Global, steps: Steps<'_>) -> Option<Vec<u8>>
 {
-    let mut source = Counted::<Steps<'_>, L>::new(steps, blank);
+    let mut source = Counted::new(steps);
     read_all(alloc, &mut source).ok()
 }
 
@@ -114,7 +81,7 @@ fn reads_all(rt: HostRuntime) -> Result<(), Fail> {
             step,
             fails: false,
         };
-        let all = read_steps::<Brand>(rt.alloc(), steps, Blank::new(1)).ok_or("all bytes")?;
+        let all = read_steps(rt.alloc(), steps).ok_or("all bytes")?;
         assert!(rt; all.as_slice() == bytes.as_slice(), "by {step}");
     }
     let steps = Steps {
@@ -122,17 +89,14 @@ fn reads_all(rt: HostRuntime) -> Result<(), Fail> {
         step: 100,
         fails: true,
     };
-    assert!(rt; read_steps::<Brand>(rt.alloc(), steps, Blank::new(1)).is_none());
+    assert!(rt; read_steps(rt.alloc(), steps).is_none());
     Ok(())
 }
 
 /// Returns all bytes of the steps, read ahead.
-fn read_steps_ahead<L: Ledger>(alloc: Global, steps: Steps<'_>, blank: Blank) -> Option<Vec<u8>>
-    requires name { blank.name ≡ L.name }
-    requires parts { blank.parts ≡ L.parts }
-    requires some { 0 < blank.parts }
+fn read_steps_ahead(alloc: Global, steps: Steps<'_>) -> Option<Vec<u8>>
 {
-    let counted = Counted::<Steps<'_>, L>::new(steps, blank);
+    let counted = Counted::new(steps);
     let mut source = Buffered::new(alloc, counted).ok()?;
     read_all(alloc, &mut source).ok()
 }
@@ -147,7 +111,7 @@ fn reads_all_ahead(rt: HostRuntime) -> Result<(), Fail> {
                 step,
                 fails,
             };
-            let all = read_steps_ahead::<Brand>(rt.alloc(), steps, Blank::new(1));
+            let all = read_steps_ahead(rt.alloc(), steps);
             match all {
                 Some(all) => assert!(rt; !fails && all.as_slice() == bytes.as_slice(), "by {step}"),
                 None => assert!(rt; fails, "by {step}"),
@@ -159,17 +123,13 @@ fn reads_all_ahead(rt: HostRuntime) -> Result<(), Fail> {
 
 /// Returns what is ahead once a byte of the steps was read, and the next byte after `skipped` of
 /// those that are ahead.
-fn look_ahead<L: Ledger>(
+fn look_ahead(
     alloc: Global,
     steps: Steps<'_>,
     skipped: usize,
-    blank: Blank,
 ) -> Option<(Vec<u8>, u8)>
-    requires name { blank.name ≡ L.name }
-    requires parts { blank.parts ≡ L.parts }
-    requires some { 0 < blank.parts }
 {
-    let counted = Counted::<Steps<'_>, L>::new(steps, blank);
+    let counted = Counted::new(steps);
     let mut source = Buffered::new(alloc, counted).ok()?;
     let mut byte = [0u8; 1];
     source.read(&mut byte).ok()?;
@@ -193,7 +153,7 @@ fn skips_what_is_ahead(rt: HostRuntime) -> Result<(), Fail> {
             step: 4,
             fails: false,
         };
-        let (ahead, byte) = look_ahead::<Brand>(rt.alloc(), steps, skipped, Blank::new(1)).ok_or(
+        let (ahead, byte) = look_ahead(rt.alloc(), steps, skipped).ok_or(
             "a byte",
         )?;
         assert_eq!(rt; ahead.as_slice(), b"bcd".as_slice());
@@ -237,11 +197,66 @@ fn reads_bytes_in_memory(rt: HostRuntime) -> Result<(), Fail> {
     Ok(())
 }
 
+/// Bytes in memory as a source of which `read` alone is written.
+#[derive(Drop)]
+struct Plain<'a> {
+    left: &'a [u8],
+}
+
+impl Source for Plain<'_> {
+    ghost use Rattle.std.specs.Prelude.{Some};
+
+    ghost remaining = { λ p. Some p.left.now };
+
+    ghost failures = { λ _. 0 };
+
+    fn read(&mut self, buf: &mut [u8]) -> Result<usize, ReadFailed> {
+        let count = self.left.len().min(buf.len());
+        let (front, rest) = self.left.split_at(count);
+        buf[..count].copy_from_slice(front);
+        self.left = rest;
+        Ok(count)
+    }
+}
+
+#[test]
+fn reads_a_plain_source(rt: HostRuntime) -> Result<(), Fail> {
+    let mut source = Plain { left: b"abc" };
+    assert!(rt; source.ahead().is_empty());
+    source.skip(0);
+    assert_eq!(rt; read_all(rt.alloc(), &mut source)?.as_slice(), b"abc".as_slice());
+    Ok(())
+}
+
+/// The same, which shows the bytes that are left, and by default skips them by reading them.
+#[derive(Drop)]
+struct Shown<'a> {
+    source: Plain<'a>,
+}
+
+impl Source for Shown<'_> {
+    ghost use Rattle.std.specs.Prelude.{Some};
+
+    ghost remaining = { λ s. Some s.source.left.now };
+
+    ghost failures = { λ _. 0 };
+
+    ghost read_ahead = { λ s. s.source.left.now };
+
+    fn read(&mut self, buf: &mut [u8]) -> Result<usize, ReadFailed> {
+        self.source.read(buf)
+    }
+
+    fn ahead(&self) -> &[u8] {
+        self.source.left
+    }
+}
+
 #[test]
 fn prints_texts_longer_than_a_window(rt: HostRuntime) -> Result<(), Fail> {
     for letters in [0, 1, 255, 256, 257, 512, 1000] {
         let empty = Vec::new(rt.alloc());
-        let (result, bytes) = write_letters::<Brand, Vec<u8>>(empty, letters, Blank::new(1));
+        let (result, bytes) = write_letters(empty, letters);
         assert_eq!(rt; result, Ok(()));
         assert_eq!(rt; bytes.len(), letters);
         let in_order = bytes
@@ -260,7 +275,7 @@ fn stops_at_the_first_failure(rt: HostRuntime) -> Result<(), Fail> {
             bytes: Vec::new(rt.alloc()),
             room,
         };
-        let (result, narrow) = write_letters::<Brand, Narrow>(narrow, 300, Blank::new(1));
+        let (result, narrow) = write_letters(narrow, 300);
         assert_eq!(rt; result.is_ok(), room == 300, "room for {room}");
         assert_eq!(rt; narrow.bytes.len(), room);
     }
