@@ -8,7 +8,8 @@ use std::alloc::Global;
 use std::marker::Brand;
 use std::sync::ledger::{Blank, Ledger};
 use tt_cert::{
-    DecodeFault, EncodeFault, Form, Name, decode, encode, read_end, read_header, write_header,
+    DecodeFault, EncodeFault, Form, NEWEST_FORM, Name, decode, encode, read_end, read_header,
+    write_header,
 };
 use tt_family::Certificate;
 use tt_stream::Counted;
@@ -22,8 +23,8 @@ pub const AT_START: &str = "0100000000 0100000000 0100000000 010101 0100000001";
 pub enum Told {
     /// A section whose end is this place, with this many bytes left after it.
     Section { after: u64, left: usize },
-    /// A header.
-    Header(Form, u32),
+    /// A header of the form with this number, with so many sections.
+    Header(u16, u32),
     /// All was written, or the end was seen.
     Done,
     /// The bytes break a rule at this place.
@@ -74,7 +75,7 @@ fn decode_over<L: Ledger>(
     requires some { 0 < blank.parts }
 {
     let mut source = Counted::<Steps<'_>, L>::new(steps, blank);
-    match decode(alloc, &mut source, start, form) {
+    match decode(alloc, &mut source, start, form.number()) {
         Ok((name, certificate, after)) => {
             let left = source.into_inner().bytes.len();
             (
@@ -210,7 +211,7 @@ fn write_header_over<L: Ledger>(sections: u32, taker: Taker, blank: Blank) -> (T
     requires some { 0 < blank.parts }
 {
     let mut sink = Counted::<Taker, L>::new(taker, blank);
-    let result = write_header(sections, &mut sink);
+    let result = write_header(NEWEST_FORM, sections, &mut sink);
     (told_by_writing(result), sink.into_inner().bytes)
 }
 

@@ -21,7 +21,7 @@ fn decode_ahead<L: Ledger>(alloc: Global, steps: Steps<'_>, blank: Blank) -> Tol
     let Ok(mut source) = Buffered::new(alloc, counted) else {
         return Told::OutOfMemory;
     };
-    match decode(alloc, &mut source, 0, Form::Four) {
+    match decode(alloc, &mut source, 0, Form::Four.number()) {
         Ok((_, _, after)) => match read_all(alloc, &mut source) {
             Ok(rest) => Told::Section {
                 after,

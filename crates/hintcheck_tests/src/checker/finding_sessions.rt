@@ -10,7 +10,7 @@ use hintcheck_test_fixtures::streams::{ALL, Taker};
 use std::alloc::Global;
 use std::marker::Brand;
 use std::sync::ledger::{Blank, Ledger};
-use tt_cert::{encode, write_header};
+use tt_cert::{NEWEST_FORM, encode, write_header};
 use tt_find::{Finder, Found};
 use tt_font::Font;
 use tt_stream::{Counted, Sink};
@@ -38,7 +38,7 @@ fn write_each<W: Sink>(alloc: Global, font: &Font<'_>, sink: &mut W) -> Option<V
     requires { IsFontInRange font.now }
 {
     let programs = u32::from(font.glyph_count()) + 2;
-    write_header(programs, sink).ok()?;
+    write_header(NEWEST_FORM, programs, sink).ok()?;
     let mut finder = Finder::new(alloc);
     let mut outcomes = Vec::new(alloc);
     let mut session = Session::new(font);
