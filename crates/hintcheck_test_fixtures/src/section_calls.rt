@@ -4,7 +4,8 @@
 use crate::streams::{ALL, Steps, Taker};
 use std::alloc::Global;
 use tt_cert::{
-    DecodeFault, EncodeFault, Form, Name, decode, encode, read_end, read_header, write_header,
+    DecodeFault, EncodeFault, Form, NEWEST_FORM, Name, decode, encode, read_end, read_header,
+    write_header,
 };
 use tt_family::Certificate;
 use tt_stream::Counted;
@@ -18,8 +19,8 @@ pub const AT_START: &str = "0100000000 0100000000 0100000000 010101 0100000001";
 pub enum Told {
     /// A section whose end is this place, with this many bytes left after it.
     Section { after: u64, left: usize },
-    /// A header.
-    Header(Form, u32),
+    /// A header of the form with this number, with so many sections.
+    Header(u16, u32),
     /// All was written, or the end was seen.
     Done,
     /// The bytes break a rule at this place.
@@ -60,7 +61,7 @@ pub struct Section {
 /// Returns the section that these bytes begin with, if they do, and what was told.
 pub fn decoded(alloc: Global, steps: Steps<'_>, start: u64, form: Form) -> (Option<Section>, Told) {
     let mut source = Counted::new(steps);
-    match decode(alloc, &mut source, start, form) {
+    match decode(alloc, &mut source, start, form.number()) {
         Ok((name, certificate, after)) => {
             let left = source.into_inner().bytes.len();
             (

@@ -43,7 +43,7 @@ HaveParents-from contexts h i c at =
     let len : length (take i contexts) ≡ i = length-take-le i contexts (omega arith) in
     omega arith
 
-less_from : (o : Ordering) → is_lt o ≡ true → o ≡ Less
+pub less_from : (o : Ordering) → is_lt o ≡ true → o ≡ Less
 less_from Less e = refl
 less_from Equal e = cc
 less_from Greater e = cc

@@ -136,6 +136,16 @@ module _ (n : ℕ) (few : n ≤ 65535) where
   states_fit [] ascends all = tt
   states_fit (e ∷ es) ascends all = (entry_fits [] e all.0 refl, later_states e (e ∷ []) es (last_pushed [] e) ascends.0 ascends.1 all.1)
 
+-- lists of one length with the same frames at each index
+pub same_lists : (xs ys : List (List Frame)) → length xs ≡ length ys → ((k : ℕ) → k < length ys → frames_at xs k ≡ frames_at ys k) → xs ≡ ys
+same_lists [] [] len h = refl
+same_lists [] (y ∷ ys) len h = absurd (omega (arith, len))
+same_lists (x ∷ xs) [] len h = absurd (omega (arith, len))
+same_lists (x ∷ xs) (y ∷ ys) len h =
+    let head : x ≡ y = h 0 (omega arith) in
+    let tail : xs ≡ ys = same_lists xs ys (omega (arith, len)) (λ k lt. h (suc k) (omega arith)) in
+    λ i. head i ∷ tail i
+
 -- the contexts of a family, as its section lists them
 
 module _ (v : Contents) (finished : IsFinished v) where
@@ -180,15 +190,6 @@ module _ (v : Contents) (finished : IsFinished v) where
       let long : length (frames_of xs) ≡ length v.contexts = omega (arith, length-grow ([] ∷ []) xs, length_listed v) in
       same_lists (frames_of xs) v.contexts long
       (λ k lt. ap (λ (l : List Context). frames_at (frames_of l) k) (sym whole) ∙ frames_back_at (length xs) (omega arith) k (omega (arith, length_listed v)))
-    where
-      same_lists : (xs ys : List (List Frame)) → length xs ≡ length ys → ((k : ℕ) → k < length ys → frames_at xs k ≡ frames_at ys k) → xs ≡ ys
-      same_lists [] [] len h = refl
-      same_lists [] (y ∷ ys) len h = absurd (omega (arith, len))
-      same_lists (x ∷ xs) [] len h = absurd (omega (arith, len))
-      same_lists (x ∷ xs) (y ∷ ys) len h =
-          let head : x ≡ y = h 0 (omega arith) in
-          let tail : xs ≡ ys = same_lists xs ys (omega (arith, len)) (λ k lt. h (suc k) (omega arith)) in
-          λ i. head i ∷ tail i
 
   module _ (calls : AreCallsInTurn v.contexts) (numbers : AllByRecursion CallFits (contexts_in v.contexts)) where
     is_above_before : (i : ℕ) (c : Context) → i < length (contexts_in v.contexts) → IsContextAt v.contexts (i + 1) c → is_above_context (last_of (take i (contexts_in v.contexts))) c ≡ true

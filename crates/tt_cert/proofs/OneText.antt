@@ -1,12 +1,11 @@
 -- A family has one text: what has its contexts, whatever their numbers, and its states by point, lists them in the same order.
-use Rattle.std.proofs.Common.{◌≡◌, ℕ, zero, suc, ◌+◌, ◌≤◌, ◌<◌, true, List, [], ◌∷◌, ◌++◌, length, Option, Some, None, refl, sym, ap, subst, ◌∙◌, arith, inl, inr}
+use Rattle.std.proofs.Common.{◌≡◌, ℕ, zero, suc, ◌≤◌, ◌<◌, true, List, [], ◌∷◌, ◌++◌, length, Option, Some, None, refl, sym, ap, subst, ◌∙◌, arith, inl, inr}
 use Rattle.std.specs.List.{AllByRecursion}
 use Rattle.std.specs.List.Sorted.{IsStrictlySortedBy}
 use Rattle.std.specs.Map.{keys_of}
 use Rattle.std.specs.Option.{option_map_or}
 use Rattle.std.specs.Prelude.{option_map}
 use Rattle.std.specs.Ordering.{is_lt, ordering_reverse}
-use Rattle.std.specs.declared.cmp.Ordering.{Ordering}
 use Rattle.std.specs.declared.cmp.Ordering.TheVariants.{Less}
 use Rattle.std.proofs.lemmas.Bool.{cases_lt}
 use Rattle.tt_code.specs.declared.machine.Frame.{Frame}
@@ -24,7 +23,7 @@ use Rattle.tt_cert.specs.declared.form.Form.{Form}
 use Rattle.tt_cert.specs.declared.name.Name.{Name}
 use Rattle.tt_cert.specs.Families.{HasText, family_text}
 use Rattle.tt_cert.specs.Rules.{EachAfter, EntryFits, is_next_point, last_of, last_point}
-use Rattle.tt_cert.specs.Sections.{Context, Entry}
+use Rattle.tt_cert.specs.Sections.{Entry}
 use Rattle.tt_cert.proofs.Ascends.{last_pushed}
 use Rattle.tt_cert.proofs.ContextLists.{less_from}
 use Rattle.tt_cert.proofs.Fields.{both}
@@ -40,11 +39,10 @@ not_around x y a b =
 -- contexts
 
 -- the contexts below a number are the same
-AgreeBelow : ℕ → Contents → Contents → Type 0
+abbrev AgreeBelow : ℕ → Contents → Contents → Type 0
 AgreeBelow n c d = (k : ℕ) → k < n → frames_at c.contexts k ≡ frames_at d.contexts k
 
 agree_back : (n : ℕ) (c d : Contents) → AgreeBelow n c d → AgreeBelow n d c
-unfolding AgreeBelow
 agree_back n c d agree = λ k lt. sym (agree k lt)
 
 -- a context, which is the other family's of this number or a later one
@@ -57,7 +55,6 @@ record IsThere (n : ℕ) (c d : Contents) : Type 0 where
 
 is_there : (n : ℕ) (c d : Contents) → IsFinished c → IsFinished d → ((frames : List Frame) → HasContext c.contexts frames → HasContext d.contexts frames)
     → AgreeBelow n c d → 0 < n → n < length c.contexts → IsThere n c d
-unfolding AgreeBelow
 is_there n c d p q has agree some lt =
     let (e, mine) = p.1.parents n some lt in
     let frames : List Frame = frames_at c.contexts n in
@@ -103,11 +100,9 @@ agree_at (suc k) c d p q same agree lt =
     ]
   where
     parent : (i : ℕ) → i < suc k → frames_at c.contexts i ≡ frames_at d.contexts i
-    unfolding AgreeBelow
     parent i lt = agree i lt
 
 agree_below : (n : ℕ) (c d : Contents) → IsFinished c → IsFinished d → SameContents c d → n ≤ length c.contexts → AgreeBelow n c d
-unfolding AgreeBelow
 agree_below zero c d p q same le = λ k lt. absurd (omega arith)
 agree_below (suc n) c d p q same le = λ k lt.
     let below : AgreeBelow n c d = agree_below n c d p q same (omega arith) in
@@ -138,7 +133,6 @@ no_more c d p q same = elim (cases_lt (length c.contexts) (length d.contexts)) [
 ]
 
 same_contexts : (c d : Contents) → IsFinished c → IsFinished d → SameContents c d → c.contexts ≡ d.contexts
-unfolding AgreeBelow
 same_contexts c d p q same =
     let more = no_more c d p q same in
     let fewer = no_more d c q p (same_back c d same) in

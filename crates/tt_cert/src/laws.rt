@@ -25,3 +25,11 @@ pub fn one_family_of_a_text()
         → HasText form m d → family_text form n c ++ a ≡ family_text form m d ++ b
         → (n ≡ m) × (c ≡ d) × (a ≡ b) }
 {}
+
+/// Shows that a name with a family has one text: two that have the same contexts, whatever their
+/// numbers, and the same state at each point, list them in one order.
+pub fn one_text_of_a_family()
+    ensures { (form : Form) (name : Name) (c d : Contents) → HasText form name c
+        → HasText form name d → SameContents c d
+        → family_text form name c ≡ family_text form name d }
+{}

@@ -18,7 +18,7 @@ mod writing;
 pub use fault::{DecodeFault, EncodeFault};
 pub use form::{Form, NEWEST_FORM};
 pub use header::{read_end, read_form, read_header, write_header};
-pub use laws::{no_section_begins_another, one_family_of_a_text};
+pub use laws::{no_section_begins_another, one_family_of_a_text, one_text_of_a_family};
 pub use name::Name;
 pub use reading::{Decoder, decode};
 pub use tt_abs::Spot;

@@ -1,6 +1,6 @@
 -- Worked examples as lists of cases, so that one `refl` proves a whole list. A case is what is computed and what it is to be; the words
--- here make one of a program, or of codes and stacks. Where a list doesn't hold, drop cases from its end until it does: the last that
--- was dropped is wrong.
+-- here make one of a program, or of codes and stacks. Where a list doesn't hold, the prover says which values differ; to see in which
+-- case, drop cases from the end until the list holds.
 use Rattle.std.specs.Prelude.{◌≡◌, ℕ, ℤ, pos, List, [], ◌∷◌, Option, Some, Err, map, option_map}
 use Rattle.tt_code.specs.Refusals.{Tested}
 use Rattle.tt_code.specs.Settings.{ZoneNumber, One}

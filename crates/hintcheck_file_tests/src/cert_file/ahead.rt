@@ -13,7 +13,7 @@ fn told_ahead(alloc: Global, steps: Steps<'_>) -> Told {
     let Ok(mut source) = Buffered::new(alloc, counted) else {
         return Told::OutOfMemory;
     };
-    match decode(alloc, &mut source, 0, Form::Four) {
+    match decode(alloc, &mut source, 0, Form::Four.number()) {
         Ok((_, _, after)) => match read_all(alloc, &mut source) {
             Ok(rest) => Told::Section {
                 after,

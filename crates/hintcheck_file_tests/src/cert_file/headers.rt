@@ -21,13 +21,13 @@ fn told_of(alloc: Global, digits: &str, calls: usize) -> Told {
 #[test]
 fn headers(rt: HostRuntime) {
     let table = [
-        ("48435254 0001 00000003", Told::Header(Form::One, 3)),
-        ("48435254 0002 00000003", Told::Header(Form::Two, 3)),
+        ("48435254 0001 00000003", Told::Header(1, 3)),
+        ("48435254 0002 00000003", Told::Header(2, 3)),
         (
             "48435254 0003 00010001 00",
-            Told::Header(Form::Three, 65_537),
+            Told::Header(3, 65_537),
         ),
-        ("48435254 0004 FFFFFFFF", Told::Header(Form::Four, u32::MAX)),
+        ("48435254 0004 FFFFFFFF", Told::Header(4, u32::MAX)),
         ("48435255 0004 00000003", Told::Form(0)),
         ("00435254 0004 00000003", Told::Form(0)),
         ("48435254 0000 00000003", Told::Form(4)),
@@ -67,7 +67,7 @@ fn headers_from_failing_readers(rt: HostRuntime) {
         assert_eq!(rt; told, Told::Read, "after {calls}");
     }
     let table = [
-        ("48435254 0004 00000003", 10, Told::Header(Form::Four, 3)),
+        ("48435254 0004 00000003", 10, Told::Header(4, 3)),
         ("48435255 0004 00000003", 3, Told::Read),
         ("48435255 0004 00000003", 4, Told::Form(0)),
         ("48435254 0000 00000003", 6, Told::Form(4)),

@@ -5,7 +5,7 @@ use hintcheck_test_fixtures::hex_bytes::bytes_of;
 use hintcheck_test_fixtures::stored_certificates::{FONT, FORM_4, UNDERFLOWING};
 use hintcheck_test_fixtures::streams::{ALL, Taker};
 use std::alloc::Global;
-use tt_cert::{encode, write_header};
+use tt_cert::{NEWEST_FORM, encode, write_header};
 use tt_find::Found;
 use tt_font::Font;
 use tt_stream::{Counted, Sink};
@@ -22,7 +22,7 @@ fn write_one<W: Sink>(alloc: Global, name: Name, found: Option<Found>, sink: &mu
 /// outcomes; nothing where memory ran out.
 fn write_each<W: Sink>(alloc: Global, font: &Font<'_>, sink: &mut W) -> Option<Vec<Outcome>> {
     let programs = u32::from(font.glyph_count()) + 2;
-    write_header(programs, sink).ok()?;
+    write_header(NEWEST_FORM, programs, sink).ok()?;
     let mut outcomes = Vec::new(alloc);
     let mut session = Session::new(font);
     for _ in 0..programs + 2 {
