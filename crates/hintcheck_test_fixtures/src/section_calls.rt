@@ -153,6 +153,6 @@ pub fn encoded(alloc: Global, section: &Section, taker: Taker) -> (Told, Vec<u8>
 /// Returns what writing a header tells, and the bytes that were taken.
 pub fn written_header(sections: u32, taker: Taker) -> (Told, Vec<u8>) {
     let mut sink = Counted::new(taker);
-    let result = write_header(sections, &mut sink);
+    let result = write_header(NEWEST_FORM, sections, &mut sink);
     (told_by_writing(result), sink.into_inner().bytes)
 }
