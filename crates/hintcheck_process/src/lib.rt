@@ -2,14 +2,14 @@
 //! status.
 #![tactic(auto)]
 
-ghost use Rattle.std.specs.Prelude.{IfErr, IfOk, map};
+ghost use Rattle.std.specs.Prelude.{◌≡◌, IfErr, IfOk, map};
 ghost use Rattle.std.specs.Process.{exit_status};
 ghost use Rattle.std.specs.Vec.Iter.{into_iter_items};
 ghost use Rattle.hintcheck.specs.MeansSafe.{IsStatusOf};
 ghost use Rattle.hintcheck_process.specs.Statuses.{IsStatusAt, IsStatusUnread, texts_of};
 
 use hintcheck::command;
-use std::alloc::AllocError;
+use std::alloc::{AllocError, Global};
 use std::env::Args;
 use std::io;
 use std::io::ErrorKind;
@@ -31,6 +31,26 @@ fn run(rt: &HostRuntime, words: &[&str]) -> u8
     command(rt, words, &mut out, &mut err)
 }
 
+/// Returns all of the words.
+///
+/// # Errors
+/// If memory runs out.
+fn all_of(alloc: Global, words: Args) -> Result<Vec<String>, AllocError>
+    ensures { IfOk result (λ all. all.items ≡ into_iter_items words) }
+{
+    words.collect(alloc)
+}
+
+/// Returns the words' texts.
+///
+/// # Errors
+/// If memory runs out.
+fn as_texts(alloc: Global, words: &[String]) -> Result<Vec<&str>, AllocError>
+    ensures { IfOk result (λ texts. map (λ t. t.now) texts.items ≡ texts_of words.now) }
+{
+    words.iter().map(|word| word.as_str()).collect(alloc)
+}
+
 /// Returns the exit status of the command at these words.
 ///
 /// # Errors
@@ -38,8 +58,8 @@ fn run(rt: &HostRuntime, words: &[&str]) -> u8
 fn run_words(rt: &HostRuntime, words: Args) -> Result<u8, AllocError>
     ensures { IfOk result (IsStatusOf (texts_of (into_iter_items words))) }
 {
-    let words: Vec<String> = words.collect(rt.alloc())?;
-    let texts: Vec<&str> = words.iter().map(|word| word.as_str()).collect(rt.alloc())?;
+    let words = all_of(rt.alloc(), words)?;
+    let texts = as_texts(rt.alloc(), &words)?;
     Ok(run(rt, &texts))
 }
 
