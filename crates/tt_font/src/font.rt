@@ -123,8 +123,8 @@ impl<'a> Font<'a> {
         })
     }
 
-    /// States that each program of the font has fewer than 2^31 bytes, and that maxStackElements has
-    /// 16 bits, as is always so.
+    /// States that each program of the font has fewer than 2^31 bytes, and that maxStackElements
+    /// has 16 bits, as is always so.
     pub fn range_facts(&self)
         ensures { IsFontInRange self.now }
     {

@@ -24,8 +24,11 @@ returns-in_err-refused-clause-begun g c =
 pub returns-in_err-write_certificate-clause-begun : goal.returns-in_err-write_certificate-clause-begun
 returns-in_err-write_certificate-clause-begun g c =
     let p = err_from_is_err_and c.from_residual-in_err-write_certificate.result c.from_residual-in_err-write_certificate.ensures.1 in
-    rw p.1 (inr (refuses_none c.args.font.now c.in_ok-refused.refused.items c.in_ok-refused.refused.len c.in_ok-refused.refused.ok.0 c.in_ok-refused.ensures.refused
-    (eqb-true _ _ (sym c.if-is_empty.ensures)), c.in_err-write_certificate.ensures.begun))
+    rw p.1 (inr (
+      refuses_none c.args.font.now c.in_ok-refused.refused.items c.in_ok-refused.refused.len c.in_ok-refused.refused.ok.0 c.in_ok-refused.ensures.refused
+          (eqb-true _ _ (sym c.if-is_empty.ensures)),
+      c.in_err-write_certificate.ensures.begun,
+    ))
 
 pub returns-in_err-write_certificate-clause-write_fault : goal.returns-in_err-write_certificate-clause-write_fault
 returns-in_err-write_certificate-clause-write_fault g c = λ _.
