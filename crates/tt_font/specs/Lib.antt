@@ -14,6 +14,5 @@ pub mod Files
 pub mod FileFaults
 pub mod Reading
 pub mod Ranges
-pub mod FontFields
 pub mod Laws
 pub mod Representation

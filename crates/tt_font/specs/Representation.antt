@@ -2,6 +2,7 @@
 -- does.
 pub mod ComponentReads
 pub mod CompositeLists
+pub mod FontFields
 pub mod GlyphParts
 pub mod GlyphTables
 pub mod OutlineSizes

@@ -66,7 +66,7 @@ impl<'a> Model for Font<'a> {
 
     ghost Value = { FontData };
 
-    ghost use Rattle.tt_font.specs.FontFields.{IsKept, font_data};
+    ghost use Rattle.tt_font.specs.Representation.FontFields.{IsKept, font_data};
 
     ghost view = { font_data };
 
