@@ -24,11 +24,7 @@ impl fmt::Display for Letters {
 }
 
 /// Returns what `write!` answers for that many letters, and the writer afterwards.
-fn write_letters<W: Write + Drop>(
-    writer: W,
-    letters: usize,
-) -> (Result<(), PrintFailed>, W)
-{
+fn write_letters<W: Write + Drop>(writer: W, letters: usize) -> (Result<(), PrintFailed>, W) {
     let mut sink = Counted::new(writer);
     let result = write!(sink, "{}", Letters(letters));
     (result, sink.into_inner())
@@ -66,8 +62,7 @@ impl io::Read for Steps<'_> {
     }
 }
 
-fn read_steps(alloc: Global, steps: Steps<'_>) -> Option<Vec<u8>>
-{
+fn read_steps(alloc: Global, steps: Steps<'_>) -> Option<Vec<u8>> {
     let mut source = Counted::new(steps);
     read_all(alloc, &mut source).ok()
 }
@@ -94,8 +89,7 @@ fn reads_all(rt: HostRuntime) -> Result<(), Fail> {
 }
 
 /// Returns all bytes of the steps, read ahead.
-fn read_steps_ahead(alloc: Global, steps: Steps<'_>) -> Option<Vec<u8>>
-{
+fn read_steps_ahead(alloc: Global, steps: Steps<'_>) -> Option<Vec<u8>> {
     let counted = Counted::new(steps);
     let mut source = Buffered::new(alloc, counted).ok()?;
     read_all(alloc, &mut source).ok()
@@ -123,12 +117,7 @@ fn reads_all_ahead(rt: HostRuntime) -> Result<(), Fail> {
 
 /// Returns what is ahead once a byte of the steps was read, and the next byte after `skipped` of
 /// those that are ahead.
-fn look_ahead(
-    alloc: Global,
-    steps: Steps<'_>,
-    skipped: usize,
-) -> Option<(Vec<u8>, u8)>
-{
+fn look_ahead(alloc: Global, steps: Steps<'_>, skipped: usize) -> Option<(Vec<u8>, u8)> {
     let counted = Counted::new(steps);
     let mut source = Buffered::new(alloc, counted).ok()?;
     let mut byte = [0u8; 1];
@@ -153,9 +142,7 @@ fn skips_what_is_ahead(rt: HostRuntime) -> Result<(), Fail> {
             step: 4,
             fails: false,
         };
-        let (ahead, byte) = look_ahead(rt.alloc(), steps, skipped).ok_or(
-            "a byte",
-        )?;
+        let (ahead, byte) = look_ahead(rt.alloc(), steps, skipped).ok_or("a byte")?;
         assert_eq!(rt; ahead.as_slice(), b"bcd".as_slice());
         assert_eq!(rt; byte, next, "after {skipped}");
     }
@@ -224,32 +211,11 @@ fn reads_a_plain_source(rt: HostRuntime) -> Result<(), Fail> {
     let mut source = Plain { left: b"abc" };
     assert!(rt; source.ahead().is_empty());
     source.skip(0);
-    assert_eq!(rt; read_all(rt.alloc(), &mut source)?.as_slice(), b"abc".as_slice());
+    assert_eq!(rt;
+        read_all(rt.alloc(), &mut source)?.as_slice(),
+        b"abc".as_slice()
+    );
     Ok(())
-}
-
-/// The same, which shows the bytes that are left, and by default skips them by reading them.
-#[derive(Drop)]
-struct Shown<'a> {
-    source: Plain<'a>,
-}
-
-impl Source for Shown<'_> {
-    ghost use Rattle.std.specs.Prelude.{Some};
-
-    ghost remaining = { λ s. Some s.source.left.now };
-
-    ghost failures = { λ _. 0 };
-
-    ghost read_ahead = { λ s. s.source.left.now };
-
-    fn read(&mut self, buf: &mut [u8]) -> Result<usize, ReadFailed> {
-        self.source.read(buf)
-    }
-
-    fn ahead(&self) -> &[u8] {
-        self.source.left
-    }
 }
 
 #[test]
