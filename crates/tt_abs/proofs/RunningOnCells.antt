@@ -1,6 +1,6 @@
 -- Running programs on the outcome on cells, so that worked examples can be computed. Of the storage area it is only known
 -- that its cell 2 holds 102.
-use Rattle.std.specs.Prelude.{◌≡◌, ℕ, zero, suc, pos, negsuc, List, [], ◌∷◌, Ok, Err, map}
+use Rattle.std.specs.Prelude.{ℕ, zero, suc, pos, negsuc, List, [], ◌∷◌, Ok, Err, map}
 use Rattle.tt_code.specs.Refusals.{Tested, ◌>>=◌}
 use Rattle.tt_code.specs.Table.{effect_of}
 use Rattle.tt_code.specs.Structure.{keyword}
@@ -8,13 +8,12 @@ use Rattle.tt_code.specs.Settings.{Setting}
 use Rattle.tt_code.specs.Fonts.{font_setting, cvt_setting, glyph_setting}
 use Rattle.tt_code.specs.declared.limits.Limits.{Limits}
 use Rattle.tt_code.specs.declared.machine.Frame.{Frame}
-use Rattle.tt_code.specs.declared.reason.Reason.{Reason}
 use Rattle.tt_code.specs.declared.reason.Reason.TheVariants as reason
-use Rattle.tt_code.proofs.Running.{usual_limits, wide_twilight, font_of, cut_of, cut_within, alone}
+use Rattle.tt_code.proofs.Running.{usual_limits, font_of, cut_of, cut_within, alone}
 use Rattle.tt_abs.specs.declared.cells.Cell.{Cell}
 use Rattle.tt_abs.specs.declared.cells.Cell.TheVariants.{Known, Unknown}
 use Rattle.tt_abs.specs.declared.cells.ZoneCell.{ZoneCell}
-use Rattle.tt_abs.specs.declared.cells.ZoneCell.TheVariants.{One, Either}
+use Rattle.tt_abs.specs.declared.cells.ZoneCell.TheVariants.{One}
 use Rattle.tt_abs.specs.Cells.{Cells, Abstract}
 use Rattle.tt_abs.specs.Transfers.{Next, outcome_on_cells}
 
@@ -69,36 +68,6 @@ untouched = first_stored storage_at_start
 abbrev pub goes_on_with : List Cell → Cells → List Cell → Tested (List Seen)
 goes_on_with stack g stored = Ok (record { offset = 1; stack = stack; graphics = g; stored = stored } ∷ [])
 
--- what each of these codes does, on a graphics state and a stack
-abbrev pub each_does_by : Limits → List ℕ → Cells → List Cell → Tested (List Seen) → Type 0
-each_does_by limits codes g stack result = map (performed limits g stack) codes ≡ map (λ (code : ℕ). result) codes
-
-abbrev pub each_does : List ℕ → Cells → List Cell → Tested (List Seen) → Type 0
-each_does = each_does_by wide_twilight
-
--- it leaves this stack and this graphics state
-abbrev pub each_leaves : List ℕ → Cells → List Cell → List Cell → Cells → Type 0
-each_leaves codes g stack left h = each_does codes g stack (goes_on_with left h untouched)
-
--- it leaves this stack, and all else as it was
-abbrev pub each_takes : List ℕ → Cells → List Cell → List Cell → Type 0
-each_takes codes g stack left = each_leaves codes g stack left g
-
--- each of these codes is refused for this reason, on each of these stacks
-abbrev pub each_faults_by : Limits → List ℕ → Cells → List (List Cell) → Reason → Type 0
-each_faults_by limits codes g stacks r =
-    map (λ (stack : List Cell). map (performed limits g stack) codes) stacks
-    ≡ map (λ (stack : List Cell). map (λ (code : ℕ). Err r) codes) stacks
-
-abbrev pub each_faults : List ℕ → Cells → List (List Cell) → Reason → Type 0
-each_faults = each_faults_by wide_twilight
-
--- what one code leaves on the stack, for each of these stacks
-abbrev pub each_stack_leaves : ℕ → List (List Cell × List Cell) → Type 0
-each_stack_leaves code runs =
-    map (λ (r : List Cell × List Cell). performed wide_twilight (zones Either Either Either) r.0 code) runs
-    ≡ map (λ (r : List Cell × List Cell). goes_on_with r.1 (zones Either Either Either) untouched) runs
-
 -- Longer programs, of a glyph with 4 points and 1 contour.
 
 abbrev pub default_cells : Cells
@@ -119,19 +88,6 @@ places (Err r) = Err r
 unfoldable pub ways : Limits → List ℕ → ℕ → List Cell → Tested (List Place)
 unfolding outcome_on_cells effect_of keyword cut_within
 ways limits program offset stack = places (outcome_on_cells (setting_of limits program) [] offset (begins default_cells stack))
-
--- with each of these stacks it leads to these places
-abbrev pub each_leads : List ℕ → ℕ → List (List Cell × List Place) → Type 0
-each_leads program offset runs =
-    map (λ (r : List Cell × List Place). ways usual_limits program offset r.0) runs ≡ map (λ (r : List Cell × List Place). Ok r.1) runs
-
--- with each of these stacks it is refused for this reason
-abbrev pub each_is_refused_by : Limits → List ℕ → ℕ → List (List Cell) → Reason → Type 0
-each_is_refused_by limits program offset stacks r =
-    map (λ (stack : List Cell). ways limits program offset stack) stacks ≡ map (λ (stack : List Cell). Err r) stacks
-
-abbrev pub each_is_refused : List ℕ → ℕ → List (List Cell) → Reason → Type 0
-each_is_refused = each_is_refused_by usual_limits
 
 abbrev pub first_of : List Next → Tested Next
 first_of [] = Err reason.Target

@@ -2,12 +2,12 @@
 -- number may be pushed one number is taken, usually 7, and cell i of the storage area holds 100 + i
 -- at the start.
 use Rattle.std.proofs.Common.{◌≡◌, ℕ, zero, suc, ◌+◌, List, [], ◌∷◌, Option, None, Some, Ok, Err, take, drop}
-use Rattle.std.specs.Prelude.{ℤ, pos, negsuc, true, false, map, option_map, nat_lt, if◌then◌else◌}
+use Rattle.std.specs.Prelude.{ℤ, pos, negsuc, true, false, map, nat_lt, if◌then◌else◌}
 use Rattle.tt_code.specs.Refusals.{Tested}
 use Rattle.tt_code.specs.Table.{effect_of, name_of}
 use Rattle.tt_code.specs.Cut.{Instruction, data_length, instruction_at}
 use Rattle.tt_code.specs.Structure.{keyword, after_if, after_else, after_fdef, body_at}
-use Rattle.tt_code.specs.Settings.{Setting, Kind, FontProgram, CvtProgram, GlyphProgram, ZoneNumber, One, CVT_BODIES}
+use Rattle.tt_code.specs.Settings.{Setting, Kind, FontProgram, CvtProgram, GlyphProgram, ZoneNumber, CVT_BODIES}
 use Rattle.tt_code.specs.States.{Machine, default_graphics}
 use Rattle.tt_code.specs.Runs.{outcome, is_at_end, left_by}
 use Rattle.tt_code.specs.Fonts.{Font, font_setting, cvt_setting, glyph_setting}
@@ -106,41 +106,13 @@ answer any limits f p glyph =
     and_then any (cvt_setting font) a.functions (λ (b : Machine).
     and_then any (glyph_setting font 4 1 (cut_of glyph)) b.functions (λ (c : Machine). Accepted)))
 
--- Words for stating answers.
-
-abbrev pub answers_by : Limits → List ℕ → Answer → Type 0
-answers_by limits glyph a = answer (pos 7) limits [] [] glyph ≡ a
-
-abbrev pub accepted : List ℕ → Type 0
-accepted glyph = answers_by usual_limits glyph Accepted
-
-abbrev pub refused_at : ℕ → Reason → List ℕ → Type 0
-refused_at offset r glyph = answers_by usual_limits glyph (Refused InGlyph InGlyph offset r)
-
-abbrev pub endless : List ℕ → Type 0
-endless glyph = answers_by usual_limits glyph (Endless InGlyph)
+-- The ends of the numbers' range.
 
 abbrev pub lowest : ℤ
 lowest = negsuc 2147483647
 
 abbrev pub highest : ℤ
 highest = pos 2147483647
-
--- a glyph program's answers where 0, 7, the lowest number or the highest is taken for any number
-abbrev pub answers_to_any : List ℕ → Answer → Answer → Answer → Answer → Type 0
-answers_to_any glyph a b c d =
-    map (λ (any : ℤ). answer any usual_limits [] [] glyph) (pos 0 ∷ pos 7 ∷ lowest ∷ highest ∷ []) ≡ a ∷ b ∷ c ∷ d ∷ []
-
-abbrev pub accepted_whatever_is_measured : List ℕ → Type 0
-accepted_whatever_is_measured glyph = answers_to_any glyph Accepted Accepted Accepted Accepted
-
--- a font's answer, its font program, CVT program and glyph program
-abbrev pub font_answers : List ℕ → List ℕ → List ℕ → Answer → Type 0
-font_answers f p glyph a = answer (pos 7) usual_limits f p glyph ≡ a
-
-abbrev pub font_answers_to_any : List ℕ → List ℕ → List ℕ → Answer → Answer → Answer → Answer → Type 0
-font_answers_to_any f p glyph a b c d =
-    map (λ (any : ℤ). answer any usual_limits f p glyph) (pos 0 ∷ pos 7 ∷ lowest ∷ highest ∷ []) ≡ a ∷ b ∷ c ∷ d ∷ []
 
 -- What is observed of a machine: the storage area is observed up to the usual maxStorage.
 
@@ -164,10 +136,6 @@ seen_at_end glyph = elim (run (pos 7) 60 (glyph_setting (font_of usual_limits []
   | Faulted m r ↦ None
   | Running m ↦ None
 ]
-
--- it ends with this stack, the top first
-abbrev pub ends_with : List ℕ → List ℤ → Type 0
-ends_with glyph stack = option_map (λ (m : Seen). m.stack) (seen_at_end glyph) ≡ Some stack
 
 -- One instruction of one byte by itself, at the start of a program of a glyph with 4 points and 2
 -- contours.
@@ -200,39 +168,6 @@ untouched = map pos (100 ∷ 101 ∷ 102 ∷ 103 ∷ [])
 -- it goes on, with this stack, graphics state and storage area
 abbrev pub goes_on_with : List ℤ → Graphics ℤ ZoneNumber → List ℤ → Tested Seen
 goes_on_with stack g cells = Ok (record { offset = 1; stack = stack; graphics = g; cells = cells })
-
--- what each of these codes does, on a graphics state and a stack
-abbrev pub each_does_by : Limits → List ℕ → Graphics ℤ ZoneNumber → List ℤ → Tested Seen → Type 0
-each_does_by limits codes g stack result = map (performed limits g stack) codes ≡ map (λ (code : ℕ). result) codes
-
-abbrev pub each_does : List ℕ → Graphics ℤ ZoneNumber → List ℤ → Tested Seen → Type 0
-each_does = each_does_by wide_twilight
-
--- it leaves this stack and this graphics state
-abbrev pub each_leaves_by : Limits → List ℕ → Graphics ℤ ZoneNumber → List ℤ → List ℤ → Graphics ℤ ZoneNumber → Type 0
-each_leaves_by limits codes g stack left h = each_does_by limits codes g stack (goes_on_with left h untouched)
-
-abbrev pub each_leaves : List ℕ → Graphics ℤ ZoneNumber → List ℤ → List ℤ → Graphics ℤ ZoneNumber → Type 0
-each_leaves = each_leaves_by wide_twilight
-
--- it leaves this stack, and all else as it was
-abbrev pub each_takes : List ℕ → Graphics ℤ ZoneNumber → List ℤ → List ℤ → Type 0
-each_takes codes g stack left = each_leaves codes g stack left g
-
--- each of these codes is refused for this reason, on each of these stacks
-abbrev pub each_faults_by : Limits → List ℕ → Graphics ℤ ZoneNumber → List (List ℤ) → Reason → Type 0
-each_faults_by limits codes g stacks r =
-    map (λ (stack : List ℤ). map (performed limits g stack) codes) stacks
-    ≡ map (λ (stack : List ℤ). map (λ (code : ℕ). Err r) codes) stacks
-
-abbrev pub each_faults : List ℕ → Graphics ℤ ZoneNumber → List (List ℤ) → Reason → Type 0
-each_faults = each_faults_by wide_twilight
-
--- what one code leaves on the stack, for each of these stacks
-abbrev pub each_stack_leaves : ℕ → List (List ℤ × List ℤ) → Type 0
-each_stack_leaves code runs =
-    map (λ (r : List ℤ × List ℤ). performed wide_twilight (zones One One One) r.0 code) runs
-    ≡ map (λ (r : List ℤ × List ℤ). goes_on_with r.1 (zones One One One) untouched) runs
 
 -- Calls: a font program, a CVT program, the functions that they define, and a glyph program.
 
