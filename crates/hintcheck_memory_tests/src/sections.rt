@@ -42,8 +42,7 @@ fn told_of_decoding(heap: &mut Heap, example: &Example<'_>) -> Told {
     }
 }
 
-fn encode_over(heap: &mut Heap, section: &Section, want: &[u8]) -> Told
-{
+fn encode_over(heap: &mut Heap, section: &Section, want: &[u8]) -> Told {
     let mut sink = Counted::new(Matching::new(want));
     heap.take_room();
     let encoded = encode(heap.alloc, section.name, &section.certificate, &mut sink);

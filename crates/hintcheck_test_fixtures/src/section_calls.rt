@@ -112,8 +112,7 @@ pub fn told_of_end(steps: Steps<'_>, place: u64) -> Told {
 }
 
 /// Reads a file: its header, its sections, and its end.
-fn file_over(alloc: Global, steps: Steps<'_>) -> Result<u64, DecodeFault>
-{
+fn file_over(alloc: Global, steps: Steps<'_>) -> Result<u64, DecodeFault> {
     let mut source = Counted::new(steps);
     let (form, sections) = read_header(&mut source)?;
     let mut place = 10;

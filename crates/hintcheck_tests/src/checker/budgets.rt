@@ -59,7 +59,11 @@ const REFUSED: &[(Programs<'static>, Told, u64)] = &[
     (("", "21", &["B0072E"]), Told::Refused(1, 0, 26), 3),
     // POP in a glyph, after which the next one costs 3 and 3.
     (("", "", &["21", "B0072E"]), Told::Refused(1, 0, 26), 11),
-    (("", "", &["B0072E", "59", "21"]), Told::Refused(2, 0, 21), 11),
+    (
+        ("", "", &["B0072E", "59", "21"]),
+        Told::Refused(2, 0, 21),
+        11,
+    ),
     // PUSHB 0; CALL has 0 and 2, and is refused at 3 of the font program: 3 and 3, 1 and 1, and 3.
     (("B0002C212D", "", &["B0002B"]), Told::Refused(1, 3, 26), 11),
 ];
