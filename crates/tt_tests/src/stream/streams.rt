@@ -218,30 +218,6 @@ fn reads_a_plain_source(rt: HostRuntime) -> Result<(), Fail> {
     Ok(())
 }
 
-/// The same, which shows the bytes that are left, and by default skips them by reading them.
-#[derive(Drop)]
-struct Shown<'a> {
-    source: Plain<'a>,
-}
-
-impl Source for Shown<'_> {
-    ghost use Rattle.std.specs.Prelude.{Some};
-
-    ghost remaining = { λ s. Some s.source.left.now };
-
-    ghost failures = { λ _. 0 };
-
-    ghost read_ahead = { λ s. s.source.left.now };
-
-    fn read(&mut self, buf: &mut [u8]) -> Result<usize, ReadFailed> {
-        self.source.read(buf)
-    }
-
-    fn ahead(&self) -> &[u8] {
-        self.source.left
-    }
-}
-
 #[test]
 fn prints_texts_longer_than_a_window(rt: HostRuntime) -> Result<(), Fail> {
     for letters in [0, 1, 255, 256, 257, 512, 1000] {
