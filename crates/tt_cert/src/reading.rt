@@ -166,8 +166,9 @@ impl Decoder {
 }
 
 /// Reads a section of a certificate file of the form with this number, which `read_header` gives;
-/// the section begins at the place `start` of the file. Exactly its bytes are read. Returns the program's name, its family, and the place after the
-/// section, which stops at the greatest number of 64 bits.
+/// the section begins at the place `start` of the file. Exactly its bytes are read. Returns the
+/// program's name, its family, and the place after the section, which stops at the greatest number
+/// of 64 bits.
 ///
 /// # Errors
 /// `Form` where no section's text begins what is left, with the place of the first byte of what
