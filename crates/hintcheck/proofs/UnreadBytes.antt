@@ -95,6 +95,7 @@ reads_on s bytes stage stage' read left left' rs rs' form from place o is (past_
 reads_on s bytes stage stage' read left left' rs rs' form from place o is (past_cvt f p known id was old rs1 begins) reads (glyph_fails f1 p1 known1 id1 g family r there section why) listed =
     let R : List Refused → Type 0 = λ l. IsReadTo bytes (at_glyph f p known (id + 1)) (Some (form, place)) (Some left') l in
     subst R (sym listed) (past_cvt f p known (id + 1) (form, place) left' (rs ++ r ∷ []) (begins_so rs r id begins why.program))
+reads_on s bytes _ stage' read left left' rs rs' form from place o is (ended _ _ _ _) reads answers listed = elim answers [ ]
 
 -- the last call
 
@@ -119,6 +120,8 @@ reads_last s bytes stage read left left' rs form from is (past_cvt f p known id 
     let none : old ≡ [] = sym (ap (λ (i : Input). i.bytes) at) ∙ empty in
     let L : Option (List ℕ) → Type 0 = λ l. IsLeftBy bytes rs l in
     subst L (sym (nothing_follows old left' none consumed)) (left_by_none bytes rs begins)
+reads_last s bytes _ _ _ left' _ form from is unread reads last stays consumed = elim last [ ]
+reads_last s bytes _ _ _ left' _ form from is (past_font f functions _ after _) reads last stays consumed = elim last [ ]
 
 -- the same of a session and its answers
 
