@@ -95,6 +95,7 @@ reads_on s bytes stage stage' read left left' rs rs' form from place o is (past_
 reads_on s bytes stage stage' read left left' rs rs' form from place o is (past_cvt f p known id was old rs1 begins) reads (glyph_fails f1 p1 known1 id1 g family r there section why) listed =
     let R : List Refused → Type 0 = λ l. IsReadTo bytes (at_glyph f p known (id + 1)) (Some (form, place)) (Some left') l in
     subst R (sym listed) (past_cvt f p known (id + 1) (form, place) left' (rs ++ r ∷ []) (begins_so rs r id begins why.program))
+reads_on s bytes stage stage' read left left' rs rs' form from place o is (ended read1 left1 rs1 by) reads outcome listed = elim outcome [ ]
 
 -- the last call
 
@@ -112,6 +113,8 @@ left_by_none bytes (r ∷ rs) (id, is) = let A : Name → Type 0 = λ n. IsLeftA
 
 reads_last : (s : Standing) (bytes : List ℕ) (stage : Stage) (read : Option (Form × ℕ)) (left left' : Option (List ℕ)) (rs : List Refused) (form : Form) (from : Input) → s.read ≡ read
     → IsReadTo bytes stage read left rs → ReadsOn s left form from → IsNothingLeft s.font from stage → (stage ≡ over → left' ≡ left) → ConsumesBeginning left left' → IsLeftBy bytes rs left'
+reads_last s bytes stage read left left' rs form from is unread reads none_left stays consumed = elim none_left [ ]
+reads_last s bytes stage read left left' rs form from is (past_font f functions form1 after follows) reads none_left stays consumed = elim none_left [ ]
 reads_last s bytes stage read left left' rs form from is (ended read1 left1 rs1 by) reads already_over stays consumed =
     let L : Option (List ℕ) → Type 0 = λ l. IsLeftBy bytes rs l in subst L (sym (stays refl)) by
 reads_last s bytes stage read left left' rs form from is (past_cvt f p known id was old rs1 begins) reads (all_read f1 p1 known1 id1 last empty) stays consumed =
