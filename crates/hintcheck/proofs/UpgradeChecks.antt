@@ -11,7 +11,6 @@ use Rattle.tt_family.specs.Fillings.{IsFilling}
 use Rattle.tt_cert.specs.Answers.{AreBytes}
 use Rattle.tt_cert.specs.Forms.{most_contexts}
 use Rattle.tt_cert.specs.Readers.{Input, place_after}
-use Rattle.tt_cert.specs.Reading.{section_at}
 use Rattle.tt_cert.specs.Rules.{EachAfter, EntryFits, Fits, ListFits, StorageFits, StoredFits}
 use Rattle.tt_cert.specs.Families.{family_text}
 use Rattle.tt_cert.specs.Sections.{Entry, Section, section_of}
@@ -23,13 +22,13 @@ use Rattle.tt_cert.specs.declared.name.Name.TheVariants as name
 use Rattle.tt_cert.proofs.Codecs.{here}
 use Rattle.tt_cert.proofs.Spelled.{header_codec, section_codec}
 use Rattle.tt_font.specs.Reading.{FontData, GlyphData}
-use Rattle.hintcheck.specs.Certificates.{AreChecked, AreSectionsChecked, Finding, HasNoSection, IsChecked, IsGoodListing, IsSectionOf, Passes, PassesToEnd, after_header, at_end, both_passed, cvt_refused, followed as followed_by, font_refused, no_cvt_section, no_font_section, no_header as no_header_there, no_section as no_section_there, not_read, of_another, other_number, passed, refused, sections_checked}
+use Rattle.hintcheck.specs.Certificates.{AreChecked, AreSectionsChecked, Finding, HasNoSection, IsChecked, IsGoodListing, IsSectionOf, Passes, PassesToEnd, after_header, at_end, both_passed, cvt_refused, followed as followed_by, font_refused, no_cvt_section, no_font_section, no_header as no_header_there, no_section as no_section_there, other_number, passed, refused, sections_checked}
 use Rattle.hintcheck.specs.FontPrograms.{cvt_subject, font_of, font_subject, glyph_subject}
 use Rattle.hintcheck.specs.Programs.{Subject}
 use Rattle.hintcheck.specs.UpgradeFaults.{ComesTo}
 use Rattle.hintcheck.specs.declared.certificate_upgrade.UpgradeFault.{UpgradeFault}
 use Rattle.hintcheck.specs.declared.certificate_upgrade.UpgradeFault.TheVariants as upgrade
-use Rattle.hintcheck.specs.Upgrades.{AreCertificate, AreRead, BeginWith, IsNumberOfPrograms, IsUpgradeOf, KeepsFamilies, UpgradesTo, family_texts, followed, header_in, name_at, no_font, no_header, no_section, none, one_more, upgraded}
+use Rattle.hintcheck.specs.Upgrades.{AreCertificate, AreRead, BeginWith, IsUpgradeOf, KeepsFamilies, UpgradesTo, family_texts, followed, header_in, name_at, no_font, no_header, no_section, none, one_more, upgraded}
 use Rattle.hintcheck.proofs.OneFinding.{fails_not, is_there, no_answer, none as nothing, one_answer, one_refuses, one_section, some_refused}
 
 -- a good family is its own good filling
