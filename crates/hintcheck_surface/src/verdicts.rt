@@ -43,7 +43,10 @@ fn print_session(rt: &HostRuntime, bytes: &[u8], certificate: &[u8]) -> Result<(
 
 /// Prints what words and digits are read as.
 fn print_words(rt: &HostRuntime) -> Result<()> {
-    let task: Result<Task, TaskFault> = read_words(rt.alloc(), &["hintcheck", "verdict", "font.ttf"]);
+    let task: Result<Task, TaskFault> = read_words(
+        rt.alloc(),
+        &["hintcheck", "verdict", "font.ttf"],
+    );
     println!(rt; "words {}", task.is_ok())?;
     let digits: Result<Vec<u8>, WordFault> = word_bytes(rt.alloc(), "2e0A");
     println!(rt; "digits {:?}", digits.ok())?;
