@@ -10,7 +10,6 @@ use Rattle.tt_cert.specs.Reading.{header_at}
 use Rattle.tt_family.specs.Contents.{Contents}
 use Rattle.tt_font.specs.Reading.{FontData}
 use Rattle.tt_stream.specs.Reads.{ConsumesBeginning}
-use Rattle.std.specs.Io.KnownBytes.{Consumes}
 use Rattle.hintcheck.specs.Certificates.{IsSectionOf, after_header}
 use Rattle.hintcheck.specs.CheckedFonts.{FollowsCvt, FollowsFont, IsLeftAfter, IsLeftBy, IsTold, bytes_in}
 use Rattle.hintcheck.specs.Representation.SessionStages.{ListsOutcome}

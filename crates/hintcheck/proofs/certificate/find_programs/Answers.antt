@@ -1,6 +1,5 @@
 use Rattle.std.proofs.Common.{◌≡◌, [], inl, inr, refl, sym, ◌∙◌, ap, subst}
 use Rattle.std.proofs.lemmas.Bool.{eqb-true}
-use Rattle.std.proofs.lemmas.List.{nil_from_length}
 use Rattle.std.proofs.lemmas.Result.{err_from_is_err_and}
 use Rattle.hintcheck.specs.CertificateTexts.{IsPassingCertificate, WritesText}
 use Rattle.hintcheck.specs.Verdicts.{Judgement}

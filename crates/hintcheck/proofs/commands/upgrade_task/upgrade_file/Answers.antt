@@ -1,7 +1,6 @@
-use Rattle.std.proofs.Common.{◌≡◌, ℕ, List, [], ◌++◌, Option, Some, None, refl, sym, ap, subst, ◌∙◌, arith}
+use Rattle.std.proofs.Common.{◌≡◌, ℕ, List, [], ◌++◌, Option, Some, None, refl, ap, subst, ◌∙◌}
 use Rattle.std.specs.Prelude.{IfSome}
 use Rattle.std.specs.Io.KnownBytes.{Appends, Keeps, append_known, prepend_known}
-use Rattle.std.specs.Io.Buffered.{writer_contents}
 use Rattle.std.proofs.lemmas.List.{append-nil}
 use Rattle.hintcheck.specs.CertificateTexts.{WritesText}
 use Rattle.hintcheck.specs.CheckedFonts.{IsTold, bytes_in}
