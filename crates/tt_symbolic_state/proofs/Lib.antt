@@ -1,0 +1,4 @@
+pub mod Affine
+pub mod Freeness
+pub mod Reverses
+pub mod Values
