@@ -2,7 +2,7 @@
 -- the numbers that are any there are these. (Apple TrueType Reference Manual, "The TrueType
 -- instruction set": RCVT, WCVTP, WCVTF, DELTAC, MAX, MIN, MUL, DIV, FLOOR and CEILING.) Numbers in
 -- 26.6 are counted in sixty-fourths. Own: control values are read as they are written.
-use Rattle.std.specs.Prelude.{◌≡◌, ◌⊎◌, ℕ, suc, ℤ, pos, ◌+ℤ◌, ◌-ℤ◌, ◌*ℤ◌, ◌≤ℤ◌, ◌<ℤ◌, List, [], ◌∷◌, Option, None, Some, nat_eq, if◌then◌else◌}
+use Rattle.std.specs.Prelude.{◌≡◌, ◌⊎◌, ℕ, ◌+◌, ◌<◌, ℤ, pos, ◌+ℤ◌, ◌-ℤ◌, ◌*ℤ◌, ◌≤ℤ◌, ◌<ℤ◌, List, [], ◌∷◌, drop, Option, None, Some, nat_eq, if◌then◌else◌}
 use Rattle.std.specs.Int.{int_max, int_min}
 use Rattle.tt_code.specs.Cut.{Instruction}
 use Rattle.tt_code.specs.Settings.{Setting}
@@ -56,11 +56,14 @@ pub record ChangesOnly (Changed : ℕ → Type 0) (old new : ℕ → ℤ) : Type
   pub are_numbers : (i : ℕ) → IsNumber (new i)
   pub same : (i : ℕ) → (Changed i → ⊥) → new i ≡ old i
 
--- one of the first pairs of a stack, of an index and a number, has this index
-pub data IsPaired : ℕ → List ℤ → ℕ → Type 0 where
-  first : (n : ℕ) (i z : ℤ) (stack : List ℤ) → IsPaired (suc n) (i ∷ z ∷ stack) (natural i)
-  further : (n : ℕ) (i z : ℤ) (stack : List ℤ) (k : ℕ) → IsPaired n stack k
-      → IsPaired (suc n) (i ∷ z ∷ stack) k
+-- one of the first pairs on a stack, of an index and a number, has this index
+pub record IsPaired (count : ℕ) (stack : List ℤ) (k : ℕ) : Type 0 where
+  pub place : ℕ
+  pub within : place < count
+  pub index : ℤ
+  pub below : List ℤ
+  pub at : drop (place + place) stack ≡ index ∷ below
+  pub is : k ≡ natural index
 
 -- MUL is exact where an operand is a whole number of units of 64, and the product is a number of the
 -- machine

@@ -1,0 +1,21 @@
+use Rattle.std.proofs.Common.{rules, arith, refl, sym, ap, ◌∙◌, List, ℕ, ℤ, pos, ◌≤ℤ◌, ◌-ℤ◌, ◌+◌}
+use Rattle.tt_symbolic_state.specs.Values.{value}
+use Rattle.std.specs.Prelude.{FitsSigned}
+use Rattle.std.specs.Int.{w32, w64}
+use Rattle.std.proofs.lemmas.Int.{ints, to_z-of_z}
+use Rattle.tt_code.specs.Cut.{Instruction}
+use Rattle.tt_code.specs.Structure.{after_if, after_else, after_fdef}
+use Rattle.tt_code.specs.Settings.{body_name}
+use Rattle.tt_abs.specs.Settings.{setting_of}
+use Rattle.tt_symbolic_state.specs.declared.state.State.{State}
+use Rattle.tt_symbolic.proofs.AreaFacts.{fits_there}
+use Rattle.tt_symbolic.proofs.Results.{on_ok}
+use Rattle.tt_symbolic.proofs.Controls.{repeats_none, repeats_some}
+use Rattle.tt_symbolic.proofs.control.repeat.Goals as goal
+
+pub returns-then-high-le0 : goal.returns-then-high-le0
+returns-then-high-le0 c = repeats_none c.args.state.now c.go_to.new.state c.args.body c.in_ok-next.next c.args.count (λ v fits. let b = c.in-Some.ensures v (fits_there _ _ v c.as_slice.ensures.value fits) in omega (arith, ints)) (c.in_ok-next.ensures ∙ ap (λ (n : ℕ). n + 1) c.requires) c.go_to.ensures
+
+pub returns : goal.returns
+returns c = on_ok c.enter.result _ _ (λ o. repeats_some c.args.state.now c.enter.new.state c.args.body c.args.count (record { body = c.args.body; call = c.args.state.now.offset; left = c.in-Some-difference.left }) (λ v fits. let b = c.in-Some.ensures v (fits_there _ _ v c.as_slice.ensures.value fits) in omega (arith, ints)) refl refl
+    (λ v. c.in-Some-difference.ensures v ∙ ap (λ (x : ℤ). value v c.args.count -ℤ x) (c.known.ensures v)) o) c.enter.ensures
