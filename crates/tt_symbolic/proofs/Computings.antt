@@ -1,9 +1,9 @@
 -- Results of arithmetic and logical instructions on cells.
-use Rattle.std.proofs.Common.{◌≡◌, ℕ, zero, suc, ℤ, pos, negsuc, ◌+ℤ◌, ◌-ℤ◌, ◌≤ℤ◌, ◌<ℤ◌, List, Bool, true, false, not, nat_lt, if◌then◌else◌, refl, sym, ◌∙◌, ap, subst, arith, ◌<◌, ◌^◌}
+use Rattle.std.proofs.Common.{◌≡◌, ℕ, zero, suc, ℤ, pos, negsuc, ◌+ℤ◌, ◌-ℤ◌, ◌≤ℤ◌, ◌<ℤ◌, List, Bool, true, false, not, nat_lt, refl, ◌∙◌, ap, arith, ◌<◌, ◌^◌}
 use Rattle.std.specs.Prelude.{neg_ℤ}
 use Rattle.std.proofs.lemmas.Int.{ints}
 use Rattle.std.proofs.lemmas.Bool.{ltb-false}
-use Rattle.tt_code.specs.States.{Value, Exactly, Anything, IsNumber, is_number, is_true}
+use Rattle.tt_code.specs.States.{Value, Exactly, IsNumber, is_number, is_true}
 use Rattle.tt_code.specs.Computing.{absolute, exact, truth}
 use Rattle.tt_code.specs.Runs.{value as number_of}
 use Rattle.tt_code.specs.declared.kinds.Arithmetic.{Arithmetic}
@@ -11,11 +11,10 @@ use Rattle.tt_code.specs.declared.kinds.Arithmetic.TheVariants.{Add, Sub, Abs, N
 use Rattle.tt_symbolic_state.specs.declared.cell.Cell.{Cell}
 use Rattle.tt_symbolic_state.specs.declared.cell.Range.{Range}
 use Rattle.tt_symbolic_state.specs.Values.{Fits, IsWithin, Valuation, value}
-use Rattle.tt_symbolic.specs.declared.answer.Answer.{Answer}
 use Rattle.tt_symbolic.specs.declared.answer.Answer.TheVariants.{Within}
 use Rattle.tt_symbolic.specs.declared.answer.Answer.TheVariants as answer
 use Rattle.tt_symbolic.specs.Bounds.{AreBounds, IsRangeOf}
-use Rattle.tt_symbolic.specs.Sound.{AnswersResult, IsResult, result_of}
+use Rattle.tt_symbolic.specs.Sound.{AnswersResult, result_of}
 
 lt_true : (a b : ℕ) → a < b → nat_lt a b ≡ true
 lt_true a b h = go (nat_lt a b) refl

@@ -1,12 +1,12 @@
 -- Control instructions on a state.
-use Rattle.std.proofs.Common.{◌≡◌, ℕ, zero, suc, ◌+◌, ◌<◌, ◌≤◌, ℤ, pos, negsuc, ◌+ℤ◌, ◌-ℤ◌, ◌≤ℤ◌, List, [], ◌∷◌, ◌++◌, reverse, Ok, Some, Bool, true, false, not, nat_lt, nat_le, if◌then◌else◌, refl, sym, ◌∙◌, ap, subst, arith, length, get_or}
+use Rattle.std.proofs.Common.{◌≡◌, ℕ, zero, suc, ◌+◌, ◌<◌, ◌≤◌, ℤ, pos, negsuc, ◌+ℤ◌, ◌-ℤ◌, ◌≤ℤ◌, List, [], ◌∷◌, ◌++◌, reverse, Ok, Some, Bool, true, false, not, nat_lt, nat_le, refl, sym, ◌∙◌, ap, subst, arith, length, get_or}
 use mathlib.Core.Bool.{beq}
 use Rattle.std.proofs.lemmas.Int.{ints}
 use Rattle.std.proofs.lemmas.List.{length-map, reverse-append}
 use Rattle.std.proofs.lemmas.Bool.{leb-false, ltb-false, ltb-true}
 use Rattle.tt_code.specs.Refusals.{Tested}
 use Rattle.tt_code.specs.Structure.{after_if, after_else, after_fdef}
-use Rattle.tt_code.specs.Settings.{Setting as MachineSetting, is_main_end, is_target, body_name, body_offset, program_of, starts_in_body}
+use Rattle.tt_code.specs.Settings.{Setting as MachineSetting, is_target, body_name, body_offset, program_of, starts_in_body}
 use Rattle.tt_code.specs.States.{Machine, Outcome, leaves, is_below, is_true}
 use Rattle.tt_code.specs.Control.{called, controlled, body_named, enters, goes_to, jumps_if, may_define, returns}
 use Rattle.tt_code.specs.declared.machine.Frame.{Frame}

@@ -1,14 +1,14 @@
 -- MAX, MIN, MUL, DIV, FLOOR and CEILING on cells, and the ranges of results.
-use Rattle.std.proofs.Common.{◌≡◌, ℕ, zero, suc, ◌+◌, ◌*◌, ◌/◌, ◌%◌, ℤ, pos, negsuc, ◌+ℤ◌, ◌-ℤ◌, ◌*ℤ◌, ◌≤ℤ◌, ◌<ℤ◌, List, Bool, true, false, if◌then◌else◌, refl, sym, ◌∙◌, ap, subst, arith, inl, inr}
+use Rattle.std.proofs.Common.{◌≡◌, ℕ, suc, ◌*◌, ◌/◌, ℤ, pos, negsuc, ◌+ℤ◌, ◌*ℤ◌, ◌≤ℤ◌, ◌<ℤ◌, List, Bool, true, false, if◌then◌else◌, refl, sym, ◌∙◌, ap, subst, arith}
 use Rattle.std.proofs.lemmas.Int.{ints, by_lt_z, int_max_is, int_min_is}
 use Rattle.std.proofs.Math.IntN.{*ℤ_comm}
 use Rattle.std.specs.Int.{int_max, int_min}
-use borrow.Author.Differences.{up, down, product_is}
+use borrow.Author.Differences.{product_is}
 use Rattle.tt_code.specs.States.{IsNumber}
 use Rattle.tt_symbolic_state.proofs.Affine.{times_sum, times_mono, times_anti}
 use Rattle.tt_symbolic_state.specs.declared.cell.Cell.{Cell}
 use Rattle.tt_symbolic_state.specs.declared.cell.Range.{Range}
-use Rattle.tt_symbolic_state.specs.CvtMachine.{IsCeiling, IsCommensurable, IsFloor, IsProduct, IsQuotient}
+use Rattle.tt_symbolic_state.specs.CvtMachine.{IsCeiling, IsCommensurable, IsFloor, IsQuotient}
 use Rattle.tt_symbolic_state.specs.Values.{Fits, IsWithin, Valuation, value}
 use Rattle.tt_symbolic.specs.declared.answer.Answer.{Answer}
 use Rattle.tt_symbolic.specs.declared.answer.Answer.TheVariants.{Exactly, Within}

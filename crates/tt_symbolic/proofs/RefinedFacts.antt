@@ -1,6 +1,5 @@
 -- RCVT, WCVTP, WCVTF, DELTAC, MAX, MIN, MUL, DIV, FLOOR and CEILING on a state.
-use Rattle.std.proofs.Common.{◌≡◌, ℕ, suc, ◌+◌, ◌<◌, ◌≤◌, ℤ, pos, negsuc, ◌≤ℤ◌, List, [], ◌∷◌, Ok, Some, true, refl, sym, ◌∙◌, ap, subst, arith, length, drop, add-one, inl, inr, ◌⊎◌}
-use Rattle.std.proofs.lemmas.Int.{ints}
+use Rattle.std.proofs.Common.{◌≡◌, ℕ, ◌+◌, ◌<◌, ℤ, pos, ◌≤ℤ◌, List, [], ◌∷◌, Ok, Some, true, refl, sym, ◌∙◌, ap, subst, arith, length, drop, add-one, inl, inr}
 use Rattle.std.proofs.lemmas.Bool.{cases_lt}
 use Rattle.std.proofs.lemmas.List.{length-map}
 use Rattle.tt_code.specs.Refusals.{Tested}
@@ -10,7 +9,6 @@ use Rattle.tt_code.specs.Changes.{natural, plain, with_stored}
 use Rattle.tt_code.specs.Runs.{Choices, left_by}
 use Rattle.tt_abs.specs.Entries.{listed, with_entry}
 use Rattle.tt_symbolic_state.specs.declared.cell.Cell.{Cell}
-use Rattle.tt_symbolic_state.specs.declared.cell.Range.{Range}
 use Rattle.tt_symbolic_state.specs.Values.{Fits, Valuation, value}
 use Rattle.tt_symbolic_state.specs.declared.state.State.{State}
 use Rattle.tt_symbolic_state.specs.CvtMachine.{ChangesControl, ChangesControls, ChangesOnly, IsPaired, ReadsControl, Refinement, Refines, SameControls, WritesControl}
@@ -18,7 +16,7 @@ use Rattle.tt_symbolic_state.specs.Shows.{Shows, ShowsArea, values}
 use Rattle.tt_symbolic.specs.declared.answer.Answer.{Answer}
 use Rattle.tt_symbolic.specs.declared.exact.Exact.{Exact}
 use Rattle.tt_symbolic.specs.declared.exact.Exact.TheVariants as exact
-use Rattle.tt_symbolic.specs.Areas.{Forgets, ForgetsPair, ForgetsPairs, IsForgotten, IsPartOf}
+use Rattle.tt_symbolic.specs.Areas.{Forgets, ForgetsPair, ForgetsPairs, IsForgotten}
 use Rattle.tt_symbolic.specs.Plain.{Cuts, IsAny, IsControlAt}
 use Rattle.tt_symbolic.specs.Sound.{IsAnswer, Pops, Puts, ShowsSome, Works, keeps_controls}
 use Rattle.tt_symbolic.specs.Refined.{AnswersExact, ChangeWorks, ExactWorks, IsExact, ReadWorks, WriteWorks, exact_line, of_one_line, of_two_line, refined, refinement_for, write_line}

@@ -1,9 +1,9 @@
 -- The arithmetic and logical instructions on a state.
 use Rattle.std.specs.Prelude.{Result, OnOk, IfOk}
-use Rattle.std.proofs.Common.{◌≡◌, ℕ, ℤ, [], ◌∷◌, Ok, Err, Bool, true, false, if◌then◌else◌, refl, ◌∙◌, ap, arith, length}
+use Rattle.std.proofs.Common.{◌≡◌, ℕ, ℤ, [], ◌∷◌, Ok, Err, Bool, true, false, if◌then◌else◌, refl, ◌∙◌, arith, length}
 use Rattle.std.proofs.lemmas.List.{length-map}
 use Rattle.tt_code.specs.Refusals.{Tested}
-use Rattle.tt_code.specs.States.{Machine, Outcome, Value, Exactly as Exactly', Anything, IsNumber, is_number, leaves}
+use Rattle.tt_code.specs.States.{Machine, Outcome, Exactly as Exactly', Anything, IsNumber, is_number, leaves}
 use Rattle.tt_symbolic.specs.declared.answer.Answer.{Answer}
 use Rattle.tt_symbolic.specs.declared.answer.Answer.TheVariants.{Exactly, Within}
 use Rattle.std.specs.Prelude.{◌+ℤ◌, ◌-ℤ◌, neg_ℤ}
@@ -18,7 +18,7 @@ use Rattle.tt_symbolic_state.specs.declared.cell.Range.{Range}
 use Rattle.tt_symbolic_state.specs.Values.{Fits, Valuation, value}
 use Rattle.tt_symbolic_state.specs.declared.state.State.{State}
 use Rattle.tt_symbolic_state.specs.Shows.{IsFresh, Shows, values}
-use Rattle.tt_symbolic.specs.Sound.{AnswersResult, Computes, Goes, IsAnswer, IsResult, Pops, Pushes, Puts, ShowsSome, keeps_controls, result_of, takes_one}
+use Rattle.tt_symbolic.specs.Sound.{AnswersResult, Computes, Goes, IsAnswer, Pops, Pushes, Puts, ShowsSome, keeps_controls, result_of, takes_one}
 use Rattle.tt_symbolic.proofs.Works.{pops_shows, pops_fits, puts_cell, puts_fresh, same_controls, same_offset}
 
 -- the number that an answer tells is put on top

@@ -23,11 +23,10 @@ use Rattle.tt_symbolic_state.specs.declared.state.State.{State}
 use Rattle.tt_symbolic_state.specs.CvtMachine.{Allows, ChangesControls, Ordinary, Refines, Refinement, refinement_of}
 use Rattle.tt_symbolic_state.specs.Shows.{Shows, values}
 use Rattle.tt_symbolic.specs.Sound.{Allowing, Computes as IsComputed, Restacks, Sound, Works, keeps_controls}
-use Rattle.tt_symbolic.specs.Refined.{exact_line, of_one_line, of_two_line, read_line, refined, refinement_for, write_line}
+use Rattle.tt_symbolic.specs.Refined.{of_one_line, of_two_line, read_line, refined, write_line}
 use Rattle.tt_symbolic.specs.Leading.{IsAt}
-use Rattle.tt_symbolic.specs.declared.exact.Exact.{Exact}
 use Rattle.tt_symbolic.proofs.Controls.{starts_there}
-use Rattle.tt_symbolic.specs.Steps.{Dispatches, DoesHere, PutsNumbers, StepsTo, allows, numbers_on, refined_by}
+use Rattle.tt_symbolic.specs.Steps.{Dispatches, DoesHere, PutsNumbers, StepsTo, numbers_on, refined_by}
 use Rattle.tt_symbolic.proofs.Works.{restacks_works, works_sound}
 
 pub first_code : (i : Instruction) (c code : ℕ) (rest : List ℕ) → code_of i ≡ Some c → i ≡ code ∷ rest → code ≡ c

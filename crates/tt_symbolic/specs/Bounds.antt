@@ -1,5 +1,5 @@
 -- Ranges of results, from bounds of what they are computed from.
-use Rattle.std.specs.Prelude.{◌≡◌, ℤ, pos, ◌+ℤ◌, ◌-ℤ◌, ◌*ℤ◌, ◌≤ℤ◌, ◌<ℤ◌, List, Bool, true, false}
+use Rattle.std.specs.Prelude.{◌≡◌, ℤ, ◌+ℤ◌, ◌-ℤ◌, ◌*ℤ◌, ◌≤ℤ◌, ◌<ℤ◌, List, Bool, true, false}
 use Rattle.tt_code.specs.States.{IsNumber}
 use Rattle.tt_symbolic_state.specs.declared.cell.Cell.{Cell}
 use Rattle.tt_symbolic_state.specs.declared.cell.Range.{Range}

@@ -1,7 +1,4 @@
-use Rattle.std.proofs.Common.{rules, arith, refl, ap, ◌∙◌, ◌≡◌, ◌+ℤ◌, ◌-ℤ◌, ◌≤ℤ◌, ℤ, pos}
-use Rattle.std.specs.Prelude.{FitsSigned}
-use Rattle.std.specs.Int.{w32, w64}
-use Rattle.std.proofs.lemmas.Int.{ints, to_z-of_z}
+use Rattle.std.proofs.Common.{ap, ◌∙◌}
 use Rattle.tt_code.specs.Computing.{exact as exact_value}
 use Rattle.tt_symbolic.proofs.Computings.{neg_is}
 use Rattle.tt_symbolic.proofs.compute.exact_negative.Goals as goal

@@ -1,6 +1,6 @@
-use Rattle.std.proofs.Common.{rules, arith, refl, ◌≡◌, ◌*ℤ◌, ◌≤ℤ◌, ℤ, pos}
+use Rattle.std.proofs.Common.{rules, arith, pos}
 use Rattle.std.specs.Prelude.{FitsSigned}
-use Rattle.std.specs.Int.{w32, w64}
+use Rattle.std.specs.Int.{w32}
 use Rattle.std.proofs.lemmas.Int.{ints, to_z-of_z}
 use Rattle.tt_symbolic.proofs.Exacts.{quotient_near}
 use Rattle.tt_symbolic.proofs.exact.fixed_quotient.Goals as goal

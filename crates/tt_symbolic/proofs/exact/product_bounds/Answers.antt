@@ -1,6 +1,6 @@
-use Rattle.std.proofs.Common.{rules, arith, refl, ◌≡◌, ◌*ℤ◌, ◌≤ℤ◌, ℤ, pos}
+use Rattle.std.proofs.Common.{rules, arith, ◌≡◌, ◌*ℤ◌}
 use Rattle.std.specs.Prelude.{FitsSigned}
-use Rattle.std.specs.Int.{w32, w64}
+use Rattle.std.specs.Int.{w64}
 use Rattle.std.proofs.lemmas.Int.{ints, to_z-of_z}
 use Rattle.tt_symbolic_state.specs.Values.{value}
 use Rattle.tt_symbolic.proofs.Exacts.{product_above, product_below}

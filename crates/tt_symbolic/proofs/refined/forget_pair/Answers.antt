@@ -1,14 +1,8 @@
-use Rattle.std.proofs.Common.{rules, arith, refl, sym, ap, subst, ◌∙◌, List}
+use Rattle.std.proofs.Common.{rules}
 use Rattle.std.specs.Prelude.{FitsSigned}
-use Rattle.std.specs.Int.{w32, w64}
-use Rattle.std.proofs.lemmas.Int.{ints, to_z-of_z}
-use Rattle.tt_abs.specs.Settings.{setting_of}
-use Rattle.tt_code.specs.Changes.{plain}
-use Rattle.tt_symbolic.specs.Plain.{line_of}
-use Rattle.tt_symbolic_state.specs.declared.cell.Range.{Range}
-use Rattle.tt_symbolic.specs.Refined.{AnswersExact}
+use Rattle.std.specs.Int.{w64}
+use Rattle.std.proofs.lemmas.Int.{to_z-of_z}
 use Rattle.tt_symbolic.proofs.AreaFacts.{fits_there}
-use Rattle.tt_symbolic.proofs.Results.{on_ok}
 use Rattle.tt_symbolic.proofs.RefinedFacts.{forgets_pair}
 use Rattle.tt_symbolic.proofs.refined.forget_pair.Goals as goal
 

@@ -1,5 +1,4 @@
 use Rattle.std.proofs.Common.{arith, ◌∙◌, sym, length, ◌-◌, pos}
-use Rattle.tt_symbolic_state.specs.declared.state.OpenCall.{OpenCall}
 use Rattle.tt_symbolic.proofs.Controls.{last_is}
 use Rattle.tt_symbolic.proofs.step.innermost.Goals as goal
 
