@@ -1,0 +1,36 @@
+//! The check of a program by listed symbolic states.
+
+ghost use Rattle.std.specs.Prelude.{IfOk};
+ghost use Rattle.tt_abs.specs.Settings.{setting_of};
+ghost use Rattle.tt_symbolic_check.specs.Checked.{AreEnds, IsSafe};
+
+use crate::place_index::PlaceIndex;
+use crate::refusal::CheckRefusal;
+use crate::start::Start;
+use crate::walk::{begin, walk_on};
+use std::alloc::Global;
+use tt_abs::Setting;
+use tt_symbolic_state::state::State;
+
+/// Checks a program that starts in one of these ways, by listed states: it is walked from its starts
+/// on, and what comes to a listed state that covers it is walked from there once. Returns the states
+/// at the main program's end.
+///
+/// # Errors
+/// `Refused`, where a run may fault or not enough is known, with the reason; `BudgetMet`, where the
+/// walk isn't done after so many steps; `OutOfMemory`.
+pub fn check(
+    alloc: Global,
+    setting: &Setting<'_>,
+    starts: &[Start],
+    listed: &[State],
+    budget: u64,
+) -> Result<Vec<State>, CheckRefusal>
+    ensures safe { IfOk result (λ ends. IsSafe (setting_of setting.now) starts.now) }
+    ensures ends { IfOk result (λ ends. AreEnds (setting_of setting.now) starts.now ends.items) }
+{
+    let index = PlaceIndex::new(alloc, listed)?;
+    let mut walk = begin(alloc, setting, starts, listed)?;
+    walk_on(alloc, setting, listed, &index, &mut walk, budget)?;
+    Ok(walk.ends)
+}
