@@ -28,8 +28,22 @@ pub fn is_index(ranges: &[Range], cell: Cell, bound: u32) -> bool
     }
 }
 
+/// Returns why an index is refused: for its own reason, where it is known.
+pub fn refusal_of(ranges: &[Range], cell: Cell, reason: Reason) -> Reason {
+    match number(cell, ranges) {
+        Some(_) => reason,
+        None => Reason::UnknownOperand,
+    }
+}
+
 /// Takes an index below the bound.
-fn take_below(ranges: &[Range], stack: &Stack, taken: usize, bound: u32) -> Result<usize, Reason>
+fn take_below(
+    ranges: &[Range],
+    stack: &Stack,
+    taken: usize,
+    bound: u32,
+    reason: Reason,
+) -> Result<usize, Reason>
     ensures { IfOk result (λ n. (v : Valuation) → Fits ranges.now v → (r : AnyReason)
         → Takes (below_bound bound r) (values v stack.now) taken n) }
 {
@@ -38,7 +52,7 @@ fn take_below(ranges: &[Range], stack: &Stack, taken: usize, bound: u32) -> Resu
             if is_index(ranges, cell, bound) {
                 Ok(taken + 1)
             } else {
-                Err(Reason::UnknownOperand)
+                Err(refusal_of(ranges, cell, reason))
             }
         }
         None => Err(Reason::Underflow),
@@ -100,23 +114,30 @@ fn take_many(
     taken: usize,
     bound: u32,
     count: u32,
+    reason: Reason,
 ) -> Result<usize, Reason>
     ensures { IfOk result (λ n. (v : Valuation) → Fits ranges.now v → (r : AnyReason)
         → Takes (times count (below_bound bound r)) (values v stack.now) taken n) }
 {
     let mut after = taken;
     for i in 0..count {
-        after = take_below(ranges, stack, after, bound)?;
+        after = take_below(ranges, stack, after, bound, reason)?;
     }
     Ok(after)
 }
 
 /// Takes an index below the bound and any cell.
-fn take_pair(ranges: &[Range], stack: &Stack, taken: usize, bound: u32) -> Result<usize, Reason>
+fn take_pair(
+    ranges: &[Range],
+    stack: &Stack,
+    taken: usize,
+    bound: u32,
+    reason: Reason,
+) -> Result<usize, Reason>
     ensures { IfOk result (λ n. (v : Valuation) → Fits ranges.now v → (r : AnyReason)
         → Takes (pair (below_bound bound r)) (values v stack.now) taken n) }
 {
-    let after = take_below(ranges, stack, taken, bound)?;
+    let after = take_below(ranges, stack, taken, bound, reason)?;
     let end = take_any(stack, after)?;
     Ok(end)
 }
@@ -128,26 +149,33 @@ fn take_many_pairs(
     taken: usize,
     bound: u32,
     count: u32,
+    reason: Reason,
 ) -> Result<usize, Reason>
     ensures { IfOk result (λ n. (v : Valuation) → Fits ranges.now v → (r : AnyReason)
         → Takes (times count (pair (below_bound bound r))) (values v stack.now) taken n) }
 {
     let mut after = taken;
     for i in 0..count {
-        after = take_pair(ranges, stack, after, bound)?;
+        after = take_pair(ranges, stack, after, bound, reason)?;
     }
     Ok(after)
 }
 
 /// Takes a count, and as many pairs.
-fn take_pairs(ranges: &[Range], stack: &Stack, taken: usize, bound: u32) -> Result<usize, Reason>
+fn take_pairs(
+    ranges: &[Range],
+    stack: &Stack,
+    taken: usize,
+    bound: u32,
+    reason: Reason,
+) -> Result<usize, Reason>
     ensures { IfOk result (λ n. (v : Valuation) → Fits ranges.now v → (r : AnyReason)
         → Takes (pairs count_of (below_bound bound r)) (values v stack.now) taken n) }
 {
     match stack.under(taken) {
         Some(cell) => {
             let n = count(ranges, cell)?;
-            let end = take_many_pairs(ranges, stack, taken + 1, bound, n)?;
+            let end = take_many_pairs(ranges, stack, taken + 1, bound, n, reason)?;
             Ok(end)
         }
         None => Err(Reason::Underflow),
@@ -175,12 +203,29 @@ fn take(
                 stack,
                 taken,
                 points_within(setting, graphics, within),
+                Reason::Point,
             )
         }
-        Operand::Cvt => take_below(ranges, stack, taken, setting.cvt),
-        Operand::Storage => { take_below(ranges, stack, taken, u32::from(setting.limits.storage)) }
+        Operand::Cvt => take_below(ranges, stack, taken, setting.cvt, Reason::Cvt),
+        Operand::Storage => {
+            take_below(
+                ranges,
+                stack,
+                taken,
+                u32::from(setting.limits.storage),
+                Reason::Storage,
+            )
+        }
         Operand::Zone => take_zone(setting, ranges, stack, taken),
-        Operand::Contour => take_below(ranges, stack, taken, contours(setting, graphics.zp2)),
+        Operand::Contour => {
+            take_below(
+                ranges,
+                stack,
+                taken,
+                contours(setting, graphics.zp2),
+                Reason::Contour,
+            )
+        }
         Operand::LoopPoints(within) => {
             let n = count(ranges, graphics.loop_number)?;
             take_many(
@@ -189,6 +234,7 @@ fn take(
                 taken,
                 points_within(setting, graphics, within),
                 n,
+                Reason::Point,
             )
         }
         Operand::PointPairs(within) => {
@@ -197,9 +243,10 @@ fn take(
                 stack,
                 taken,
                 points_within(setting, graphics, within),
+                Reason::Point,
             )
         }
-        Operand::CvtPairs => take_pairs(ranges, stack, taken, setting.cvt),
+        Operand::CvtPairs => take_pairs(ranges, stack, taken, setting.cvt, Reason::Cvt),
     }
 }
 
@@ -228,7 +275,7 @@ pub fn take_operands(
 /// Tests the reference points that are used.
 ///
 /// # Errors
-/// `Point`, where one of them may not be a point.
+/// `Point`, where one of them is known and no point; `UnknownOperand`, where one may be none.
 pub fn test_uses(
     setting: &Setting<'_>,
     graphics: &Graphics<Cell, Zone>,
@@ -242,7 +289,7 @@ pub fn test_uses(
         let cell = reference(graphics, used.reference);
         let bound = points_in(setting, pointer(graphics, used.pointer));
         if !is_index(ranges, cell, bound) {
-            return Err(Reason::Point);
+            return Err(refusal_of(ranges, cell, Reason::Point));
         }
     }
     Ok(())

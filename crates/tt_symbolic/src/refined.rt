@@ -12,7 +12,7 @@ use crate::areas::forget;
 use crate::changes::{index_bounds, index_of};
 use crate::compute::put_answer;
 use crate::exact::{Exact, answer_of_one, answer_of_two};
-use crate::operands::is_index;
+use crate::operands::{is_index, refusal_of};
 use crate::plain::{cut, execute_plain, put_any, put_control};
 use crate::push::pop;
 use crate::shuffle::cell_under;
@@ -32,7 +32,7 @@ pub fn read_control(setting: &Setting<'_>, state: &mut State) -> Result<(), Step
 {
     let cell = cell_under(&state.stack, 0)?;
     if !is_index(state.ranges.as_slice(), cell, setting.cvt) {
-        return Err(StepRefusal::Refused(refused_index(state, cell)));
+        return Err(StepRefusal::Refused(refusal_of(state.ranges.as_slice(), cell, Reason::Cvt)));
     }
     match index_of(cell, state.ranges.as_slice()) {
         Ok(index) => {
@@ -46,14 +46,6 @@ pub fn read_control(setting: &Setting<'_>, state: &mut State) -> Result<(), Step
     }
 }
 
-/// Returns why an index is refused: `Cvt`, where it is known.
-fn refused_index(state: &State, cell: Cell) -> Reason {
-    match number(cell, state.ranges.as_slice()) {
-        Some(_) => Reason::Cvt,
-        None => Reason::UnknownOperand,
-    }
-}
-
 /// Carries out WCVTF: the control value may be any number then.
 ///
 /// # Errors
@@ -64,7 +56,7 @@ pub fn change_control(setting: &Setting<'_>, state: &mut State) -> Result<(), St
     cell_under(&state.stack, 0)?;
     let place = cell_under(&state.stack, 1)?;
     if !is_index(state.ranges.as_slice(), place, setting.cvt) {
-        return Err(StepRefusal::Refused(refused_index(state, place)));
+        return Err(StepRefusal::Refused(refusal_of(state.ranges.as_slice(), place, Reason::Cvt)));
     }
     let (low, high) = index_bounds(place, state.ranges.as_slice())?;
     cut(state, 2);
@@ -137,7 +129,7 @@ pub fn write_control(setting: &Setting<'_>, state: &mut State) -> Result<(), Ste
     }
     let place = cell_under(&state.stack, 1)?;
     if !is_index(state.ranges.as_slice(), place, setting.cvt) {
-        return Err(StepRefusal::Refused(refused_index(state, place)));
+        return Err(StepRefusal::Refused(refusal_of(state.ranges.as_slice(), place, Reason::Cvt)));
     }
     if let Ok(index) = index_of(place, state.ranges.as_slice()) {
         cut(state, 2);

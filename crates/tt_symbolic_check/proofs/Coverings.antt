@@ -5,7 +5,7 @@ use Rattle.tt_symbolic_state.specs.declared.cell.Cell.{Cell}
 use Rattle.tt_symbolic_state.specs.declared.cell.Range.{Range}
 use Rattle.tt_symbolic_state.specs.Values.{Assigns, Fits, IsWithin, Valuation, value}
 use Rattle.tt_symbolic_state.specs.declared.state.State.{State}
-use Rattle.tt_symbolic_state.specs.Shows.{IsShown, Shows, ShowsArea, ShowsCall, ShowsCalls, more, none, values, zone_number}
+use Rattle.tt_symbolic_state.specs.Shows.{ShowsArea, ShowsCalls, more, none, values, zone_number}
 use Rattle.tt_symbolic_state.specs.declared.state.OpenCall.{OpenCall}
 use Rattle.tt_code.specs.declared.machine.Frame.{Frame}
 use Rattle.tt_symbolic_check.specs.Covering.{AgreeAll, AgreeCall, AgreeCalls, AgreeEntries, AgreeStates, Agrees, Covers, RangesWithin, image_of}

@@ -1,12 +1,12 @@
 -- Walks, and what they say about runs.
-use Rattle.std.proofs.Common.{◌≡◌, ℕ, zero, suc, ◌+◌, ◌<◌, ◌≤◌, ℤ, ◌≤ℤ◌, ◌<ℤ◌, List, [], ◌∷◌, ◌++◌, reverse, Ok, Err, Option, Some, None, Bool, true, false, length, set, get_or, refl, sym, ◌∙◌, ap, subst, arith, ◌⊎◌, inl, inr}
+use Rattle.std.proofs.Common.{◌≡◌, ℕ, zero, suc, ◌+◌, ◌<◌, ℤ, List, [], ◌∷◌, ◌++◌, reverse, Ok, Err, Some, Bool, true, false, length, set, get_or, refl, sym, ◌∙◌, ap, subst, arith, ◌⊎◌, inl, inr}
 use Rattle.std.specs.Prelude.{slice_get}
 use Rattle.std.proofs.lemmas.Int.{by_lt_z}
 use Rattle.std.proofs.lemmas.Bool.{cases_eq, cases_lt}
 use Rattle.std.proofs.lemmas.Option.{slice_get_within, slice_get-get_or, get_or_from_slice_get}
 use Rattle.std.proofs.lemmas.List.{get_or-set_same, get_or-set_other, length-set}
 use Rattle.tt_code.specs.Refusals.{Tested}
-use Rattle.tt_code.specs.Runs.{Faults, is_at_end, left_by, outcome}
+use Rattle.tt_code.specs.Runs.{Faults, is_at_end, left_by}
 use Rattle.tt_code.specs.States.{Machine, Outcome}
 use Rattle.tt_code.specs.declared.reason.Reason.{Reason}
 use Rattle.tt_abs.specs.declared.setting.Setting.{Setting}
@@ -19,13 +19,11 @@ use Rattle.tt_symbolic_state.specs.declared.state.State.{State}
 use Rattle.tt_symbolic_state.specs.Values.{Fits, Valuation}
 use Rattle.tt_symbolic_state.specs.CvtMachine.{CvtMachine, CvtRuns, CvtSteps, here, step}
 use Rattle.tt_symbolic_state.specs.Shows.{IsShown, Shows, ShowsArea, ShowsCalls, graphics_of, values}
-use Rattle.tt_symbolic.specs.Sound.{Goes}
-use Rattle.tt_symbolic.specs.Steps.{StepsTo, allows}
+use Rattle.tt_symbolic.specs.Steps.{StepsTo}
 use Rattle.tt_symbolic_check.specs.Checked.{AreEnds, IsSafe, IsShownByOne}
 use Rattle.tt_symbolic_check.specs.Copying.{IsCopy, IsLower, IsSplit, IsUpper}
-use Rattle.tt_symbolic_check.specs.Covering.{Covers}
-use Rattle.tt_symbolic_check.specs.Starts.{IsStartState, StartsAs, StartsFrom}
-use Rattle.tt_symbolic_check.specs.Walking.{AllWalk, Begins, EndsAs, Extends, IsCoveredBy, IsIn, ListedWalk, NothingPending, PutsEnd, PutsPending, Reaches, StartWalks, TakesPending, Walks, ends, goes, meets, splits}
+use Rattle.tt_symbolic_check.specs.Starts.{IsStartState, StartsFrom}
+use Rattle.tt_symbolic_check.specs.Walking.{AllWalk, Begins, EndsAs, Extends, IsCoveredBy, IsIn, NothingPending, PutsEnd, PutsPending, Reaches, StartWalks, TakesPending, Walks, ends, goes, meets, splits}
 use Rattle.tt_symbolic_check.specs.declared.copying.Split.{Split}
 use Rattle.tt_symbolic_check.specs.declared.start.Start.{Start}
 use Rattle.tt_symbolic_check.specs.declared.walk.Pending.{Pending}

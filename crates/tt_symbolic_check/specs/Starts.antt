@@ -1,5 +1,5 @@
 -- The machines with which a program starts.
-use Rattle.std.specs.Prelude.{◌≡◌, ℕ, ℤ, List, Some, slice_get}
+use Rattle.std.specs.Prelude.{◌≡◌, ℕ, List, Some, slice_get}
 use Rattle.tt_code.specs.Runs.{IsFresh}
 use Rattle.tt_abs.specs.Cells.{CoversFunctions}
 use Rattle.tt_symbolic_state.specs.CvtMachine.{CvtMachine}

@@ -7,7 +7,7 @@ ghost use Rattle.tt_symbolic_check.specs.Checked.{AreEnds, IsSafe};
 use crate::place_index::PlaceIndex;
 use crate::refusal::CheckRefusal;
 use crate::start::Start;
-use crate::walk::{begin, walk_on};
+use crate::walk::{Effort, begin, walk_on};
 use std::alloc::Global;
 use tt_abs::Setting;
 use tt_symbolic_state::state::State;
@@ -24,13 +24,13 @@ pub fn check(
     setting: &Setting<'_>,
     starts: &[Start],
     listed: &[State],
-    budget: u64,
+    effort: Effort,
 ) -> Result<Vec<State>, CheckRefusal>
     ensures safe { IfOk result (λ ends. IsSafe (setting_of setting.now) starts.now) }
     ensures ends { IfOk result (λ ends. AreEnds (setting_of setting.now) starts.now ends.items) }
 {
     let index = PlaceIndex::new(alloc, listed)?;
     let mut walk = begin(alloc, setting, starts, listed)?;
-    walk_on(alloc, setting, listed, &index, &mut walk, budget)?;
+    walk_on(alloc, setting, listed, &index, &mut walk, effort)?;
     Ok(walk.ends)
 }

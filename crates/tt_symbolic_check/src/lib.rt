@@ -14,3 +14,4 @@ pub use checking::check;
 pub use covering::covers;
 pub use refusal::CheckRefusal;
 pub use start::Start;
+pub use walk::{Effort, USUAL_EFFORT};

@@ -9,9 +9,6 @@ use tt_symbolic_state::state::State;
 /// How many numbers the range of a function number may have to be split.
 const MOST_FUNCTIONS: i64 = 16;
 
-/// How many numbers the range of a symbol may have to be split at a comparison.
-const MOST_COMPARED: i64 = 1 << 16;
-
 /// Returns the range of the cell's symbol, if it has one.
 fn range_of(cell: Cell, ranges: &[Range]) -> Option<Range> {
     if cell.factor == 0 {
@@ -73,13 +70,14 @@ fn at_least(cell: Cell, ranges: &[Range]) -> Option<Split> {
     split_before(cell.symbol, range, i64::from(range.low).checked_add(1)?)
 }
 
-/// Returns the difference of the two upper elements, if it has a symbol whose range is narrow.
-fn compared(state: &State) -> Option<Cell> {
+/// Returns the difference of the two upper elements, if it has a symbol whose range has at most as
+/// many numbers as the widest.
+fn compared(state: &State, widest: i64) -> Option<Cell> {
     let top = state.stack.under(0)?;
     let second = state.stack.under(1)?;
     let cell = difference(second, top)?;
     let range = range_of(cell, state.ranges.as_slice())?;
-    if width(range) >= MOST_COMPARED {
+    if width(range) >= widest {
         return None;
     }
     Some(cell)
@@ -107,16 +105,17 @@ fn at_end_of_body(state: &State) -> Option<Split> {
 }
 
 /// Returns the split that the instruction wants where the state is, if it wants one: IF, JROT, JROF,
-/// comparisons, CALL, LOOPCALL and ENDF want some.
-pub fn wanted(setting: &Setting<'_>, state: &State) -> Option<Split> {
+/// comparisons, CALL, LOOPCALL and ENDF want some. A comparison wants one where the range of the
+/// symbol has at most as many numbers as the widest.
+pub fn wanted(setting: &Setting<'_>, state: &State, widest: i64) -> Option<Split> {
     let ranges = state.ranges.as_slice();
     match code_at(setting, state)? {
         // LT and GTEQ
-        0x50 | 0x53 => at_bound(compared(state)?, 0, ranges),
+        0x50 | 0x53 => at_bound(compared(state, widest)?, 0, ranges),
         // LTEQ and GT
-        0x51 | 0x52 => at_bound(compared(state)?, 1, ranges),
+        0x51 | 0x52 => at_bound(compared(state, widest)?, 1, ranges),
         // EQ and NEQ
-        0x54 | 0x55 => at_zero(compared(state)?, ranges),
+        0x54 | 0x55 => at_zero(compared(state, widest)?, ranges),
         // IF, JROT and JROF
         0x58 | 0x78 | 0x79 => at_zero(state.stack.under(0)?, ranges),
         // CALL

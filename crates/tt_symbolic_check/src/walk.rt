@@ -18,6 +18,21 @@ use tt_symbolic_state::state::State;
 /// How many listed states at one offset are looked at.
 const MOST_TESTED: u32 = 1024;
 
+/// How much a check may do.
+#[derive(Clone, Copy, Debug, PartialEq, Eq)]
+pub struct Effort {
+    /// How many steps the walk may have.
+    pub steps: u64,
+    /// How many numbers the range of a symbol may have that a comparison splits.
+    pub widest_compared: i64,
+}
+
+/// How much a check may usually do.
+pub const USUAL_EFFORT: Effort = Effort {
+    steps: 1_000_000,
+    widest_compared: 1 << 16,
+};
+
 /// A state that waits to be carried on.
 #[derive(Drop)]
 pub struct Pending {
@@ -190,12 +205,13 @@ fn split_or_step(
     listed: &[State],
     walk: &mut Walk,
     state: State,
+    widest: i64,
 ) -> Result<(), StepRefusal>
     requires { EndsAs setting.now state false }
     ensures { OnOk result (Reaches setting.now listed.now walk.old walk.new
         (λ final. Walks setting.now listed.now final false state)) }
 {
-    match wanted(setting, &state) {
+    match wanted(setting, &state, widest) {
         Some(split) => {
             split_up(alloc, setting, listed, walk, state, split)?;
             Ok(())
@@ -211,6 +227,7 @@ fn carry_on(
     listed: &[State],
     walk: &mut Walk,
     state: State,
+    widest: i64,
 ) -> Result<(), StepRefusal>
     ensures { OnOk result (Reaches setting.now listed.now walk.old walk.new
         (λ final. Walks setting.now listed.now final false state)) }
@@ -219,7 +236,7 @@ fn carry_on(
         put_end(walk, state)?;
         return Ok(());
     }
-    split_or_step(alloc, setting, listed, walk, state)
+    split_or_step(alloc, setting, listed, walk, state, widest)
 }
 
 /// Returns the number of a listed state at which the state that waited may stop, if there is one.
@@ -246,6 +263,7 @@ fn advance(
     index: &PlaceIndex,
     walk: &mut Walk,
     entry: Pending,
+    widest: i64,
 ) -> Result<(), StepRefusal>
     ensures { OnOk result (Reaches setting.now listed.now walk.old walk.new
         (λ final. Walks setting.now listed.now final entry.may_stop entry.state)) }
@@ -256,7 +274,7 @@ fn advance(
             stop_at(alloc, setting, listed, place, walk)?;
             Ok(())
         }
-        None => carry_on(alloc, setting, listed, walk, entry.state),
+        None => carry_on(alloc, setting, listed, walk, entry.state, widest),
     }
 }
 
@@ -326,13 +344,21 @@ pub fn walk_on(
     listed: &[State],
     index: &PlaceIndex,
     walk: &mut Walk,
-    budget: u64,
+    effort: Effort,
 ) -> Result<(), CheckRefusal>
     ensures { OnOk result (Finishes setting.now listed.now walk.old walk.new) }
 {
-    for step in 0..budget {
+    for step in 0..effort.steps {
         match take_pending(walk) {
-            Some(entry) => advance(alloc, setting, listed, index, walk, entry)?,
+            Some(entry) => advance(
+                alloc,
+                setting,
+                listed,
+                index,
+                walk,
+                entry,
+                effort.widest_compared,
+            )?,
             None => return Ok(()),
         }
     }

@@ -1,4 +1,4 @@
-use Rattle.std.proofs.Common.{subst, sym, Bool, false, true}
+use Rattle.std.proofs.Common.{subst, sym, Bool, false}
 use Rattle.tt_symbolic.proofs.Results.{on_ok}
 use Rattle.tt_symbolic_check.specs.declared.walk.Walk.{Walk}
 use Rattle.tt_symbolic_check.specs.Walking.{Reaches, Walks}

@@ -1,4 +1,4 @@
-use Rattle.std.proofs.Common.{subst, false, true}
+use Rattle.std.proofs.Common.{subst, false}
 use Rattle.tt_symbolic_check.specs.Walking.{EndsAs}
 use Rattle.tt_symbolic_check.proofs.Walkings.{end_reaches}
 use Rattle.tt_symbolic_check.proofs.walk.carry_on.Goals as goal

@@ -1,4 +1,3 @@
-use Rattle.std.proofs.Common.{rules, refl}
 use Rattle.tt_symbolic_check.proofs.Walkings.{nothing_reaches, reaches_none, reaches_on, take_reaches}
 use Rattle.tt_symbolic_check.proofs.walk.walk_on.Goals as goal
 
