@@ -3,3 +3,4 @@ pub mod Copying
 pub mod Starts
 pub mod Walking
 pub mod Checked
+pub mod Laws

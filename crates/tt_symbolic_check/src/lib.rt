@@ -4,6 +4,7 @@
 pub mod checking;
 pub mod copying;
 pub mod covering;
+pub mod laws;
 pub mod place_index;
 pub mod refusal;
 pub mod splits;
