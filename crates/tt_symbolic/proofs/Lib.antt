@@ -2,6 +2,7 @@ pub mod AreaFacts
 pub mod Computings
 pub mod Controls
 pub mod Exacts
+pub mod Keepings
 pub mod Plains
 pub mod RefinedFacts
 pub mod Results

@@ -120,7 +120,7 @@ le_true a b h = go (nat_le a b) refl
     go false e = let w = leb-false a b e in absurd (omega arith)
 
 -- the instruction that is there
-there : (setting : Setting) (point : Point) (v : Valuation) (a : State) (i : Instruction) (m : Machine) (controls : ℕ → ℤ) → IsAt point a → starts_in_body (setting_of setting) (frames_of point) point.offset ≡ true → instruction_at (program_of (setting_of setting) (frames_of point)) point.offset ≡ Some i
+pub there : (setting : Setting) (point : Point) (v : Valuation) (a : State) (i : Instruction) (m : Machine) (controls : ℕ → ℤ) → IsAt point a → starts_in_body (setting_of setting) (frames_of point) point.offset ≡ true → instruction_at (program_of (setting_of setting) (frames_of point)) point.offset ≡ Some i
     → Shows v a m controls → m.offset ≡ a.offset → fetched (setting_of setting) m ≡ Some i
 there setting point v a i m controls at starts is h o =
     let (same, program) = starts_there (setting_of setting) v point a m controls at h in
@@ -129,7 +129,7 @@ there setting point v a i m controls at starts is h o =
     let k : instruction_at (program_of (setting_of setting) m.frames) m.offset ≡ Some i = rw (program, q) is in
     rw (t) k
 
-outcome_is : (s : MachineSetting) (m : Machine) (i : Instruction) → fetched s m ≡ Some i → outcome s m ≡ performs s m (Some i)
+pub outcome_is : (s : MachineSetting) (m : Machine) (i : Instruction) → fetched s m ≡ Some i → outcome s m ≡ performs s m (Some i)
 unfolding outcome
 outcome_is s m i e = ap (performs s m) e
 

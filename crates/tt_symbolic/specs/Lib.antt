@@ -7,3 +7,5 @@ pub mod Plain
 pub mod Refined
 pub mod Leading
 pub mod Steps
+pub mod Kept
+pub mod Keeping

@@ -8,6 +8,7 @@ pub mod compute;
 pub mod control;
 pub mod data;
 pub mod exact;
+pub mod kept;
 pub mod operands;
 pub mod plain;
 pub mod push;

@@ -86,7 +86,7 @@ fn forget_pairs(state: &mut State, count: u32) -> Result<(), StepRefusal>
 }
 
 /// Returns how many pairs are under the top.
-fn pair_count(state: &State) -> Result<u32, Reason>
+pub(crate) fn pair_count(state: &State) -> Result<u32, Reason>
     ensures { IfOk result (λ n. (c : AnyCell) × (drop 0 state.now.stack ≡ c ∷ drop 1 state.now.stack)
         × ((v : Valuation) → Fits state.now.ranges.items v → value v c ≡ pos n)) }
 {

@@ -48,7 +48,7 @@ fn execute_ordinary(
 }
 
 /// Whether the refined machine says no more of the instructions of this code.
-fn is_ordinary(code: u8) -> bool
+pub(crate) fn is_ordinary(code: u8) -> bool
     ensures { result ≡ true → refinement_of code ≡ Ordinary }
 {
     code != 0x45
@@ -144,7 +144,7 @@ fn dispatch(
 }
 
 /// Makes a frame of the same body, in its only turn.
-fn frame_of(call: OpenCall) -> Frame
+pub(crate) fn frame_of(call: OpenCall) -> Frame
     ensures { result.body ≡ call.body }
 {
     Frame {
@@ -156,7 +156,7 @@ fn frame_of(call: OpenCall) -> Frame
 }
 
 /// Returns the innermost call that hasn't returned, if there is one.
-fn innermost(state: &State) -> Option<OpenCall>
+pub(crate) fn innermost(state: &State) -> Option<OpenCall>
     ensures { IsInnermost state.now result }
 {
     match state.calls.as_slice() {

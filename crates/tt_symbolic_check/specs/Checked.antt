@@ -5,6 +5,8 @@ use Rattle.tt_code.specs.Settings.{Setting}
 use Rattle.tt_symbolic_state.specs.CvtMachine.{CvtMachine, CvtNeverFaults, CvtRuns}
 use Rattle.tt_symbolic_state.specs.Shows.{IsShown}
 use Rattle.tt_symbolic_state.specs.declared.state.State.{State}
+use Rattle.tt_symbolic.specs.Kept.{KeepsMemory}
+use Rattle.tt_symbolic.specs.declared.kept.Kept.{Kept}
 use Rattle.tt_symbolic_check.specs.Starts.{StartsFrom}
 use Rattle.tt_symbolic_check.specs.declared.start.Start.{Start}
 
@@ -24,3 +26,8 @@ abbrev pub AreEnds : Setting → List Start → List State → Type 0
 AreEnds s starts ends =
     (m n : CvtMachine) → StartsFrom starts m → CvtRuns s m n → is_at_end s n.machine ≡ true
     → IsShownByOne ends n
+
+-- no run from a start changes a kept entry
+abbrev pub KeepsEntries : Setting → Kept → List Start → Type 0
+KeepsEntries s kept starts =
+    (m n : CvtMachine) → StartsFrom starts m → CvtRuns s m n → KeepsMemory kept m n

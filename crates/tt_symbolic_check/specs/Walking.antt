@@ -6,7 +6,9 @@ use Rattle.tt_abs.specs.declared.setting.Setting.{Setting}
 use Rattle.tt_abs.specs.Settings.{setting_of}
 use Rattle.tt_symbolic_state.specs.Shows.{IsShown}
 use Rattle.tt_symbolic_state.specs.declared.state.State.{State}
+use Rattle.tt_symbolic.specs.Kept.{StepsKeep}
 use Rattle.tt_symbolic.specs.Steps.{StepsTo}
+use Rattle.tt_symbolic.specs.declared.kept.Kept.{Kept}
 use Rattle.tt_symbolic_check.specs.Copying.{IsSplit}
 use Rattle.tt_symbolic_check.specs.Covering.{Covers}
 use Rattle.tt_symbolic_check.specs.Starts.{IsStartState}
@@ -32,17 +34,18 @@ pub record IsIn (states : List State) (a : State) : Type 0 where
   pub found : slice_get states index ≡ Some a
 
 -- A walk from a state. One that may not stop meets no listed state before its first step.
-pub data Walks (setting : Setting) (listed : List State) (final : Walk) : Bool → State → Type 0
+pub data Walks (setting : Setting) (kept : Kept) (listed : List State) (final : Walk) : Bool → State → Type 0
   where
     ends : (b : Bool) (a : State) → EndsAs setting a true → IsIn final.ends.items a
-        → Walks setting listed final b a
+        → Walks setting kept listed final b a
     meets : (a : State) (index : ℕ) → IsCoveredBy listed index a
-        → slice_get final.walked.items index ≡ Some true → Walks setting listed final true a
+        → slice_get final.walked.items index ≡ Some true → Walks setting kept listed final true a
     goes : (b : Bool) (a c : State) → EndsAs setting a false → StepsTo setting a c
-        → Walks setting listed final true c → Walks setting listed final b a
+        → StepsKeep (setting_of setting) kept a
+        → Walks setting kept listed final true c → Walks setting kept listed final b a
     splits : (b : Bool) (a low high : State) → IsSplit a low high
-        → Walks setting listed final b low → Walks setting listed final b high
-        → Walks setting listed final b a
+        → Walks setting kept listed final b low → Walks setting kept listed final b high
+        → Walks setting kept listed final b a
 
 -- what was walked, and which ends there are, is still so
 pub record Extends (old new : Walk) : Type 0 where
@@ -51,25 +54,25 @@ pub record Extends (old new : Walk) : Type 0 where
   pub ends : (a : State) → IsIn old.ends.items a → IsIn new.ends.items a
 
 -- all that waits walks
-abbrev pub AllWalk : Setting → List State → Walk → List Pending → Type 0
-AllWalk setting listed final pending =
+abbrev pub AllWalk : Setting → Kept → List State → Walk → List Pending → Type 0
+AllWalk setting kept listed final pending =
     (i : ℕ) (p : Pending) → slice_get pending i ≡ Some p
-    → Walks setting listed final p.may_stop p.state
+    → Walks setting kept listed final p.may_stop p.state
 
 -- the listed states that are walked, and weren't before, walk
-abbrev pub ListedWalk : Setting → List State → Walk → Walk → Walk → Type 0
-ListedWalk setting listed old new final =
+abbrev pub ListedWalk : Setting → Kept → List State → Walk → Walk → Walk → Type 0
+ListedWalk setting kept listed old new final =
     (i : ℕ) (a : State) → slice_get listed i ≡ Some a → slice_get new.walked.items i ≡ Some true
-    → (slice_get old.walked.items i ≡ Some true) ⊎ Walks setting listed final false a
+    → (slice_get old.walked.items i ≡ Some true) ⊎ Walks setting kept listed final false a
 
 -- if all that waits afterwards walks, then so does all that waited, and this is so
-pub record Reaches (setting : Setting) (listed : List State) (old new : Walk)
+pub record Reaches (setting : Setting) (kept : Kept) (listed : List State) (old new : Walk)
     (Claim : Walk → Type 0) : Type 0 where
   pub extends : Extends old new
   pub reaches : (final : Walk) → Extends new final
-      → AllWalk setting listed final new.pending.items
-      → AllWalk setting listed final old.pending.items × Claim final
-      × ListedWalk setting listed old new final
+      → AllWalk setting kept listed final new.pending.items
+      → AllWalk setting kept listed final old.pending.items × Claim final
+      × ListedWalk setting kept listed old new final
 
 -- the state waits too
 pub record PutsPending (state : State) (may_stop : Bool) (old new : Walk) : Type 0 where
@@ -98,21 +101,21 @@ pub record PutsEnd (state : State) (old new : Walk) : Type 0 where
   pub pending : new.pending.items ≡ old.pending.items
 
 -- a start walks
-pub record StartWalks (setting : Setting) (listed : List State) (final : Walk) (start : Start)
+pub record StartWalks (setting : Setting) (kept : Kept) (listed : List State) (final : Walk) (start : Start)
     : Type 0 where
   pub state : State
   pub is_start : IsStartState start state
-  pub walks : Walks setting listed final true state
+  pub walks : Walks setting kept listed final true state
 
 -- nothing is walked yet, and if all that waits walks, the first starts walk
-pub record Begins (setting : Setting) (listed : List State) (count : ℕ) (starts : List Start)
+pub record Begins (setting : Setting) (kept : Kept) (listed : List State) (count : ℕ) (starts : List Start)
     (walk : Walk) : Type 0 where
   pub none_walked : (i : ℕ) → slice_get walk.walked.items i ≡ Some true → ⊥
-  pub begins : (final : Walk) → AllWalk setting listed final walk.pending.items → (i : ℕ)
+  pub begins : (final : Walk) → AllWalk setting kept listed final walk.pending.items → (i : ℕ)
       (start : Start) → suc i ≤ count → slice_get starts i ≡ Some start
-      → StartWalks setting listed final start
+      → StartWalks setting kept listed final start
 
 -- nothing waits any more, and what waited was walked
-pub record Finishes (setting : Setting) (listed : List State) (old new : Walk) : Type 0 where
+pub record Finishes (setting : Setting) (kept : Kept) (listed : List State) (old new : Walk) : Type 0 where
   pub none_pending : new.pending.items ≡ []
-  pub reaches : Reaches setting listed old new (λ final. Unit {0})
+  pub reaches : Reaches setting kept listed old new (λ final. Unit {0})

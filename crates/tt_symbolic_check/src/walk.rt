@@ -11,6 +11,7 @@ use crate::splits::wanted;
 use crate::start::{Start, start_state};
 use std::alloc::{AllocError, Global};
 use tt_abs::{Point, Setting};
+use tt_symbolic::kept::{Kept, keeps};
 use tt_symbolic::step::step;
 use tt_symbolic_state::StepRefusal;
 use tt_symbolic_state::state::State;
@@ -138,11 +139,12 @@ fn find(
 fn stop_at(
     alloc: Global,
     setting: &Setting<'_>,
+    kept: &Kept<'_>,
     listed: &[State],
     place: usize,
     walk: &mut Walk,
 ) -> Result<(), AllocError>
-    ensures { OnOk result (Reaches setting.now listed.now walk.old walk.new
+    ensures { OnOk result (Reaches setting.now kept.now listed.now walk.old walk.new
         (λ final. slice_get final.walked.items place ≡ Some true)) }
 {
     if is_walked(walk, place) {
@@ -164,13 +166,14 @@ fn stop_at(
 fn split_up(
     alloc: Global,
     setting: &Setting<'_>,
+    kept: &Kept<'_>,
     listed: &[State],
     walk: &mut Walk,
     state: State,
     split: Split,
 ) -> Result<(), AllocError>
-    ensures { OnOk result (Reaches setting.now listed.now walk.old walk.new
-        (λ final. Walks setting.now listed.now final false state)) }
+    ensures { OnOk result (Reaches setting.now kept.now listed.now walk.old walk.new
+        (λ final. Walks setting.now kept.now listed.now final false state)) }
 {
     let mut low = copied(alloc, &state)?;
     lower(&mut low, split);
@@ -184,16 +187,21 @@ fn split_up(
 /// Lets what a step makes of a state wait.
 fn step_on(
     setting: &Setting<'_>,
+    kept: &Kept<'_>,
     listed: &[State],
     walk: &mut Walk,
     state: State,
 ) -> Result<(), StepRefusal>
     requires { EndsAs setting.now state false }
-    ensures { OnOk result (Reaches setting.now listed.now walk.old walk.new
-        (λ final. Walks setting.now listed.now final false state)) }
+    ensures { OnOk result (Reaches setting.now kept.now listed.now walk.old walk.new
+        (λ final. Walks setting.now kept.now listed.now final false state)) }
 {
+    let keeps_entries = keeps(setting, &state, kept);
     let mut next = state;
     step(setting, &mut next)?;
+    if !keeps_entries {
+        return Err(StepRefusal::KeptEntry);
+    }
     put_pending(walk, next, true)?;
     Ok(())
 }
@@ -202,21 +210,22 @@ fn step_on(
 fn split_or_step(
     alloc: Global,
     setting: &Setting<'_>,
+    kept: &Kept<'_>,
     listed: &[State],
     walk: &mut Walk,
     state: State,
     widest: i64,
 ) -> Result<(), StepRefusal>
     requires { EndsAs setting.now state false }
-    ensures { OnOk result (Reaches setting.now listed.now walk.old walk.new
-        (λ final. Walks setting.now listed.now final false state)) }
+    ensures { OnOk result (Reaches setting.now kept.now listed.now walk.old walk.new
+        (λ final. Walks setting.now kept.now listed.now final false state)) }
 {
     match wanted(setting, &state, widest) {
         Some(split) => {
-            split_up(alloc, setting, listed, walk, state, split)?;
+            split_up(alloc, setting, kept, listed, walk, state, split)?;
             Ok(())
         }
-        None => step_on(setting, listed, walk, state),
+        None => step_on(setting, kept, listed, walk, state),
     }
 }
 
@@ -224,19 +233,20 @@ fn split_or_step(
 fn carry_on(
     alloc: Global,
     setting: &Setting<'_>,
+    kept: &Kept<'_>,
     listed: &[State],
     walk: &mut Walk,
     state: State,
     widest: i64,
 ) -> Result<(), StepRefusal>
-    ensures { OnOk result (Reaches setting.now listed.now walk.old walk.new
-        (λ final. Walks setting.now listed.now final false state)) }
+    ensures { OnOk result (Reaches setting.now kept.now listed.now walk.old walk.new
+        (λ final. Walks setting.now kept.now listed.now final false state)) }
 {
     if is_at_end(setting, &state) {
         put_end(walk, state)?;
         return Ok(());
     }
-    split_or_step(alloc, setting, listed, walk, state, widest)
+    split_or_step(alloc, setting, kept, listed, walk, state, widest)
 }
 
 /// Returns the number of a listed state at which the state that waited may stop, if there is one.
@@ -259,22 +269,23 @@ fn met(
 fn advance(
     alloc: Global,
     setting: &Setting<'_>,
+    kept: &Kept<'_>,
     listed: &[State],
     index: &PlaceIndex,
     walk: &mut Walk,
     entry: Pending,
     widest: i64,
 ) -> Result<(), StepRefusal>
-    ensures { OnOk result (Reaches setting.now listed.now walk.old walk.new
-        (λ final. Walks setting.now listed.now final entry.may_stop entry.state)) }
+    ensures { OnOk result (Reaches setting.now kept.now listed.now walk.old walk.new
+        (λ final. Walks setting.now kept.now listed.now final entry.may_stop entry.state)) }
 {
     let found = met(alloc, listed, index, &entry)?;
     match found {
         Some(place) => {
-            stop_at(alloc, setting, listed, place, walk)?;
+            stop_at(alloc, setting, kept, listed, place, walk)?;
             Ok(())
         }
-        None => carry_on(alloc, setting, listed, walk, entry.state, widest),
+        None => carry_on(alloc, setting, kept, listed, walk, entry.state, widest),
     }
 }
 
@@ -301,10 +312,11 @@ fn none_walked(alloc: Global, count: usize) -> Result<Vec<bool>, AllocError>
 fn fresh_walk(
     alloc: Global,
     setting: &Setting<'_>,
+    kept: &Kept<'_>,
     starts: &[Start],
     listed: &[State],
 ) -> Result<Walk, AllocError>
-    ensures { IfOk result (Begins setting.now listed.now 0 starts.now) }
+    ensures { IfOk result (Begins setting.now kept.now listed.now 0 starts.now) }
 {
     Ok(Walk {
         walked: none_walked(alloc, listed.len())?,
@@ -320,12 +332,13 @@ fn fresh_walk(
 pub fn begin(
     alloc: Global,
     setting: &Setting<'_>,
+    kept: &Kept<'_>,
     starts: &[Start],
     listed: &[State],
 ) -> Result<Walk, AllocError>
-    ensures { IfOk result (Begins setting.now listed.now (length starts.now) starts.now) }
+    ensures { IfOk result (Begins setting.now kept.now listed.now (length starts.now) starts.now) }
 {
-    let mut walk = fresh_walk(alloc, setting, starts, listed)?;
+    let mut walk = fresh_walk(alloc, setting, kept, starts, listed)?;
     for i in 0..starts.len() {
         let state = start_state(alloc, &starts[i])?;
         put_pending(&mut walk, state, true)?;
@@ -341,18 +354,20 @@ pub fn begin(
 pub fn walk_on(
     alloc: Global,
     setting: &Setting<'_>,
+    kept: &Kept<'_>,
     listed: &[State],
     index: &PlaceIndex,
     walk: &mut Walk,
     effort: Effort,
 ) -> Result<(), CheckRefusal>
-    ensures { OnOk result (Finishes setting.now listed.now walk.old walk.new) }
+    ensures { OnOk result (Finishes setting.now kept.now listed.now walk.old walk.new) }
 {
     for step in 0..effort.steps {
         match take_pending(walk) {
             Some(entry) => advance(
                 alloc,
                 setting,
+                kept,
                 listed,
                 index,
                 walk,

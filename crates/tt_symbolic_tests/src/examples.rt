@@ -5,6 +5,7 @@
 use hintcheck_test_fixtures::programs::{LIMITS, cut};
 use std::alloc::Global;
 use tt_abs::Setting;
+use tt_symbolic::kept::NOTHING_KEPT;
 use tt_symbolic_check::{CheckRefusal, Effort, Start, check};
 use tt_symbolic_state::{State, StepRefusal};
 
@@ -68,7 +69,14 @@ fn answer(alloc: Global, case: Case) -> u8 {
     let for_font = Setting::for_font_program(LIMITS, 10, &font);
     let for_cvt = for_font.for_cvt_program(&cvt, &[]);
     let for_glyph = for_cvt.for_glyph_program(4, 1, &glyph, &[]);
-    let first = match check(alloc, &for_font, &[Start::unknown(alloc)], &[], EFFORT) {
+    let first = match check(
+        alloc,
+        &for_font,
+        &NOTHING_KEPT,
+        &[Start::unknown(alloc)],
+        &[],
+        EFFORT,
+    ) {
         Ok(ends) => last_end(alloc, ends),
         Err(refusal) => return number_of(&refusal),
     };
@@ -76,11 +84,11 @@ fn answer(alloc: Global, case: Case) -> u8 {
         functions: first.functions,
         ..Start::unknown(alloc)
     };
-    let second = match check(alloc, &for_cvt, &[functions], &[], EFFORT) {
+    let second = match check(alloc, &for_cvt, &NOTHING_KEPT, &[functions], &[], EFFORT) {
         Ok(ends) => last_end(alloc, ends),
         Err(refusal) => return number_of(&refusal),
     };
-    match check(alloc, &for_glyph, &[second], &[], EFFORT) {
+    match check(alloc, &for_glyph, &NOTHING_KEPT, &[second], &[], EFFORT) {
         Ok(_) => 0,
         Err(refusal) => number_of(&refusal),
     }

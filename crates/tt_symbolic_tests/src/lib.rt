@@ -4,3 +4,5 @@
 
 #[cfg(test)]
 mod examples;
+#[cfg(test)]
+mod listed;
