@@ -1,5 +1,5 @@
 -- The machine with control values is a hint machine with fewer choices.
-use Rattle.std.specs.Prelude.{List, [], ◌∷◌}
+use Rattle.std.specs.Prelude.{[], ◌∷◌}
 use Rattle.tt_code.specs.Runs.{NeverFaults, Runs}
 use Rattle.tt_code.specs.Settings.{Setting}
 use Rattle.tt_abs.specs.Soundness.{StartsWith}
