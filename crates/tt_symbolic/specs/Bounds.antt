@@ -7,8 +7,8 @@ use Rattle.tt_symbolic_state.specs.Values.{Fits, IsWithin, Valuation, value}
 use Rattle.tt_symbolic.specs.declared.answer.Answer.{Answer}
 use Rattle.tt_symbolic.specs.Sound.{Answers}
 
--- a number between the bounds, where it is one of the machine, is in the range; and so is any number
--- that is left in its place where it is none
+-- a number between the bounds is in the range, where it is one of the machine; and so is any number
+-- that is left in its place, where it is none
 pub record IsRangeOf (low high : ℤ) (range : Range) : Type 0 where
   pub within : (x z : ℤ) → low ≤ℤ x → x ≤ℤ high → (IsNumber x → z ≡ x) → IsNumber z
       → IsWithin range z

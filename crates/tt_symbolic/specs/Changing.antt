@@ -11,7 +11,8 @@ use Rattle.tt_symbolic_state.specs.declared.cell.Cell.{Cell}
 use Rattle.tt_symbolic_state.specs.declared.state.State.{State}
 use Rattle.tt_symbolic.specs.Areas.{Forgets}
 
--- the registers of the machine become these, by the elements that were taken, and the state with them
+-- the registers of the machine become these, by the elements that were taken, and the state
+-- with them
 pub record ChangesRegisters (count : ℕ)
     (change : List ℤ → Registers ℤ ZoneNumber → Registers ℤ ZoneNumber) (old new : State)
     : Type 0 where

@@ -97,6 +97,7 @@ abbrev pub ExactWorks : Exact → Setting → State → State → Type 0
 ExactWorks op s old new =
     Works (λ m. plain s m (exact_line op)) (refined (refinement_for op)) old new
 
+-- RCVT, WCVTP and WCVTF are carried out
 abbrev pub ReadWorks : Setting → State → State → Type 0
 ReadWorks s old new = Works (λ m. plain s m read_line) (refined ReadsControl) old new
 
@@ -106,6 +107,7 @@ WriteWorks s old new = Works (λ m. plain s m write_line) (refined WritesControl
 abbrev pub ChangeWorks : Setting → State → State → Type 0
 ChangeWorks s old new = Works (λ m. plain s m write_line) (refined ChangesControl) old new
 
+-- DELTAC, whose line this is, is carried out
 abbrev pub ChangesWork : Setting → Row → State → State → Type 0
 ChangesWork s line old new =
     Works (λ m. plain s m (line_of line)) (refined ChangesControls) old new

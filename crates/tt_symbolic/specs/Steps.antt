@@ -54,8 +54,8 @@ Dispatches setting bytes old new =
 abbrev pub allows : MachineSetting → Allowing
 allows s m old choices new = Allows (fetched s m) m.stack old choices new
 
--- the instruction that is there was carried out: no machine that the old state shows faults, and the
--- new state shows each machine that such a one becomes
+-- the instruction that is there was carried out: no machine that the old state shows faults, and
+-- the new state shows each machine that such a one becomes
 abbrev pub StepsTo : Setting → State → State → Type 0
 StepsTo setting old new =
     Sound (outcome (setting_of setting)) (allows (setting_of setting)) old new

@@ -42,7 +42,8 @@ fn truth(holds: bool) -> Cell
 
 /// Whether the cell is true, where that is always or never so.
 pub fn truth_of(cell: Cell, ranges: &[Range]) -> Option<bool>
-    ensures { IfSome result (λ b. (v : Valuation) → Fits ranges.now v → is_true (value v cell) ≡ b) }
+    ensures { IfSome result (λ b. (v : Valuation) → Fits ranges.now v
+        → is_true (value v cell) ≡ b) }
 {
     let (low, high) = bounds(cell, ranges)?;
     if low > 0 || high < 0 {

@@ -351,8 +351,8 @@ fn least_range(a: Cell, b: Cell, ranges: &[Range]) -> Answer
     }
 }
 
-/// Whether the first cell is never less than the second: true, if it is so, and false, if the second
-/// is never less than the first.
+/// Tells which cell is never less than the other, where that is known: true, if it is the first,
+/// and false, if it is the second.
 fn is_at_least(a: Cell, b: Cell, ranges: &[Range]) -> Option<bool>
     ensures { IfSome result (λ first. (v : Valuation) → Fits ranges.now v
         → IsOrdered first (value v a) (value v b)) }

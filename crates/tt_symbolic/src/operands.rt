@@ -20,7 +20,8 @@ use tt_symbolic_state::state::Zone;
 
 /// Whether the cell is always an index below the bound.
 pub fn is_index(ranges: &[Range], cell: Cell, bound: u32) -> bool
-    ensures { result ≡ true → (v : Valuation) → Fits ranges.now v → is_below (value v cell) bound ≡ true }
+    ensures { result ≡ true → (v : Valuation) → Fits ranges.now v
+        → is_below (value v cell) bound ≡ true }
 {
     match bounds(cell, ranges) {
         Some((low, high)) => low >= 0 && high < i64::from(bound),
@@ -94,9 +95,10 @@ fn take_zone(
     }
 }
 
-/// The count that the cell is.
+/// Returns the count that the cell is.
 fn count(ranges: &[Range], cell: Cell) -> Result<u32, Reason>
-    ensures { IfOk result (λ n. (v : Valuation) → Fits ranges.now v → count_of (value v cell) ≡ Ok n) }
+    ensures { IfOk result (λ n. (v : Valuation) → Fits ranges.now v
+        → count_of (value v cell) ≡ Ok n) }
 {
     match number(cell, ranges) {
         Some(number) => match u32::try_from(number) {

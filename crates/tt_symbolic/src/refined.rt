@@ -87,7 +87,8 @@ fn forget_pairs(state: &mut State, count: u32) -> Result<(), StepRefusal>
 
 /// Returns how many pairs are under the top.
 pub(crate) fn pair_count(state: &State) -> Result<u32, Reason>
-    ensures { IfOk result (λ n. (c : AnyCell) × (drop 0 state.now.stack ≡ c ∷ drop 1 state.now.stack)
+    ensures { IfOk result (λ n. (c : AnyCell)
+        × (drop 0 state.now.stack ≡ c ∷ drop 1 state.now.stack)
         × ((v : Valuation) → Fits state.now.ranges.items v → value v c ≡ pos n)) }
 {
     let top = cell_under(&state.stack, 0)?;
@@ -100,7 +101,8 @@ pub(crate) fn pair_count(state: &State) -> Result<u32, Reason>
     }
 }
 
-/// Carries out DELTAC, whose line this is: the control values that it names may be any numbers then.
+/// Carries out DELTAC, whose line this is: the control values that it names may be any numbers
+/// then.
 ///
 /// # Errors
 /// `Refused` where it may fault, or isn't known well enough; `OutOfMemory`.

@@ -31,7 +31,8 @@ fn execute_ordinary(
     instr: &Instr<'_>,
 ) -> Result<(), StepRefusal>
     ensures { OnOk result
-        (CarriesOut (setting_of setting.now) (always keeps_controls) instr.now state.old state.new) }
+        (CarriesOut (setting_of setting.now) (always keeps_controls) instr.now state.old
+        state.new) }
 {
     match entry(instr.code()) {
         Effect::Plain(line) => execute_plain(setting, state, line),

@@ -14,9 +14,10 @@ use tt_code::kinds::{Pointer, Reference, Within};
 use tt_symbolic_state::cell::Cell;
 use tt_symbolic_state::state::Zone;
 
-/// The cell of a reference point.
+/// Returns the cell of a reference point.
 pub fn reference(graphics: &Graphics<Cell, Zone>, reference: Reference) -> Cell
-    ensures { (v : Valuation) → value v result ≡ reference_of reference (graphics_of v graphics.now) }
+    ensures { (v : Valuation) → value v result
+        ≡ reference_of reference (graphics_of v graphics.now) }
 {
     match reference {
         Reference::Rp0 => graphics.rp0,
@@ -25,9 +26,10 @@ pub fn reference(graphics: &Graphics<Cell, Zone>, reference: Reference) -> Cell
     }
 }
 
-/// The zone that a pointer names.
+/// Returns the zone that a pointer names.
 pub fn pointer(graphics: &Graphics<Cell, Zone>, pointer: Pointer) -> Zone
-    ensures { (v : Valuation) → zone_number result ≡ pointer_of pointer (graphics_of v graphics.now) }
+    ensures { (v : Valuation) → zone_number result
+        ≡ pointer_of pointer (graphics_of v graphics.now) }
 {
     match pointer {
         Pointer::Zp0 => graphics.zp0,
@@ -91,7 +93,8 @@ pub fn contours(setting: &Setting<'_>, zone: Zone) -> u32
 /// Returns how many points there are in the smallest of the zones in which a point is tested.
 pub fn points_within(setting: &Setting<'_>, graphics: &Graphics<Cell, Zone>, within: Within) -> u32
     ensures { (v : Valuation) (z : ℤ)
-        → is_below z result ≡ is_point (setting_of setting.now) (graphics_of v graphics.now) within z }
+        → is_below z result
+        ≡ is_point (setting_of setting.now) (graphics_of v graphics.now) within z }
 {
     match within {
         Within::In(p) => points_in(setting, pointer(graphics, p)),

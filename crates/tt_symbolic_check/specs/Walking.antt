@@ -34,18 +34,18 @@ pub record IsIn (states : List State) (a : State) : Type 0 where
   pub found : slice_get states index ≡ Some a
 
 -- A walk from a state. One that may not stop meets no listed state before its first step.
-pub data Walks (setting : Setting) (kept : Kept) (listed : List State) (final : Walk) : Bool → State → Type 0
-  where
-    ends : (b : Bool) (a : State) → EndsAs setting a true → IsIn final.ends.items a
-        → Walks setting kept listed final b a
-    meets : (a : State) (index : ℕ) → IsCoveredBy listed index a
-        → slice_get final.walked.items index ≡ Some true → Walks setting kept listed final true a
-    goes : (b : Bool) (a c : State) → EndsAs setting a false → StepsTo setting a c
-        → StepsKeep (setting_of setting) kept a
-        → Walks setting kept listed final true c → Walks setting kept listed final b a
-    splits : (b : Bool) (a low high : State) → IsSplit a low high
-        → Walks setting kept listed final b low → Walks setting kept listed final b high
-        → Walks setting kept listed final b a
+pub data Walks (setting : Setting) (kept : Kept) (listed : List State) (final : Walk)
+    : Bool → State → Type 0 where
+  ends : (b : Bool) (a : State) → EndsAs setting a true → IsIn final.ends.items a
+      → Walks setting kept listed final b a
+  meets : (a : State) (index : ℕ) → IsCoveredBy listed index a
+      → slice_get final.walked.items index ≡ Some true → Walks setting kept listed final true a
+  goes : (b : Bool) (a c : State) → EndsAs setting a false → StepsTo setting a c
+      → StepsKeep (setting_of setting) kept a
+      → Walks setting kept listed final true c → Walks setting kept listed final b a
+  splits : (b : Bool) (a low high : State) → IsSplit a low high
+      → Walks setting kept listed final b low → Walks setting kept listed final b high
+      → Walks setting kept listed final b a
 
 -- what was walked, and which ends there are, is still so
 pub record Extends (old new : Walk) : Type 0 where
@@ -66,7 +66,8 @@ ListedWalk setting kept listed old new final =
     → (slice_get old.walked.items i ≡ Some true) ⊎ Walks setting kept listed final false a
 
 -- if all that waits afterwards walks, then so does all that waited, and this is so
-pub record Reaches (setting : Setting) (kept : Kept) (listed : List State) (old new : Walk)
+pub record Reaches (setting : Setting) (kept : Kept) (listed : List State)
+    (old new : Walk)
     (Claim : Walk → Type 0) : Type 0 where
   pub extends : Extends old new
   pub reaches : (final : Walk) → Extends new final
@@ -101,14 +102,16 @@ pub record PutsEnd (state : State) (old new : Walk) : Type 0 where
   pub pending : new.pending.items ≡ old.pending.items
 
 -- a start walks
-pub record StartWalks (setting : Setting) (kept : Kept) (listed : List State) (final : Walk) (start : Start)
+pub record StartWalks (setting : Setting) (kept : Kept) (listed : List State)
+    (final : Walk) (start : Start)
     : Type 0 where
   pub state : State
   pub is_start : IsStartState start state
   pub walks : Walks setting kept listed final true state
 
 -- nothing is walked yet, and if all that waits walks, the first starts walk
-pub record Begins (setting : Setting) (kept : Kept) (listed : List State) (count : ℕ) (starts : List Start)
+pub record Begins (setting : Setting) (kept : Kept) (listed : List State)
+    (count : ℕ) (starts : List Start)
     (walk : Walk) : Type 0 where
   pub none_walked : (i : ℕ) → slice_get walk.walked.items i ≡ Some true → ⊥
   pub begins : (final : Walk) → AllWalk setting kept listed final walk.pending.items → (i : ℕ)
@@ -116,6 +119,7 @@ pub record Begins (setting : Setting) (kept : Kept) (listed : List State) (count
       → StartWalks setting kept listed final start
 
 -- nothing waits any more, and what waited was walked
-pub record Finishes (setting : Setting) (kept : Kept) (listed : List State) (old new : Walk) : Type 0 where
+pub record Finishes (setting : Setting) (kept : Kept) (listed : List State)
+    (old new : Walk) : Type 0 where
   pub none_pending : new.pending.items ≡ []
   pub reaches : Reaches setting kept listed old new (λ final. Unit {0})

@@ -13,14 +13,14 @@ use tt_abs::Setting;
 use tt_symbolic::kept::Kept;
 use tt_symbolic_state::state::State;
 
-/// Checks a program that starts in one of these ways, by listed states: it is walked from its starts
-/// on, and what comes to a listed state that covers it is walked from there once. Returns the states
-/// at the main program's end. It writes none of the kept entries.
+/// Checks a program that starts in one of these ways, by listed states: it is walked from its
+/// starts on, and what comes to a listed state that covers it is walked from there once. Returns the
+/// states at the main program's end. The program writes none of the kept entries.
 ///
 /// # Errors
-/// `Step`, where an instruction is refused: for a reason, where a run may fault or not enough is known;
-/// for a kept entry, where it may be written; or since memory ran out. `BudgetMet`, where the walk isn't
-/// done after so many steps.
+/// `Step`, where an instruction is refused: for a reason, where a run may fault or not enough is
+/// known; for a kept entry, where it may be written; or since memory ran out. `BudgetMet`, where the
+/// walk isn't done after so many steps.
 pub fn check(
     alloc: Global,
     setting: &Setting<'_>,

@@ -8,8 +8,8 @@ pub fn runs_are_runs()
     ensures { RunsAreRuns }
 {}
 
-/// States that each machine with which a program starts here is one with which it starts there, with
-/// the known functions.
+/// States that each machine with which a program starts here is one with which it starts there,
+/// with the known functions.
 pub fn starts_are_starts()
     ensures { StartsAreStarts }
 {}

@@ -104,8 +104,8 @@ fn at_end_of_body(state: &State) -> Option<Split> {
     }
 }
 
-/// Returns the split that the instruction wants where the state is, if it wants one: IF, JROT, JROF,
-/// comparisons, CALL, LOOPCALL and ENDF want some. A comparison wants one where the range of the
+/// Returns the split that the instruction wants where the state is, if it wants one: IF, JROT,
+/// JROF, comparisons, CALL, LOOPCALL and ENDF want some. A comparison wants one where the range of the
 /// symbol has at most as many numbers as the widest.
 pub fn wanted(setting: &Setting<'_>, state: &State, widest: i64) -> Option<Split> {
     let ranges = state.ranges.as_slice();

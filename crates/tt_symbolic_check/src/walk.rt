@@ -349,8 +349,8 @@ pub fn begin(
 /// Carries on what waits, until nothing does.
 ///
 /// # Errors
-/// `BudgetMet`, where something waits after so many steps; `Step`, where an instruction is refused, or
-/// memory runs out.
+/// `BudgetMet`, where something waits after so many steps; `Step`, where an instruction is refused,
+/// or memory runs out.
 pub fn walk_on(
     alloc: Global,
     setting: &Setting<'_>,

@@ -1,5 +1,5 @@
--- The hint machine with its control values. Its steps are those of the hint machine in which some of
--- the numbers that are any there are these. (Apple TrueType Reference Manual, "The TrueType
+-- The hint machine with its control values. Its steps are those of the hint machine in which some
+-- of the numbers that are any there are these. (Apple TrueType Reference Manual, "The TrueType
 -- instruction set": RCVT, WCVTP, WCVTF, DELTAC, MAX, MIN, MUL, DIV, FLOOR and CEILING.) Numbers in
 -- 26.6 are counted in sixty-fourths. Own: control values are read as they are written.
 use Rattle.std.specs.Prelude.{◌≡◌, ◌⊎◌, ℕ, ◌+◌, ◌<◌, ℤ, pos, ◌+ℤ◌, ◌-ℤ◌, ◌*ℤ◌, ◌≤ℤ◌, ◌<ℤ◌, List, [], ◌∷◌, drop, Option, None, Some, nat_eq, if◌then◌else◌}
@@ -65,8 +65,8 @@ pub record IsPaired (count : ℕ) (stack : List ℤ) (k : ℕ) : Type 0 where
   pub at : drop (place + place) stack ≡ index ∷ below
   pub is : k ≡ natural index
 
--- MUL is exact where an operand is a whole number of units of 64, and the product is a number of the
--- machine
+-- MUL is exact where an operand is a whole number of units of 64, and the product is a number of
+-- the machine
 pub record IsProduct (a b z : ℤ) : Type 0 where
   pub first_whole : (k : ℤ) → a ≡ k *ℤ pos 64 → IsNumber (k *ℤ b) → z ≡ k *ℤ b
   pub second_whole : (k : ℤ) → b ≡ k *ℤ pos 64 → IsNumber (k *ℤ a) → z ≡ k *ℤ a

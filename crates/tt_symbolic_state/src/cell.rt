@@ -100,7 +100,8 @@ pub fn number(cell: Cell, ranges: &[Range]) -> Option<i32>
 
 /// Whether the cell's value is always a number of the machine.
 pub fn is_in_machine(cell: Cell, ranges: &[Range]) -> bool
-    ensures { IsTrue result → (v : Valuation) → Fits ranges.now v → is_number (value v cell) ≡ true }
+    ensures { IsTrue result → (v : Valuation) → Fits ranges.now v
+        → is_number (value v cell) ≡ true }
 {
     match bounds(cell, ranges) {
         Some((low, high)) => low >= i64::from(i32::MIN) && high <= i64::from(i32::MAX),

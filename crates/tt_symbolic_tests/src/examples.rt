@@ -1,8 +1,8 @@
-//! Programs with what the check says of them, where no states are listed. The fonts have a stack of 8
-//! elements, 10 control values, 4 storage cells, 2 functions, a twilight zone of 4 points and a glyph
-//! with 4 points and 4 phantom points.
+//! Programs with what the check says of them, where no states are listed. The fonts have a stack of
+//! 8 elements, 10 control values, 4 storage cells, 2 functions, a twilight zone of 4 points and a
+//! glyph with 4 points and 4 phantom points.
 
-use hintcheck_test_fixtures::programs::{LIMITS, cut};
+use crate::programs::{LIMITS, cut};
 use std::alloc::Global;
 use tt_abs::Setting;
 use tt_symbolic::kept::NOTHING_KEPT;
@@ -15,7 +15,8 @@ const EFFORT: Effort = Effort {
     widest_compared: 1 << 33,
 };
 
-/// A font program, a CVT program, a glyph program, and the number of its refusal: 0 where it has none.
+/// A font program, a CVT program, a glyph program, and the number of its refusal: 0 where it has
+/// none.
 #[derive(Clone, Copy)]
 struct Case {
     name: &'static str,
@@ -54,8 +55,8 @@ fn last_end(alloc: Global, ends: Vec<State>) -> Start {
     }
 }
 
-/// Checks the programs one after the other, each from what is known at the end of the one before, and
-/// returns the number of the refusal.
+/// Checks the programs one after the other, each from what is known at the end of the one before,
+/// and returns the number of the refusal.
 fn answer(alloc: Global, case: Case) -> u8 {
     let Some(font) = cut(alloc, case.font) else {
         return 20;

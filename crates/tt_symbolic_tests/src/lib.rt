@@ -6,3 +6,5 @@
 mod examples;
 #[cfg(test)]
 mod listed;
+#[cfg(test)]
+mod programs;

@@ -1,6 +1,6 @@
 //! Programs that are checked by listed states.
 
-use hintcheck_test_fixtures::programs::{LIMITS, cut};
+use crate::programs::{LIMITS, cut};
 use std::alloc::{AllocError, Global};
 use tt_abs::Setting;
 use tt_symbolic::kept::{Kept, NOTHING_KEPT};
@@ -39,8 +39,8 @@ fn in_body(alloc: Global, range: Range, factor: i32) -> Result<State, AllocError
     Ok(state)
 }
 
-/// Checks MPPEM, PUSHB 0, LOOPCALL by the listed states, where function 0 does nothing. Answers 0, or
-/// the number of the refusal.
+/// Checks MPPEM, PUSHB 0, LOOPCALL by the listed states, where function 0 does nothing. Answers 0,
+/// or the number of the refusal.
 fn answer_by(alloc: Global, listed: &[State]) -> u8 {
     let Some(font) = cut(alloc, &[0xb0, 0x00, 0x2c, 0x2d]) else {
         return 20;
