@@ -1,0 +1,201 @@
+-- An instruction by its code, at its place.
+use Rattle.std.proofs.Common.{◌≡◌, ℕ, suc, ◌+◌, ◌≤◌, ℤ, List, [], ◌∷◌, Ok, Option, Some, Bool, true, false, nat_eq, nat_le, refl, sym, ◌∙◌, ap, subst, arith, length}
+use Rattle.std.proofs.lemmas.Bool.{eqb-true, leb-false}
+use Rattle.std.proofs.lemmas.List.{length-map}
+use Rattle.tt_code.specs.Refusals.{Tested, ◌>>=◌}
+use Rattle.tt_code.specs.Cut.{Instruction, code_of, data_of, data_in, data_after, instruction_at}
+use Rattle.tt_code.specs.Table.{Lists, Meaning, Plain, Pushes, Stack, Computes, Controls, effect_of}
+use Rattle.tt_code.specs.Computing.{computed, exactly, numbers_in, pushed, shuffled}
+use Rattle.tt_code.specs.Control.{controlled}
+use Rattle.tt_code.specs.Changes.{plain}
+use Rattle.tt_code.specs.Settings.{Setting as MachineSetting, program_of, starts_in_body}
+use Rattle.tt_code.specs.States.{Machine, Outcome, Exactly}
+use Rattle.tt_code.specs.Runs.{Choices, does, fetched, goes_on, outcome, performs, pushed_on, within_depth}
+use Rattle.tt_abs.specs.declared.setting.Setting.{Setting}
+use Rattle.tt_abs.specs.declared.setting.Point.{Point}
+use Rattle.tt_abs.specs.Settings.{frames_of, setting_of}
+use Rattle.tt_code.specs.declared.kinds.Push.{Push}
+use Rattle.tt_code.specs.declared.kinds.StackOp.{StackOp}
+use Rattle.tt_code.specs.declared.kinds.Control.{Control}
+use Rattle.tt_code.specs.declared.kinds.Arithmetic.{Arithmetic}
+use Rattle.tt_symbolic_state.specs.Values.{Valuation, value}
+use Rattle.tt_symbolic_state.specs.declared.state.State.{State}
+use Rattle.tt_symbolic_state.specs.CvtMachine.{Allows, ChangesControls, Ordinary, Refines, Refinement, refinement_of}
+use Rattle.tt_symbolic_state.specs.Shows.{Shows, values}
+use Rattle.tt_symbolic.specs.Sound.{Allowing, Computes as IsComputed, Restacks, Sound, Works, keeps_controls}
+use Rattle.tt_symbolic.specs.Refined.{of_one_line, of_two_line, read_line, refined, write_line}
+use Rattle.tt_symbolic.specs.Leading.{IsAt}
+use Rattle.tt_symbolic.proofs.Controls.{starts_there}
+use Rattle.tt_symbolic.specs.Steps.{Dispatches, DoesHere, PutsNumbers, StepsTo, numbers_on, refined_by}
+use Rattle.tt_symbolic.proofs.Works.{restacks_works, works_sound}
+
+pub first_code : (i : Instruction) (c code : ℕ) (rest : List ℕ) → code_of i ≡ Some c → i ≡ code ∷ rest → code ≡ c
+first_code [] c code rest e f = absurd (cc)
+first_code (d ∷ ds) c code rest e f = cc
+
+-- a plain line
+pub plain_here : (s : MachineSetting) (A : Allowing) (line : Lists) (code : ℕ) (rest : List ℕ) (old new : State) → effect_of code ≡ Plain line → Works (λ m. plain s m line) A old new → DoesHere s A code rest old new
+plain_here s A line code rest old new e w = record { what = λ m. plain s m line; does_it = λ m next. rw e refl; works = w }
+
+pub stack_here : (s : MachineSetting) (op : StackOp) (code : ℕ) (rest : List ℕ) (old new : State) → effect_of code ≡ Stack op → new ≡ record old { stack = new.stack } → Restacks (shuffled op) old.ranges.items old.stack new.stack → DoesHere s keeps_controls code rest old new
+stack_here s op code rest old new e same w = record { what = shuffled op; does_it = λ m next. rw e refl; works = restacks_works (shuffled op) old new same w }
+
+pub computes_here : (s : MachineSetting) (op : Arithmetic) (code : ℕ) (rest : List ℕ) (old new : State) → effect_of code ≡ Computes op → IsComputed op old new → DoesHere s keeps_controls code rest old new
+computes_here s op code rest old new e w = record { what = λ m. computed op m; does_it = λ m next. rw e refl; works = w }
+
+-- numbers that are pushed
+pushed_numbers : (zs stack : List ℤ) (choices : Choices) → pushed_on (exactly zs) choices stack ≡ numbers_on zs stack
+pushed_numbers [] stack choices = refl
+pushed_numbers (z ∷ zs) stack choices = pushed_numbers zs (z ∷ stack) (λ i. choices (suc i))
+
+numbers_length : (zs stack : List ℤ) → length (numbers_on zs stack) ≡ length stack + length zs
+numbers_length [] stack = omega arith
+numbers_length (z ∷ zs) stack = let e = numbers_length zs (z ∷ stack) in omega arith
+
+data_restack : (push : Push) (rest : List ℕ) (old new : State) → PutsNumbers (numbers_in push (data_after push rest)) old.stack new.stack → Restacks (λ m. Ok (pushed push m rest)) old.ranges.items old.stack new.stack
+data_restack push rest old new p = record {
+  restacks = λ v m fits e.
+      let zs = numbers_in push (data_after push rest) in (
+        m.stack,
+        exactly zs,
+        refl,
+        (λ choices. pushed_numbers zs m.stack choices ∙ ap (numbers_on zs) e ∙ sym (p.puts v)),
+        (let n = ap length (p.puts v) in let l = numbers_length zs (values v old.stack) in let a = length-map old.stack (value v) in let b = length-map new.stack (value v) in let c = length-map zs Exactly in let d = ap length e in omega arith),
+      );
+}
+
+pub data_here : (s : MachineSetting) (push : Push) (i : Instruction) (bytes : List ℕ) (code : ℕ) (rest : List ℕ) (old new : State) → effect_of code ≡ Pushes push → i ≡ code ∷ rest → bytes ≡ data_of i → new ≡ record old { stack = new.stack }
+    → PutsNumbers (numbers_in push bytes) old.stack new.stack → DoesHere s keeps_controls code rest old new
+data_here s push i bytes code rest old new e f g same p =
+    let is : bytes ≡ data_after push rest = g ∙ ap data_of f ∙ ap (λ w. data_in w rest) e in
+    let q = subst (λ (b : List ℕ). PutsNumbers (numbers_in push b) old.stack new.stack) is p in
+    record { what = λ m. Ok (pushed push m rest); does_it = λ m next. rw e refl; works = restacks_works (λ m. Ok (pushed push m rest)) old new same (data_restack push rest old new q) }
+
+-- what is allowed, by the code
+works_allowed : (what : Machine → Tested Outcome) (A B : Allowing) (old new : State) → ((m : Machine) (k : ℕ → ℤ) (choices : Choices) (k' : ℕ → ℤ) → B m k choices k' → A m k choices k') → Works what A old new → Works what B old new
+works_allowed what A B old new f w = record {
+  stays = w.stays;
+  works = λ v m controls fits h.
+      let g = w.works v m controls fits h in
+      record { after = g.after; goes = g.goes; deep = g.deep; into = λ choices controls' numbers b. g.into choices controls' numbers (f m controls choices controls' b) };
+}
+
+pub here_allowed : (s : MachineSetting) (A B : Allowing) (code : ℕ) (rest : List ℕ) (old new : State) → ((m : Machine) (k : ℕ → ℤ) (choices : Choices) (k' : ℕ → ℤ) → B m k choices k' → A m k choices k') → DoesHere s A code rest old new → DoesHere s B code rest old new
+here_allowed s A B code rest old new f h = record { what = h.what; does_it = h.does_it; works = works_allowed h.what A B old new f h.works }
+
+pub ordinary_here : (s : MachineSetting) (code : ℕ) (rest : List ℕ) (old new : State) → refinement_of code ≡ Ordinary → DoesHere s keeps_controls code rest old new → DoesHere s (refined_by code) code rest old new
+ordinary_here s code rest old new e h = here_allowed s keeps_controls (refined_by code) code rest old new (λ m k choices k' r. subst (λ (x : Refinement). Refines x m.stack k choices k') e r) h
+
+pub refined_here : (s : MachineSetting) (kind : Refinement) (line : Lists) (code : ℕ) (rest : List ℕ) (old new : State) → refinement_of code ≡ kind → effect_of code ≡ Plain line → Works (λ m. plain s m line) (refined kind) old new → DoesHere s (refined_by code) code rest old new
+refined_here s kind line code rest old new e f w = here_allowed s (refined kind) (refined_by code) code rest old new (λ m k choices k' r. subst (λ (x : Refinement). Refines x m.stack k choices k') e r) (plain_here s (refined kind) line code rest old new f w)
+
+-- the same at a place
+sound_same : (d e : Machine → Tested Outcome) (A B : Allowing) (old new : State)
+    → ((m : Machine) → m.offset ≡ old.offset → e m ≡ d m) → ((m : Machine) (k : ℕ → ℤ) (choices : Choices) (k' : ℕ → ℤ) → B m k choices k' → A m k choices k')
+    → Sound d A old new → Sound e B old new
+sound_same d e A B old new f g h = record {
+  sound = λ m controls a.
+      let w = h.sound m controls a in
+      record { after = w.after; goes = f m a.offset_is ∙ w.goes; deep = w.deep; into = λ choices controls' numbers b. w.into choices controls' numbers (g m controls choices controls' b) };
+}
+
+pub here_sound : (s : MachineSetting) (code : ℕ) (rest : List ℕ) (old middle new : State) (next : ℕ) → next ≡ old.offset + suc (length rest) → new ≡ record middle { offset = new.offset } → next ≡ new.offset → DoesHere s (refined_by code) code rest old middle
+    → Sound (λ m. does s m (effect_of code) rest (m.offset + suc (length rest))) (refined_by code) old new
+here_sound s code rest old middle new next e same at h =
+    sound_same (λ m. goes_on next (h.what m)) (λ m. does s m (effect_of code) rest (m.offset + suc (length rest))) (refined_by code) (refined_by code) old new
+    (λ m o. h.does_it m (m.offset + suc (length rest)) ∙ ap (λ (n : ℕ). goes_on n (h.what m)) (ap (λ (n : ℕ). n + suc (length rest)) o ∙ sym e)) (λ m k choices k' b. b)
+    (works_sound h.what (refined_by code) old middle new next h.works same at)
+
+pub control_sound : (s : MachineSetting) (op : Control) (code : ℕ) (rest : List ℕ) (old new : State) → effect_of code ≡ Controls op → refinement_of code ≡ Ordinary
+    → Sound (λ m. controlled s m op) keeps_controls old new → Sound (λ m. does s m (effect_of code) rest (m.offset + suc (length rest))) (refined_by code) old new
+control_sound s op code rest old new e f h =
+    sound_same (λ m. controlled s m op) (λ m. does s m (effect_of code) rest (m.offset + suc (length rest))) keeps_controls (refined_by code) old new
+    (λ m o. rw e refl) (λ m k choices k' r. subst (λ (x : Refinement). Refines x m.stack k choices k') f r) h
+
+le_true : (a b : ℕ) → a ≤ b → nat_le a b ≡ true
+le_true a b h = go (nat_le a b) refl
+  where
+    go : (x : Bool) → nat_le a b ≡ x → x ≡ true
+    go true e = refl
+    go false e = let w = leb-false a b e in absurd (omega arith)
+
+-- the instruction that is there
+pub there : (setting : Setting) (point : Point) (v : Valuation) (a : State) (i : Instruction) (m : Machine) (controls : ℕ → ℤ) → IsAt point a → starts_in_body (setting_of setting) (frames_of point) point.offset ≡ true → instruction_at (program_of (setting_of setting) (frames_of point)) point.offset ≡ Some i
+    → Shows v a m controls → m.offset ≡ a.offset → fetched (setting_of setting) m ≡ Some i
+there setting point v a i m controls at starts is h o =
+    let (same, program) = starts_there (setting_of setting) v point a m controls at h in
+    let q : m.offset ≡ point.offset = o ∙ sym at.offset_is in
+    let t : starts_in_body (setting_of setting) m.frames m.offset ≡ true = same ∙ ap (starts_in_body (setting_of setting) (frames_of point)) q ∙ starts in
+    let k : instruction_at (program_of (setting_of setting) m.frames) m.offset ≡ Some i = rw (program, q) is in
+    rw (t) k
+
+pub outcome_is : (s : MachineSetting) (m : Machine) (i : Instruction) → fetched s m ≡ Some i → outcome s m ≡ performs s m (Some i)
+unfolding outcome
+outcome_is s m i e = ap (performs s m) e
+
+within : (s : MachineSetting) (o : Outcome) (depth : ℕ) → length o.after.stack + length o.pushes ≡ depth → depth ≤ s.limits.stack → within_depth s o ≡ Ok o
+within s o depth d h = let t : nat_le (length o.after.stack + length o.pushes) s.limits.stack ≡ true = le_true (length o.after.stack + length o.pushes) s.limits.stack (omega arith) in rw t refl
+
+pub steps : (setting : Setting) (point : Point) (i : Instruction) (old new : State) → IsAt point old → starts_in_body (setting_of setting) (frames_of point) point.offset ≡ true → instruction_at (program_of (setting_of setting) (frames_of point)) point.offset ≡ Some i
+    → Dispatches setting i old new → (c : ℕ) → code_of i ≡ Some c
+    → length new.stack ≤ setting.limits.stack → StepsTo setting old new
+steps setting point [] old new at starts is h c e deep = absurd (cc)
+steps setting point (code ∷ rest) old new at starts is h c e deep = record {
+  sound = λ m controls a.
+      let w = (h code rest refl).sound m controls a in
+      let fetches : fetched (setting_of setting) m ≡ Some (code ∷ rest) = there setting point a.valuation old (code ∷ rest) m controls at starts is a.shows a.offset_is in
+      record {
+        after = w.after;
+        goes = outcome_is (setting_of setting) m (code ∷ rest) fetches ∙ ap (λ r. r >>= within_depth (setting_of setting)) w.goes ∙ within (setting_of setting) w.after (length new.stack) w.deep deep;
+        deep = w.deep;
+        into = λ choices controls' numbers b. w.into choices controls' numbers (subst (λ (o : Option Instruction). Allows o m.stack controls choices controls') fetches b);
+      };
+}
+
+-- The codes.
+
+pub read_effect : effect_of 0x45 ≡ Plain read_line
+unfolding effect_of
+read_effect = refl
+
+pub write_effect : effect_of 0x44 ≡ Plain write_line
+unfolding effect_of
+write_effect = refl
+
+pub exact_effects : (effect_of 0x8b ≡ Plain of_two_line) × (effect_of 0x8c ≡ Plain of_two_line) × (effect_of 0x63 ≡ Plain of_two_line) × (effect_of 0x62 ≡ Plain of_two_line) × (effect_of 0x66 ≡ Plain of_one_line) × (effect_of 0x67 ≡ Plain of_one_line)
+unfolding effect_of
+exact_effects = (refl, refl, refl, refl, refl, refl)
+
+not_eq : (code n : ℕ) → (code ≡ n → ⊥) → nat_eq code n ≡ false
+not_eq code n h = go (nat_eq code n) refl
+  where
+    go : (b : Bool) → nat_eq code n ≡ b → b ≡ false
+    go true e = absurd (h (eqb-true code n e))
+    go false e = refl
+
+pub ordinary : (code : ℕ) → (code ≡ 0x45 → ⊥) → (code ≡ 0x44 → ⊥) → (code ≡ 0x70 → ⊥) → (code ≡ 0x73 → ⊥) → (code ≡ 0x74 → ⊥) → (code ≡ 0x75 → ⊥) → (code ≡ 0x8b → ⊥) → (code ≡ 0x8c → ⊥) → (code ≡ 0x63 → ⊥) → (code ≡ 0x62 → ⊥) → (code ≡ 0x66 → ⊥) → (code ≡ 0x67 → ⊥) → refinement_of code ≡ Ordinary
+ordinary code a b c d e f g h i j k l = rw (not_eq code 0x45 a, not_eq code 0x44 b, not_eq code 0x70 c, not_eq code 0x73 d, not_eq code 0x74 e, not_eq code 0x75 f, not_eq code 0x8b g, not_eq code 0x8c h, not_eq code 0x63 i, not_eq code 0x62 j, not_eq code 0x66 k, not_eq code 0x67 l) refl
+
+abbrev is_plain : Meaning → Bool
+is_plain (Plain line) = true
+is_plain _ = false
+
+plains : (is_plain (effect_of 0x45) ≡ true) × (is_plain (effect_of 0x44) ≡ true) × (is_plain (effect_of 0x70) ≡ true) × (is_plain (effect_of 0x73) ≡ true) × (is_plain (effect_of 0x74) ≡ true) × (is_plain (effect_of 0x75) ≡ true) × (is_plain (effect_of 0x8b) ≡ true) × (is_plain (effect_of 0x8c) ≡ true) × (is_plain (effect_of 0x63) ≡ true) × (is_plain (effect_of 0x62) ≡ true) × (is_plain (effect_of 0x66) ≡ true) × (is_plain (effect_of 0x67) ≡ true)
+unfolding effect_of
+plains = (refl, refl, refl, refl, refl, refl, refl, refl, refl, refl, refl, refl)
+
+pub control_ordinary : (code : ℕ) (op : Control) → effect_of code ≡ Controls op → refinement_of code ≡ Ordinary
+control_ordinary code op e = ordinary code (no 0x45 plains.0) (no 0x44 plains.1) (no 0x70 plains.2) (no 0x73 plains.3) (no 0x74 plains.4) (no 0x75 plains.5) (no 0x8b plains.6) (no 0x8c plains.7) (no 0x63 plains.8) (no 0x62 plains.9) (no 0x66 plains.10) (no 0x67 plains.11)
+  where
+    no : (n : ℕ) → is_plain (effect_of n) ≡ true → code ≡ n → ⊥
+    no n p q = let f : is_plain (Controls op) ≡ true = ap is_plain (sym e ∙ ap effect_of q) ∙ p in cc
+
+pub delta_here : (s : MachineSetting) (line : Lists) (code : ℕ) (rest : List ℕ) (old new : State) → refinement_of code ≡ ChangesControls → effect_of code ≡ Plain line → Works (λ m. plain s m line) (refined ChangesControls) old new → DoesHere s (refined_by code) code rest old new
+delta_here s line code rest old new e f w = refined_here s ChangesControls line code rest old new e f w
+
+pub change_effect : effect_of 0x70 ≡ Plain write_line
+unfolding effect_of
+change_effect = refl
+
+pub code_is : (i : Instruction) (c d : ℕ) → code_of i ≡ Some c → code_of i ≡ Some d → c ≡ d
+code_is i c d e f = cc

@@ -1,0 +1,5 @@
+use Rattle.tt_symbolic.specs.Areas.{ForgetsPairs}
+use Rattle.tt_symbolic.proofs.refined.forget_pairs.Given as goal
+
+abbrev pub invariant-loop-pair : goal.invariant-loop-pair
+invariant-loop-pair l = ForgetsPairs l.pair l.initial.state l.state

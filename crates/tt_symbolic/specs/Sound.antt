@@ -1,0 +1,138 @@
+-- What it means that a change of a symbolic state is sound for what the machine does.
+use Rattle.std.specs.Prelude.{◌≡◌, ◌+◌, ℕ, ℤ, List, ◌∷◌, Ok, length, suc, Bool, true, false, not, ◌&&◌, ◌||◌, ◌+ℤ◌, ◌-ℤ◌, neg_ℤ, int_lt, int_le}
+use Rattle.tt_code.specs.Refusals.{Tested}
+use Rattle.tt_code.specs.States.{Machine, Outcome, Value, leaves, IsNumber, is_true}
+use Rattle.tt_code.specs.Computing.{computed, exact, truth, absolute, equal}
+use Rattle.tt_code.specs.declared.kinds.Arithmetic.{Arithmetic}
+use Rattle.tt_code.specs.declared.kinds.Arithmetic.TheVariants.{Add, Sub, Abs, Neg, Lt, LtEq, Gt, GtEq, Eq, Neq, And, Or, Not}
+use Rattle.tt_code.specs.Runs.{Choices, left_by, pushed_on, value as number_of}
+use Rattle.tt_symbolic_state.specs.declared.cell.Cell.{Cell}
+use Rattle.tt_symbolic_state.specs.declared.cell.Range.{Range}
+use Rattle.tt_symbolic_state.specs.Values.{Fits, IsWithin, Valuation, value}
+use Rattle.tt_symbolic_state.specs.CvtMachine.{SameControls}
+use Rattle.tt_symbolic_state.specs.Shows.{IsShown, Shows, values}
+use Rattle.tt_symbolic_state.specs.declared.state.State.{State}
+use Rattle.tt_symbolic.specs.declared.answer.Answer.{Answer}
+use Rattle.tt_symbolic.specs.declared.answer.Answer.TheVariants.{Exactly, Within}
+
+-- which choices and new control values a machine with these control values may have
+abbrev pub Allowing : Type 1
+Allowing = Machine → (ℕ → ℤ) → Choices → (ℕ → ℤ) → Type 0
+
+-- the control values stay
+abbrev pub keeps_controls : Allowing
+keeps_controls m old choices new = SameControls old new
+
+-- the machine doesn't fault, and whatever the choices that are allowed, it comes to such a machine,
+-- with a stack of this depth
+pub record Goes (result : Tested Outcome) (depth : ℕ) (Allowed : Choices → (ℕ → ℤ) → Type 0)
+    (Into : Machine → (ℕ → ℤ) → Type 0) : Type 0 where
+  pub after : Outcome
+  pub goes : result ≡ Ok after
+  pub deep : length after.after.stack + length after.pushes ≡ depth
+  pub into : (choices : Choices) (controls : ℕ → ℤ) → ((i : ℕ) → IsNumber (choices i))
+      → Allowed choices controls → Into (left_by after choices) controls
+
+-- the state shows the machine by some valuation, wherever the machine is
+pub record ShowsSome (a : State) (m : Machine) (controls : ℕ → ℤ) : Type 0 where
+  pub valuation : Valuation
+  pub fits : Fits a.ranges.items valuation
+  pub shows : Shows valuation a m controls
+
+-- the state shows the machine, which is at its offset, by this valuation
+pub record IsShownBy (v : Valuation) (a : State) (m : Machine) (controls : ℕ → ℤ) : Type 0 where
+  pub fits : Fits a.ranges.items v
+  pub shows : Shows v a m controls
+  pub offset_is : m.offset ≡ a.offset
+
+-- the old state became the new one as the machine does this, without leading elsewhere
+pub record Works (does : Machine → Tested Outcome) (Allowed : Allowing) (old new : State) : Type 0
+  where
+    pub works : (v : Valuation) (m : Machine) (controls : ℕ → ℤ) → Fits old.ranges.items v
+        → Shows v old m controls
+        → Goes (does m) (length new.stack) (Allowed m controls) (ShowsSome new)
+    pub stays : new.offset ≡ old.offset
+
+-- the same of an instruction that leads from a place to a place
+pub record Sound (does : Machine → Tested Outcome) (Allowed : Allowing) (old new : State) : Type 0
+  where
+    pub sound : (m : Machine) (controls : ℕ → ℤ) → IsShown old m controls
+        → Goes (does m) (length new.stack) (Allowed m controls) (IsShown new)
+
+-- one stack became another as the machine does this, whatever else there is
+pub record Restacks (does : Machine → Tested Outcome) (ranges : List Range) (old new : List Cell)
+    : Type 0 where
+  pub restacks : (v : Valuation) (m : Machine) → Fits ranges v → m.stack ≡ values v old
+      → (rest : List ℤ) × (pushes : List Value) × (does m ≡ Ok (leaves m rest pushes))
+      × ((choices : Choices) → pushed_on pushes choices rest ≡ values v new)
+      × (length rest + length pushes ≡ length new)
+
+-- a number that is one of these for the machine is put on its stack
+pub record Puts (These : Valuation → Machine → (ℕ → ℤ) → ℤ → Type 0) (old new : State) : Type 0
+  where
+    pub puts : (v : Valuation) (m : Machine) (controls : ℕ → ℤ) → Fits old.ranges.items v
+        → Shows v old m controls → (z : ℤ) → These v m controls z
+        → ShowsSome new (record m { stack = z ∷ m.stack }) controls
+    pub deeper : length new.stack ≡ suc (length old.stack)
+    pub stays : new.offset ≡ old.offset
+
+-- the state without its top, which is this cell
+pub record Pops (old new : State) (cell : Cell) : Type 0 where
+  pub top : old.stack ≡ cell ∷ new.stack
+  pub same : new ≡ record old { stack = new.stack }
+
+-- the state with this cell on top
+pub record Pushes (old new : State) (cell : Cell) : Type 0 where
+  pub top : new.stack ≡ cell ∷ old.stack
+  pub same : new ≡ record old { stack = new.stack }
+
+-- What an instruction computes.
+
+-- the number is what the answer tells
+abbrev pub IsAnswer : Answer → Valuation → ℤ → Type 0
+IsAnswer (Exactly cell) v z = z ≡ value v cell
+IsAnswer (Within range) v z = IsWithin range z
+
+-- the answer tells of each of these numbers, if it is one of the machine
+pub record Answers (These : Valuation → ℤ → Type 0) (ranges : List Range) (answer : Answer) : Type 0
+  where
+    pub answers : (v : Valuation) → Fits ranges v → (z : ℤ) → IsNumber z → These v z
+        → IsAnswer answer v z
+
+-- what an arithmetic instruction makes of the number below the top and the top
+abbrev pub result_of : Arithmetic → ℤ → ℤ → Value
+result_of Add a b = exact (a +ℤ b)
+result_of Sub a b = exact (a -ℤ b)
+result_of Abs a b = exact (absolute b)
+result_of Neg a b = exact (neg_ℤ b)
+result_of Lt a b = truth (int_lt a b)
+result_of LtEq a b = truth (int_le a b)
+result_of Gt a b = truth (int_lt b a)
+result_of GtEq a b = truth (int_le b a)
+result_of Eq a b = truth (equal a b)
+result_of Neq a b = truth (not (equal a b))
+result_of And a b = truth (is_true a && is_true b)
+result_of Or a b = truth (is_true a || is_true b)
+result_of Not a b = truth (not (is_true b))
+
+-- whether it takes the top only
+abbrev pub takes_one : Arithmetic → Bool
+takes_one Abs = true
+takes_one Neg = true
+takes_one Not = true
+takes_one _ = false
+
+-- the number is what such an instruction may push
+pub record IsResult (op : Arithmetic) (a b z : ℤ) : Type 0 where
+  pub choice : ℤ
+  pub is_number : IsNumber choice
+  pub result : z ≡ number_of (result_of op a b) choice
+
+-- the answer tells what the instruction makes of these cells
+abbrev pub AnswersResult : Arithmetic → Cell → Cell → List Range → Answer → Type 0
+AnswersResult op a b ranges answer =
+    Answers (λ v z. IsResult op (value v a) (value v b) z) ranges answer
+
+-- the instruction is carried out
+abbrev pub Computes : Arithmetic → State → State → Type 0
+Computes op old new = Works (λ m. computed op m) keeps_controls old new

@@ -1,0 +1,208 @@
+//! Memory entries that a program may not write.
+
+ghost use Rattle.std.specs.Prelude.{◌≡◌, ℕ, true, false};
+ghost use Rattle.std.specs.List.{All};
+ghost use Rattle.tt_abs.specs.Settings.{setting_of};
+ghost use Rattle.tt_symbolic.specs.Areas.{IsOutside};
+ghost use Rattle.tt_symbolic.specs.Keeping.{AreAllPairsNoneOf, ArePairsNoneOf, IsNoStore, IsNoneOf, IsPairNoneOf, IsSecondNoneOf, KeepsControls, KeepsStorage, StoresNothing};
+ghost use Rattle.tt_symbolic.specs.Kept.{StepsKeep};
+ghost use Rattle.tt_symbolic.specs.Leading.{IsAt};
+
+use crate::changes::index_bounds;
+use crate::refined::pair_count;
+use crate::shuffle::cell_under;
+use crate::step::{frame_of, innermost, is_ordinary};
+use tt_abs::{Point, Setting};
+use tt_code::entry;
+use tt_code::kinds::{Effect, Update};
+use tt_symbolic_state::cell::{Cell, Range};
+use tt_symbolic_state::state::State;
+
+/// The memory entries that a program may not write.
+#[derive(Clone, Copy)]
+pub struct Kept<'a> {
+    /// Indexes of storage cells.
+    pub storage: &'a [u16],
+    /// Indexes of control values.
+    pub controls: &'a [u16],
+}
+
+/// Nothing is kept.
+pub const NOTHING_KEPT: Kept<'static> = Kept {
+    storage: &[],
+    controls: &[],
+};
+
+/// Whether no number is between the bounds.
+fn is_none_between(numbers: &[u16], low: i64, high: i64) -> bool
+    ensures { result ≡ true → All (λ i. IsOutside low high i) numbers.now }
+{
+    for number in numbers {
+        let index = i64::from(*number);
+        if low <= index && index <= high {
+            return false;
+        }
+    }
+    true
+}
+
+/// Whether the cell is never the index of one of the entries.
+fn is_none_of(numbers: &[u16], ranges: &[Range], cell: Cell) -> bool
+    ensures { result ≡ true → IsNoneOf numbers.now ranges.now cell }
+{
+    match index_bounds(cell, ranges) {
+        Ok((low, high)) => is_none_between(numbers, low, high),
+        Err(_) => false,
+    }
+}
+
+/// Whether the changes leave the storage area as it is.
+fn stores_nothing(updates: &[Update]) -> bool
+    ensures { result ≡ true → StoresNothing updates.now }
+{
+    for update in updates {
+        if is_store(*update) {
+            return false;
+        }
+    }
+    true
+}
+
+/// Whether the change stores a number.
+fn is_store(update: Update) -> bool
+    ensures { result ≡ false → IsNoStore update }
+{
+    match update {
+        Update::Store(_, _) => true,
+        _ => false,
+    }
+}
+
+/// Whether the cell under the top is never the index of one of the entries.
+fn is_second_none_of(numbers: &[u16], state: &State) -> bool
+    ensures { result ≡ true → IsSecondNoneOf numbers.now state.now }
+{
+    let Ok(_) = cell_under(&state.stack, 0) else {
+        return false;
+    };
+    match cell_under(&state.stack, 1) {
+        Ok(place) => is_none_of(numbers, state.ranges.as_slice(), place),
+        Err(_) => false,
+    }
+}
+
+/// Whether the index of a pair under the top is never that of one of the entries.
+fn is_pair_none_of(numbers: &[u16], state: &State, pair: u32) -> bool
+    ensures { result ≡ true → IsPairNoneOf numbers.now pair state.now }
+{
+    let below = pair as usize;
+    match cell_under(&state.stack, below + below + 1) {
+        Ok(place) => is_none_of(numbers, state.ranges.as_slice(), place),
+        Err(_) => false,
+    }
+}
+
+/// Whether the indexes of the pairs under the top are never those of the entries.
+fn are_pairs_none_of(numbers: &[u16], state: &State, count: u32) -> bool
+    ensures { result ≡ true → ArePairsNoneOf numbers.now count state.now }
+{
+    for pair in 0..count {
+        if !is_pair_none_of(numbers, state, pair) {
+            return false;
+        }
+    }
+    true
+}
+
+/// Whether the indexes of all pairs under the top are never those of the entries.
+fn are_all_pairs_none_of(numbers: &[u16], state: &State) -> bool
+    ensures { result ≡ true → AreAllPairsNoneOf numbers.now state.now }
+{
+    match pair_count(state) {
+        Ok(count) => are_pairs_none_of(numbers, state, count),
+        Err(_) => false,
+    }
+}
+
+/// Whether an instruction of this code leaves these control values as they are.
+fn keeps_controls(numbers: &[u16], state: &State, code: u8) -> bool
+    ensures { result ≡ true → KeepsControls numbers.now code state.now }
+{
+    if is_ordinary(code) {
+        return true;
+    }
+    match code {
+        0x44 => is_second_none_of(numbers, state),
+        0x70 => is_second_none_of(numbers, state),
+        0x73 => are_all_pairs_none_of(numbers, state),
+        0x74 => are_all_pairs_none_of(numbers, state),
+        0x75 => are_all_pairs_none_of(numbers, state),
+        0x45 => true,
+        0x8b => true,
+        0x8c => true,
+        0x63 => true,
+        0x62 => true,
+        0x66 => true,
+        0x67 => true,
+        _ => false,
+    }
+}
+
+/// Whether an instruction of this code leaves these storage cells as they are.
+fn keeps_storage(numbers: &[u16], state: &State, code: u8) -> bool
+    ensures { result ≡ true → KeepsStorage numbers.now code state.now }
+{
+    if code == 0x42 {
+        return is_second_none_of(numbers, state);
+    }
+    match entry(code) {
+        Effect::Plain(line) => stores_nothing(line.updates),
+        Effect::Push(_) => true,
+        Effect::Stack(_) => true,
+        Effect::Arithmetic(_) => true,
+        Effect::Control(_) => true,
+        Effect::NoEntry => true,
+    }
+}
+
+/// Whether the instruction at the state's point writes none of the kept entries.
+fn keeps_at(setting: &Setting<'_>, point: &Point<'_>, state: &State, kept: &Kept<'_>) -> bool
+    requires { IsAt point.now state.now }
+    ensures { result ≡ true → StepsKeep (setting_of setting.now) kept.now state.now }
+{
+    if !setting.starts(point, point.offset) {
+        return false;
+    }
+    let Some(instr) = setting.program(point).at(point.offset) else {
+        return false;
+    };
+    let code = instr.code();
+    if !keeps_storage(kept.storage, state, code) {
+        return false;
+    }
+    keeps_controls(kept.controls, state, code)
+}
+
+/// Whether the instruction where the state is writes none of the kept entries.
+pub fn keeps(setting: &Setting<'_>, state: &State, kept: &Kept<'_>) -> bool
+    ensures { result ≡ true → StepsKeep (setting_of setting.now) kept.now state.now }
+{
+    let offset = state.offset;
+    match innermost(state) {
+        None => {
+            let point = Point {
+                frames: &[],
+                offset,
+            };
+            keeps_at(setting, &point, state, kept)
+        }
+        Some(call) => {
+            let frames = [frame_of(call)];
+            let point = Point {
+                frames: &frames,
+                offset,
+            };
+            keeps_at(setting, &point, state, kept)
+        }
+    }
+}

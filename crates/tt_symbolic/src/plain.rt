@@ -1,0 +1,179 @@
+//! The instructions of plain lines, which take, test, change and push.
+
+ghost use Rattle.std.specs.Prelude.{◌≡◌, ℤ, IfOk, OnOk, [], ◌∷◌};
+ghost use Rattle.tt_code.specs.States.{Machine};
+ghost use Rattle.tt_code.specs.declared.kinds.Pushed.TheVariants as pushed_kind;
+ghost use Rattle.tt_abs.specs.Settings.{setting_of};
+ghost use Rattle.tt_symbolic.specs.Plain.{Cuts, Finishes, IsAny, IsControlAt, IsStoredAt, ListsControl, ListsStored, PlainWorks};
+ghost use Rattle.tt_symbolic.specs.Sound.{Puts};
+
+use crate::changes::{index_of, taken, update_all};
+use crate::operands::{take_operands, test_uses};
+use crate::push::put;
+use tt_abs::Setting;
+use tt_code::Reason;
+use tt_code::kinds::{Pushed, Row, Update};
+use tt_symbolic_state::StepRefusal;
+use tt_symbolic_state::cell::{Cell, FULL};
+use tt_symbolic_state::state::{State, fresh};
+
+/// Puts any number on top.
+pub fn put_any(state: &mut State) -> Result<(), StepRefusal>
+    ensures { OnOk result (Puts IsAny state.old state.new) }
+{
+    let cell = fresh(state, FULL)?;
+    put(state, cell)
+}
+
+/// Lists a storage cell of which nothing was known, and returns its number.
+fn list_stored(state: &mut State, index: u16) -> Result<Cell, StepRefusal>
+    ensures { IfOk result (ListsStored index state.old state.new) }
+{
+    let cell = fresh(state, FULL)?;
+    state.storage.put(index, cell)?;
+    Ok(cell)
+}
+
+/// Lists a control value of which nothing was known, and returns it.
+fn list_control(state: &mut State, index: u16) -> Result<Cell, StepRefusal>
+    ensures { IfOk result (ListsControl index state.old state.new) }
+{
+    let cell = fresh(state, FULL)?;
+    state.controls.put(index, cell)?;
+    Ok(cell)
+}
+
+/// Puts the number in a storage cell on top.
+fn put_stored(state: &mut State, index: u16) -> Result<(), StepRefusal>
+    ensures { OnOk result (Puts (IsStoredAt index) state.old state.new) }
+{
+    match state.storage.get(index) {
+        Some(cell) => put(state, cell),
+        None => {
+            let cell = list_stored(state, index)?;
+            put(state, cell)
+        }
+    }
+}
+
+/// Puts a control value on top.
+pub fn put_control(state: &mut State, index: u16) -> Result<(), StepRefusal>
+    ensures { OnOk result (Puts (IsControlAt index) state.old state.new) }
+{
+    match state.controls.get(index) {
+        Some(cell) => put(state, cell),
+        None => {
+            let cell = list_control(state, index)?;
+            put(state, cell)
+        }
+    }
+}
+
+/// Removes the operands.
+pub fn cut(state: &mut State, count: usize)
+    ensures { Cuts count state.old state.new }
+{
+    state.stack.cut(count);
+}
+
+/// Makes the changes, and removes the operands.
+fn finish_changes(state: &mut State, count: usize, changes: &[Update]) -> Result<(), StepRefusal>
+    ensures { OnOk result (Finishes count changes.now [] state.old state.new) }
+{
+    update_all(state, count, changes)?;
+    cut(state, count);
+    Ok(())
+}
+
+/// Removes the operands, and puts any number on top.
+fn finish_any(state: &mut State, count: usize) -> Result<(), StepRefusal>
+    ensures { OnOk result (Finishes count [] (pushed_kind.Any ∷ []) state.old state.new) }
+{
+    cut(state, count);
+    put_any(state)?;
+    Ok(())
+}
+
+/// Removes the operands, and puts any two numbers on top.
+fn finish_two(state: &mut State, count: usize) -> Result<(), StepRefusal>
+    ensures { OnOk result (Finishes count [] (pushed_kind.Any ∷ pushed_kind.Any ∷ [])
+        state.old state.new) }
+{
+    cut(state, count);
+    put_any(state)?;
+    put_any(state)?;
+    Ok(())
+}
+
+/// Removes the operands, and puts a stored number on top.
+fn finish_stored(state: &mut State, count: usize, position: u8) -> Result<(), StepRefusal>
+    ensures { OnOk result (Finishes count [] (pushed_kind.Stored position ∷ [])
+        state.old state.new) }
+{
+    let cell = taken(&state.stack, count, position)?;
+    match index_of(cell, state.ranges.as_slice()) {
+        Ok(index) => {
+            cut(state, count);
+            put_stored(state, index)?;
+            Ok(())
+        }
+        Err(_) => {
+            cut(state, count);
+            put_any(state)?;
+            Ok(())
+        }
+    }
+}
+
+/// Removes the operands and pushes.
+fn finish_pushes(state: &mut State, count: usize, pushes: &[Pushed]) -> Result<(), StepRefusal>
+    ensures { OnOk result (Finishes count [] pushes.now state.old state.new) }
+{
+    match pushes {
+        [Pushed::Any] => finish_any(state, count),
+        [Pushed::Any, Pushed::Any] => finish_two(state, count),
+        [Pushed::Stored(position)] => finish_stored(state, count, *position),
+        _ => Err(StepRefusal::Refused(Reason::UnknownOperand)),
+    }
+}
+
+/// Makes the changes or the pushes.
+fn finish(
+    state: &mut State,
+    count: usize,
+    changes: &[Update],
+    pushes: &[Pushed],
+) -> Result<(), StepRefusal>
+    ensures { OnOk result (Finishes count changes.now pushes.now state.old state.new) }
+{
+    match pushes {
+        [] => finish_changes(state, count, changes),
+        _ => match changes {
+            [] => finish_pushes(state, count, pushes),
+            _ => Err(StepRefusal::Refused(Reason::UnknownOperand)),
+        },
+    }
+}
+
+/// Carries out a plain line.
+///
+/// # Errors
+/// `Refused` where it may fault, or isn't known well enough; `OutOfMemory`.
+pub fn execute_plain(
+    setting: &Setting<'_>,
+    state: &mut State,
+    line: &Row,
+) -> Result<(), StepRefusal>
+    ensures { OnOk result (PlainWorks (setting_of setting.now) line.now state.old state.new) }
+{
+    let ranges = state.ranges.as_slice();
+    let count = take_operands(
+        setting,
+        &state.graphics,
+        ranges,
+        &state.stack,
+        line.operands,
+    )?;
+    test_uses(setting, &state.graphics, ranges, line.uses)?;
+    finish(state, count, line.updates, line.pushes)
+}

@@ -1,0 +1,36 @@
+//! Cells taken from a state's stack and put there.
+
+ghost use Rattle.std.specs.Prelude.{◌≡◌, ℕ, ℤ, IfOk, OnOk};
+ghost use Rattle.tt_code.specs.States.{Machine};
+ghost use Rattle.tt_symbolic_state.specs.Values.{Fits, IsWithin, Valuation, value};
+ghost use Rattle.tt_symbolic_state.specs.Shows.{Shows};
+ghost use Rattle.tt_symbolic.specs.Sound.{Pops, Pushes, Puts};
+
+use crate::shuffle::cell_under;
+use tt_code::Reason;
+use tt_symbolic_state::StepRefusal;
+use tt_symbolic_state::cell::{Cell, FULL, Range};
+use tt_symbolic_state::state::{State, fresh};
+
+/// Takes the top.
+///
+/// # Errors
+/// `Underflow` where there is none.
+pub fn pop(state: &mut State) -> Result<Cell, Reason>
+    ensures { IfOk result (Pops state.old state.new) }
+{
+    let top = cell_under(&state.stack, 0)?;
+    state.stack.cut(1);
+    Ok(top)
+}
+
+/// Puts a cell on top.
+///
+/// # Errors
+/// `OutOfMemory`.
+pub fn put(state: &mut State, cell: Cell) -> Result<(), StepRefusal>
+    ensures { OnOk result (Pushes state.old state.new cell) }
+{
+    state.stack.push(cell)?;
+    Ok(())
+}

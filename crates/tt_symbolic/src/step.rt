@@ -1,0 +1,243 @@
+//! What an instruction makes of a symbolic state.
+
+ghost use Rattle.std.specs.Prelude.{◌≡◌, OnOk, Some, true, ℕ};
+ghost use Rattle.tt_code.specs.Cut.{code_of};
+ghost use Rattle.tt_abs.specs.Settings.{setting_of};
+ghost use Rattle.tt_symbolic_state.specs.CvtMachine.{ChangesControls, Ordinary, refinement_of};
+ghost use Rattle.tt_symbolic.specs.Leading.{IsAt, IsInnermost};
+ghost use Rattle.tt_symbolic.specs.Sound.{keeps_controls};
+ghost use Rattle.tt_symbolic.specs.Steps.{CarriesOut, Dispatches, StepsTo, always, refined_by};
+
+use crate::compute::compute;
+use crate::control::execute_control;
+use crate::data::push_data;
+use crate::exact::Exact;
+use crate::plain::execute_plain;
+use crate::refined::{
+    change_control, change_controls, compute_exact_of_one, compute_exact_of_two, read_control,
+    write_control,
+};
+use crate::shuffle::shuffle;
+use tt_abs::{Point, Setting};
+use tt_code::kinds::Effect;
+use tt_code::{Frame, Instr, Reason, entry};
+use tt_symbolic_state::StepRefusal;
+use tt_symbolic_state::state::{OpenCall, State};
+
+/// Carries out an instruction that goes on at the next one, by its effect.
+fn execute_ordinary(
+    setting: &Setting<'_>,
+    state: &mut State,
+    instr: &Instr<'_>,
+) -> Result<(), StepRefusal>
+    ensures { OnOk result
+        (CarriesOut (setting_of setting.now) (always keeps_controls) instr.now state.old
+        state.new) }
+{
+    match entry(instr.code()) {
+        Effect::Plain(line) => execute_plain(setting, state, line),
+        Effect::Push(push) => {
+            push_data(&mut state.stack, *push, instr.data())?;
+            Ok(())
+        }
+        Effect::Stack(operation) => {
+            shuffle(&mut state.stack, state.ranges.as_slice(), *operation)
+        }
+        Effect::Arithmetic(operation) => compute(state, *operation),
+        _ => Err(StepRefusal::Refused(Reason::Opcode)),
+    }
+}
+
+/// Whether the refined machine says no more of the instructions of this code.
+pub(crate) fn is_ordinary(code: u8) -> bool
+    ensures { result ≡ true → refinement_of code ≡ Ordinary }
+{
+    code != 0x45
+        && code != 0x44
+        && code != 0x70
+        && code != 0x73
+        && code != 0x74
+        && code != 0x75
+        && code != 0x8b
+        && code != 0x8c
+        && code != 0x63
+        && code != 0x62
+        && code != 0x66
+        && code != 0x67
+}
+
+/// Carries out DELTAC1, DELTAC2 or DELTAC3.
+fn execute_delta(
+    setting: &Setting<'_>,
+    state: &mut State,
+    instr: &Instr<'_>,
+) -> Result<(), StepRefusal>
+    requires { (c : ℕ) → code_of instr.now ≡ Some c → refinement_of c ≡ ChangesControls }
+    ensures { OnOk result
+        (CarriesOut (setting_of setting.now) refined_by instr.now state.old state.new) }
+{
+    match entry(instr.code()) {
+        Effect::Plain(line) => change_controls(setting, state, line),
+        _ => Err(StepRefusal::Refused(Reason::Opcode)),
+    }
+}
+
+/// Carries out an instruction that goes on at the next one.
+fn execute_here(
+    setting: &Setting<'_>,
+    state: &mut State,
+    instr: &Instr<'_>,
+) -> Result<(), StepRefusal>
+    ensures { OnOk result
+        (CarriesOut (setting_of setting.now) refined_by instr.now state.old state.new) }
+{
+    let code = instr.code();
+    if is_ordinary(code) {
+        return execute_ordinary(setting, state, instr);
+    }
+    match code {
+        0x45 => read_control(setting, state),
+        0x44 => write_control(setting, state),
+        0x70 => change_control(setting, state),
+        0x73 => execute_delta(setting, state, instr),
+        0x74 => execute_delta(setting, state, instr),
+        0x75 => execute_delta(setting, state, instr),
+        0x8b => compute_exact_of_two(setting, state, Exact::Greatest),
+        0x8c => compute_exact_of_two(setting, state, Exact::Least),
+        0x63 => compute_exact_of_two(setting, state, Exact::Product),
+        0x62 => compute_exact_of_two(setting, state, Exact::Quotient),
+        0x66 => compute_exact_of_one(setting, state, Exact::Floor),
+        0x67 => compute_exact_of_one(setting, state, Exact::Ceiling),
+        _ => Err(StepRefusal::Refused(Reason::Cvt)),
+    }
+}
+
+/// Carries out an instruction that goes on at the next one, and goes there.
+fn execute_on(
+    setting: &Setting<'_>,
+    state: &mut State,
+    instr: &Instr<'_>,
+) -> Result<(), StepRefusal>
+    ensures { OnOk result (Dispatches setting.now instr.now state.old state.new) }
+{
+    let Some(next) = state.offset.checked_add(instr.len()) else {
+        return Err(StepRefusal::Refused(Reason::Target));
+    };
+    execute_here(setting, state, instr)?;
+    state.offset = next;
+    Ok(())
+}
+
+/// Carries out an instruction at the state's point.
+fn dispatch(
+    setting: &Setting<'_>,
+    point: &Point<'_>,
+    state: &mut State,
+    instr: &Instr<'_>,
+) -> Result<(), StepRefusal>
+    requires { IsAt point.now state.old }
+    ensures { OnOk result (Dispatches setting.now instr.now state.old state.new) }
+{
+    match entry(instr.code()) {
+        Effect::Control(operation) => execute_control(setting, point, state, *operation),
+        _ => execute_on(setting, state, instr),
+    }
+}
+
+/// Makes a frame of the same body, in its only turn.
+pub(crate) fn frame_of(call: OpenCall) -> Frame
+    ensures { result.body ≡ call.body }
+{
+    Frame {
+        body: call.body,
+        call: call.call,
+        turn: 1,
+        count: 1,
+    }
+}
+
+/// Returns the innermost call that hasn't returned, if there is one.
+pub(crate) fn innermost(state: &State) -> Option<OpenCall>
+    ensures { IsInnermost state.now result }
+{
+    match state.calls.as_slice() {
+        [] => None,
+        [.., call] => Some(*call),
+    }
+}
+
+/// Carries out the instruction at the state's point.
+fn step_at(setting: &Setting<'_>, point: &Point<'_>, state: &mut State) -> Result<(), StepRefusal>
+    requires { IsAt point.now state.old }
+    ensures { OnOk result (StepsTo setting.now state.old state.new) }
+{
+    if !setting.starts(point, point.offset) {
+        return Err(StepRefusal::Refused(Reason::Target));
+    }
+    let Some(instr) = setting.program(point).at(point.offset) else {
+        return Err(StepRefusal::Refused(Reason::Target));
+    };
+    prove!(u32::from(instr.code()) < 256);
+    dispatch(setting, point, state, &instr)?;
+    if state.stack.len() > usize::from(setting.limits.stack) {
+        return Err(StepRefusal::Refused(Reason::Overflow));
+    }
+    Ok(())
+}
+
+/// Carries out the instruction where the state is, if one of its body starts there. After a refusal
+/// the state's content is unspecified.
+///
+/// # Errors
+/// `Refused` where a machine that the state shows may fault, or where not enough is known;
+/// `OutOfMemory`.
+pub fn step(setting: &Setting<'_>, state: &mut State) -> Result<(), StepRefusal>
+    ensures { OnOk result (StepsTo setting.now state.old state.new) }
+{
+    let offset = state.offset;
+    match innermost(state) {
+        None => {
+            let point = Point {
+                frames: &[],
+                offset,
+            };
+            step_at(setting, &point, state)
+        }
+        Some(call) => {
+            let frames = [frame_of(call)];
+            let point = Point {
+                frames: &frames,
+                offset,
+            };
+            step_at(setting, &point, state)
+        }
+    }
+}
+
+/// Returns the code of the instruction at a point, if one starts there.
+fn code_there(setting: &Setting<'_>, point: &Point<'_>) -> Option<u8> {
+    let instr = setting.program(point).at(point.offset)?;
+    Some(instr.code())
+}
+
+/// Returns the code of the instruction where the state is, if one starts there.
+pub fn code_at(setting: &Setting<'_>, state: &State) -> Option<u8> {
+    let offset = state.offset;
+    match innermost(state) {
+        None => {
+            let point = Point {
+                frames: &[],
+                offset,
+            };
+            code_there(setting, &point)
+        }
+        Some(call) => {
+            let frames = [frame_of(call)];
+            let point = Point {
+                frames: &frames,
+                offset,
+            };
+            code_there(setting, &point)
+        }
+    }
+}

@@ -1,0 +1,13 @@
+use Rattle.std.proofs.Common.{◌∙◌, ap, ℕ, sym, subst, ◌≡◌, Some}
+use Rattle.std.proofs.lemmas.List.Elements.{All-more}
+use Rattle.std.specs.List.{All}
+use Rattle.std.proofs.lemmas.List.{take_all}
+use Rattle.tt_abs.specs.Entries.{listed}
+use Rattle.tt_symbolic_check.proofs.Listings.{functions_within}
+use Rattle.tt_symbolic_check.proofs.covering.has_functions.Goals as goal
+
+pub loop-entry-preserved : goal.loop-entry-preserved
+loop-entry-preserved c = All-more (λ (e : ℕ × ℕ). listed c.args.mine.now e.0 ≡ Some e.1) c.args.theirs.now c.loop-entry.entry-index (0, 0) c.loop-entry-test.true c.loop-entry.invariant (sym c.get.ensures ∙ c.in-Some.is ∙ ap Some c.if-body-entry.false)
+
+pub returns : goal.returns
+returns c = λ e. functions_within c.args.mine.now c.args.theirs.now (subst (All (λ (e : ℕ × ℕ). listed c.args.mine.now e.0 ≡ Some e.1)) (take_all c.loop-entry.entry-index c.args.theirs.now c.loop-entry-test.false) c.loop-entry.invariant)

@@ -1,0 +1,7 @@
+use Rattle.std.proofs.Common.{take, ℕ, ◌≡◌, Some}
+use Rattle.std.specs.List.{All}
+use Rattle.tt_abs.specs.Entries.{listed}
+use Rattle.tt_symbolic_check.proofs.covering.has_functions.Given as goal
+
+abbrev pub invariant-loop-entry : goal.invariant-loop-entry
+invariant-loop-entry l = All (λ (e : ℕ × ℕ). listed l.mine e.0 ≡ Some e.1) (take l.entry-index l.theirs)

@@ -1,0 +1,102 @@
+//! Copies of states, and states with a part of a symbol's range.
+
+ghost use Rattle.std.specs.Prelude.{◌≡◌, ◌<◌, ℤ, ◌≤ℤ◌, ◌<ℤ◌, IfOk, length, slice_set};
+ghost use Rattle.tt_symbolic_state.specs.Values.{IsWithin};
+ghost use Rattle.tt_symbolic_check.specs.Copying.{IsCopy, IsLower, IsUpper};
+
+use std::alloc::{AllocError, Global};
+use tt_symbolic_state::cell::Range;
+use tt_symbolic_state::state::State;
+
+/// Where a symbol's range is split.
+#[derive(Clone, Copy, Debug, PartialEq, Eq)]
+pub struct Split {
+    /// The symbol.
+    pub symbol: u32,
+    /// The greatest number of the lower part.
+    pub last: i32,
+}
+
+/// Makes a copy of a state.
+///
+/// # Errors
+/// If memory runs out.
+pub fn copied(alloc: Global, state: &State) -> Result<State, AllocError>
+    ensures { IfOk result (IsCopy state.now) }
+{
+    Ok(State {
+        offset: state.offset,
+        calls: Vec::from_slice(alloc, state.calls.as_slice())?,
+        stack: state.stack.copied(alloc)?,
+        graphics: state.graphics,
+        storage: state.storage.copied(alloc)?,
+        controls: state.controls.copied(alloc)?,
+        functions: state.functions.copied(alloc)?,
+        ranges: Vec::from_slice(alloc, state.ranges.as_slice())?,
+    })
+}
+
+/// Returns the part of the range up to a number.
+fn lower_range(range: Range, last: i32) -> Range
+    ensures { (z : ℤ) → IsWithin range z → z ≤ℤ last → IsWithin result z }
+{
+    if last < range.high {
+        Range {
+            low: range.low,
+            high: last,
+        }
+    } else {
+        range
+    }
+}
+
+/// Returns the part of the range above a number.
+fn upper_range(range: Range, last: i32) -> Range
+    ensures { (z : ℤ) → IsWithin range z → last <ℤ z → IsWithin result z }
+{
+    match last.checked_add(1) {
+        Some(low) => {
+            if range.low < low {
+                Range {
+                    low,
+                    high: range.high,
+                }
+            } else {
+                range
+            }
+        }
+        None => range,
+    }
+}
+
+/// Sets a range.
+fn set_range(ranges: &mut Vec<Range>, place: usize, range: Range)
+    requires { place < length ranges.old.items }
+    ensures { ranges.new.items ≡ slice_set ranges.old.items place range }
+{
+    ranges[place] = range;
+}
+
+/// Keeps the lower part of a state.
+pub fn lower(state: &mut State, split: Split)
+    ensures { IsLower split state.old state.new }
+{
+    let place = split.symbol as usize;
+    if place < state.ranges.len() {
+        let range = state.ranges[place];
+        let part = lower_range(range, split.last);
+        set_range(&mut state.ranges, place, part);
+    }
+}
+
+/// Keeps the upper part of a state.
+pub fn raise(state: &mut State, split: Split)
+    ensures { IsUpper split state.old state.new }
+{
+    let place = split.symbol as usize;
+    if place < state.ranges.len() {
+        let range = state.ranges[place];
+        let part = upper_range(range, split.last);
+        set_range(&mut state.ranges, place, part);
+    }
+}

@@ -1,0 +1,381 @@
+//! The walk: what waits is carried on, a state at a time, until nothing does.
+
+ghost use Rattle.std.specs.Prelude.{◌≡◌, ◌<◌, ℕ, [], ◌∷◌, ◌++◌, IfOk, IfSome, None, OnOk, Some, false, length, slice_get, slice_set, true};
+ghost use Rattle.tt_symbolic_check.specs.Walking.{Begins, EndsAs, Finishes, IsCoveredBy, NothingPending, PutsEnd, PutsPending, Reaches, TakesPending, Walks};
+
+use crate::copying::{Split, copied, lower, raise};
+use crate::covering::covers;
+use crate::place_index::PlaceIndex;
+use crate::refusal::CheckRefusal;
+use crate::splits::wanted;
+use crate::start::{Start, start_state};
+use std::alloc::{AllocError, Global};
+use tt_abs::{Point, Setting};
+use tt_symbolic::kept::{Kept, keeps};
+use tt_symbolic::step::step;
+use tt_symbolic_state::StepRefusal;
+use tt_symbolic_state::state::State;
+
+/// How many listed states at one offset are looked at.
+const MOST_TESTED: u32 = 1024;
+
+/// How much a check may do.
+#[derive(Clone, Copy, Debug, PartialEq, Eq)]
+pub struct Effort {
+    /// How many steps the walk may have.
+    pub steps: u64,
+    /// How many numbers the range of a symbol may have that a comparison splits.
+    pub widest_compared: i64,
+}
+
+/// How much a check may usually do.
+pub const USUAL_EFFORT: Effort = Effort {
+    steps: 1_000_000,
+    widest_compared: 1 << 16,
+};
+
+/// A state that waits to be carried on.
+#[derive(Drop)]
+pub struct Pending {
+    /// The state.
+    pub state: State,
+    /// Whether it goes no further where a listed state covers it.
+    pub may_stop: bool,
+}
+
+/// What was done so far, and what is still to be done.
+#[derive(Drop)]
+pub struct Walk {
+    /// Which listed states are walked.
+    pub walked: Vec<bool>,
+    /// What waits.
+    pub pending: Vec<Pending>,
+    /// The states at the main program's end.
+    pub ends: Vec<State>,
+}
+
+/// Lets a state wait.
+fn put_pending(walk: &mut Walk, state: State, may_stop: bool) -> Result<(), AllocError>
+    ensures { OnOk result (PutsPending state may_stop walk.old walk.new) }
+{
+    walk.pending.push(Pending { state, may_stop })?;
+    Ok(())
+}
+
+/// Takes the last of what waits.
+fn take_pending(walk: &mut Walk) -> Option<Pending>
+    ensures some { IfSome result (TakesPending walk.old walk.new) }
+    ensures none { result ≡ None → NothingPending walk.old walk.new }
+{
+    walk.pending.pop()
+}
+
+/// Puts a state among the ends.
+fn put_end(walk: &mut Walk, state: State) -> Result<(), AllocError>
+    ensures { OnOk result (PutsEnd state walk.old walk.new) }
+{
+    walk.ends.push(state)?;
+    Ok(())
+}
+
+/// Whether the listed state of this number is walked.
+fn is_walked(walk: &Walk, place: usize) -> bool
+    ensures { result ≡ true → slice_get walk.now.walked.items place ≡ Some true }
+{
+    match walk.walked.as_slice().get(place) {
+        Some(walked) => *walked,
+        None => false,
+    }
+}
+
+/// Notes that the listed state of this number is walked.
+fn mark(walked: &mut Vec<bool>, place: usize)
+    requires { place < length walked.old.items }
+    ensures { walked.new.items ≡ slice_set walked.old.items place true }
+{
+    walked[place] = true;
+}
+
+/// Whether the state is at the main program's end.
+pub fn is_at_end(setting: &Setting<'_>, state: &State) -> bool
+    ensures { EndsAs setting.now state.now result }
+{
+    match state.calls.as_slice() {
+        [] => {
+            let point = Point {
+                frames: &[],
+                offset: state.offset,
+            };
+            setting.is_end(&point, state.offset)
+        }
+        _ => false,
+    }
+}
+
+/// Finds a listed state that covers the state, and returns its number.
+fn find(
+    alloc: Global,
+    listed: &[State],
+    index: &PlaceIndex,
+    state: &State,
+) -> Result<Option<usize>, AllocError>
+    ensures { IfOk result (λ found. IfSome found (λ i. IsCoveredBy listed.now i state.now)) }
+{
+    let mut place = index.first(state.offset);
+    for i in 0..MOST_TESTED {
+        let Some(there) = listed.get(place) else {
+            return Ok(None);
+        };
+        let covered = covers(alloc, state, there)?;
+        if covered {
+            return Ok(Some(place));
+        }
+        place = index.after(place);
+    }
+    Ok(None)
+}
+
+/// Stops at a listed state, which is walked in its turn where it isn't yet.
+fn stop_at(
+    alloc: Global,
+    setting: &Setting<'_>,
+    kept: &Kept<'_>,
+    listed: &[State],
+    place: usize,
+    walk: &mut Walk,
+) -> Result<(), AllocError>
+    ensures { OnOk result (Reaches setting.now kept.now listed.now walk.old walk.new
+        (λ final. slice_get final.walked.items place ≡ Some true)) }
+{
+    if is_walked(walk, place) {
+        return Ok(());
+    }
+    let Some(there) = listed.get(place) else {
+        return Err(AllocError);
+    };
+    if place >= walk.walked.len() {
+        return Err(AllocError);
+    }
+    let copy = copied(alloc, there)?;
+    mark(&mut walk.walked, place);
+    put_pending(walk, copy, false)?;
+    Ok(())
+}
+
+/// Lets both parts of a state wait.
+fn split_up(
+    alloc: Global,
+    setting: &Setting<'_>,
+    kept: &Kept<'_>,
+    listed: &[State],
+    walk: &mut Walk,
+    state: State,
+    split: Split,
+) -> Result<(), AllocError>
+    ensures { OnOk result (Reaches setting.now kept.now listed.now walk.old walk.new
+        (λ final. Walks setting.now kept.now listed.now final false state)) }
+{
+    let mut low = copied(alloc, &state)?;
+    lower(&mut low, split);
+    let mut high = state;
+    raise(&mut high, split);
+    put_pending(walk, high, false)?;
+    put_pending(walk, low, false)?;
+    Ok(())
+}
+
+/// Lets what a step makes of a state wait.
+fn step_on(
+    setting: &Setting<'_>,
+    kept: &Kept<'_>,
+    listed: &[State],
+    walk: &mut Walk,
+    state: State,
+) -> Result<(), StepRefusal>
+    requires { EndsAs setting.now state false }
+    ensures { OnOk result (Reaches setting.now kept.now listed.now walk.old walk.new
+        (λ final. Walks setting.now kept.now listed.now final false state)) }
+{
+    let keeps_entries = keeps(setting, &state, kept);
+    let mut next = state;
+    step(setting, &mut next)?;
+    if !keeps_entries {
+        return Err(StepRefusal::KeptEntry);
+    }
+    put_pending(walk, next, true)?;
+    Ok(())
+}
+
+/// Carries on a state that isn't at the main program's end: by its parts, or by a step.
+fn split_or_step(
+    alloc: Global,
+    setting: &Setting<'_>,
+    kept: &Kept<'_>,
+    listed: &[State],
+    walk: &mut Walk,
+    state: State,
+    widest: i64,
+) -> Result<(), StepRefusal>
+    requires { EndsAs setting.now state false }
+    ensures { OnOk result (Reaches setting.now kept.now listed.now walk.old walk.new
+        (λ final. Walks setting.now kept.now listed.now final false state)) }
+{
+    match wanted(setting, &state, widest) {
+        Some(split) => {
+            split_up(alloc, setting, kept, listed, walk, state, split)?;
+            Ok(())
+        }
+        None => step_on(setting, kept, listed, walk, state),
+    }
+}
+
+/// Carries a state on: to the ends, by its parts, or by a step.
+fn carry_on(
+    alloc: Global,
+    setting: &Setting<'_>,
+    kept: &Kept<'_>,
+    listed: &[State],
+    walk: &mut Walk,
+    state: State,
+    widest: i64,
+) -> Result<(), StepRefusal>
+    ensures { OnOk result (Reaches setting.now kept.now listed.now walk.old walk.new
+        (λ final. Walks setting.now kept.now listed.now final false state)) }
+{
+    if is_at_end(setting, &state) {
+        put_end(walk, state)?;
+        return Ok(());
+    }
+    split_or_step(alloc, setting, kept, listed, walk, state, widest)
+}
+
+/// Returns the number of a listed state at which the state that waited may stop, if there is one.
+fn met(
+    alloc: Global,
+    listed: &[State],
+    index: &PlaceIndex,
+    entry: &Pending,
+) -> Result<Option<usize>, AllocError>
+    ensures { IfOk result (λ found. IfSome found (λ i. (entry.now.may_stop ≡ true)
+        × IsCoveredBy listed.now i entry.now.state)) }
+{
+    if !entry.may_stop {
+        return Ok(None);
+    }
+    find(alloc, listed, index, &entry.state)
+}
+
+/// Carries on what was taken, or stops it at a listed state.
+fn advance(
+    alloc: Global,
+    setting: &Setting<'_>,
+    kept: &Kept<'_>,
+    listed: &[State],
+    index: &PlaceIndex,
+    walk: &mut Walk,
+    entry: Pending,
+    widest: i64,
+) -> Result<(), StepRefusal>
+    ensures { OnOk result (Reaches setting.now kept.now listed.now walk.old walk.new
+        (λ final. Walks setting.now kept.now listed.now final entry.may_stop entry.state)) }
+{
+    let found = met(alloc, listed, index, &entry)?;
+    match found {
+        Some(place) => {
+            stop_at(alloc, setting, kept, listed, place, walk)?;
+            Ok(())
+        }
+        None => carry_on(alloc, setting, kept, listed, walk, entry.state, widest),
+    }
+}
+
+/// Puts false at the end.
+fn push_false(walked: &mut Vec<bool>) -> Result<(), AllocError>
+    ensures { OnOk result (walked.new.items ≡ walked.old.items ++ false ∷ []) }
+{
+    walked.push(false)?;
+    Ok(())
+}
+
+/// Makes the list of which listed states are walked: none is.
+fn none_walked(alloc: Global, count: usize) -> Result<Vec<bool>, AllocError>
+    ensures { IfOk result (λ walked. (i : ℕ) → slice_get walked.items i ≡ Some true → ⊥) }
+{
+    let mut walked = Vec::new(alloc);
+    for i in 0..count {
+        push_false(&mut walked)?;
+    }
+    Ok(walked)
+}
+
+/// Makes the walk that has done nothing, and in which nothing waits.
+fn fresh_walk(
+    alloc: Global,
+    setting: &Setting<'_>,
+    kept: &Kept<'_>,
+    starts: &[Start],
+    listed: &[State],
+) -> Result<Walk, AllocError>
+    ensures { IfOk result (Begins setting.now kept.now listed.now 0 starts.now) }
+{
+    Ok(Walk {
+        walked: none_walked(alloc, listed.len())?,
+        pending: Vec::new(alloc),
+        ends: Vec::new(alloc),
+    })
+}
+
+/// Lets each start wait.
+///
+/// # Errors
+/// If memory runs out.
+pub fn begin(
+    alloc: Global,
+    setting: &Setting<'_>,
+    kept: &Kept<'_>,
+    starts: &[Start],
+    listed: &[State],
+) -> Result<Walk, AllocError>
+    ensures { IfOk result (Begins setting.now kept.now listed.now (length starts.now) starts.now) }
+{
+    let mut walk = fresh_walk(alloc, setting, kept, starts, listed)?;
+    for i in 0..starts.len() {
+        let state = start_state(alloc, &starts[i])?;
+        put_pending(&mut walk, state, true)?;
+    }
+    Ok(walk)
+}
+
+/// Carries on what waits, until nothing does.
+///
+/// # Errors
+/// `BudgetMet`, where something waits after so many steps; `Step`, where an instruction is refused,
+/// or memory runs out.
+pub fn walk_on(
+    alloc: Global,
+    setting: &Setting<'_>,
+    kept: &Kept<'_>,
+    listed: &[State],
+    index: &PlaceIndex,
+    walk: &mut Walk,
+    effort: Effort,
+) -> Result<(), CheckRefusal>
+    ensures { OnOk result (Finishes setting.now kept.now listed.now walk.old walk.new) }
+{
+    for step in 0..effort.steps {
+        match take_pending(walk) {
+            Some(entry) => advance(
+                alloc,
+                setting,
+                kept,
+                listed,
+                index,
+                walk,
+                entry,
+                effort.widest_compared,
+            )?,
+            None => return Ok(()),
+        }
+    }
+    Err(CheckRefusal::BudgetMet)
+}

@@ -1,0 +1,5 @@
+pub mod Affine
+mod Examples
+pub mod Freeness
+pub mod Reverses
+pub mod Values
