@@ -18,9 +18,9 @@ use tt_symbolic_state::state::State;
 /// states at the main program's end. The program writes none of the kept entries.
 ///
 /// # Errors
-/// `Step`, where an instruction is refused: for a reason, where a run may fault or not enough is
-/// known; for a kept entry, where it may be written; or since memory ran out. `BudgetMet`, where the
-/// walk isn't done after so many steps.
+/// `Refused` with the place of an instruction and its reason, where a run may fault or not enough is
+/// known; `KeptEntry` with the place of one that may write a kept entry; `OutOfMemory`; `BudgetMet`,
+/// where the walk isn't done after so many steps.
 pub fn check(
     alloc: Global,
     setting: &Setting<'_>,

@@ -6,7 +6,7 @@ ghost use Rattle.tt_symbolic_check.specs.Walking.{Begins, EndsAs, Finishes, IsCo
 use crate::copying::{Split, copied, lower, raise};
 use crate::covering::covers;
 use crate::place_index::PlaceIndex;
-use crate::refusal::CheckRefusal;
+use crate::refusal::{CheckRefusal, Place};
 use crate::splits::wanted;
 use crate::start::{Start, start_state};
 use std::alloc::{AllocError, Global};
@@ -266,7 +266,7 @@ fn met(
 }
 
 /// Carries on what was taken, or stops it at a listed state.
-fn advance(
+fn go_on(
     alloc: Global,
     setting: &Setting<'_>,
     kept: &Kept<'_>,
@@ -286,6 +286,27 @@ fn advance(
             Ok(())
         }
         None => carry_on(alloc, setting, kept, listed, walk, entry.state, widest),
+    }
+}
+
+/// Carries on what was taken, or stops it at a listed state, and tells where it is refused.
+fn advance(
+    alloc: Global,
+    setting: &Setting<'_>,
+    kept: &Kept<'_>,
+    listed: &[State],
+    index: &PlaceIndex,
+    walk: &mut Walk,
+    entry: Pending,
+    widest: i64,
+) -> Result<(), CheckRefusal>
+    ensures { OnOk result (Reaches setting.now kept.now listed.now walk.old walk.new
+        (λ final. Walks setting.now kept.now listed.now final entry.may_stop entry.state)) }
+{
+    let place = Place::of(&entry.state);
+    match go_on(alloc, setting, kept, listed, index, walk, entry, widest) {
+        Ok(()) => Ok(()),
+        Err(refusal) => Err(place.refused(refusal)),
     }
 }
 
@@ -349,8 +370,8 @@ pub fn begin(
 /// Carries on what waits, until nothing does.
 ///
 /// # Errors
-/// `BudgetMet`, where something waits after so many steps; `Step`, where an instruction is refused,
-/// or memory runs out.
+/// `BudgetMet`, where something waits after so many steps; otherwise where an instruction is
+/// refused and why, or that memory ran out.
 pub fn walk_on(
     alloc: Global,
     setting: &Setting<'_>,

@@ -7,7 +7,7 @@ use std::alloc::Global;
 use tt_abs::Setting;
 use tt_symbolic::kept::NOTHING_KEPT;
 use tt_symbolic_check::{CheckRefusal, Effort, Start, check};
-use tt_symbolic_state::{State, StepRefusal};
+use tt_symbolic_state::State;
 
 /// How much a check may do: a comparison splits the range of any symbol.
 const EFFORT: Effort = Effort {
@@ -29,9 +29,9 @@ struct Case {
 /// The number of a refusal.
 fn number_of(refusal: &CheckRefusal) -> u8 {
     match refusal {
-        CheckRefusal::Step(StepRefusal::Refused(reason)) => reason.number(),
-        CheckRefusal::Step(StepRefusal::KeptEntry) => 47,
-        CheckRefusal::Step(StepRefusal::OutOfMemory(_)) => 9,
+        CheckRefusal::Refused { reason, .. } => reason.number(),
+        CheckRefusal::KeptEntry { .. } => 47,
+        CheckRefusal::OutOfMemory(_) => 9,
         CheckRefusal::BudgetMet => 46,
     }
 }

@@ -6,7 +6,7 @@ use tt_abs::Setting;
 use tt_symbolic::kept::{Kept, NOTHING_KEPT};
 use tt_symbolic_check::start::start_state;
 use tt_symbolic_check::{CheckRefusal, Effort, Start, USUAL_EFFORT, check};
-use tt_symbolic_state::{Cell, OpenCall, Range, State, StepRefusal};
+use tt_symbolic_state::{Cell, OpenCall, Range, State};
 
 /// How much a check may do.
 const EFFORT: Effort = Effort {
@@ -60,8 +60,9 @@ fn answer_by(alloc: Global, listed: &[State]) -> u8 {
     }
     match check(alloc, &setting, &NOTHING_KEPT, &[start], listed, EFFORT) {
         Ok(_) => 0,
-        Err(CheckRefusal::Step(StepRefusal::Refused(reason))) => reason.number(),
-        Err(CheckRefusal::Step(_)) => 9,
+        Err(CheckRefusal::Refused { reason, .. }) => reason.number(),
+        Err(CheckRefusal::KeptEntry { .. }) => 47,
+        Err(CheckRefusal::OutOfMemory(_)) => 9,
         Err(CheckRefusal::BudgetMet) => 46,
     }
 }
@@ -119,7 +120,7 @@ fn answer_keeping(alloc: Global, program: &[u8], kept: &Kept<'_>) -> bool {
     let for_cvt = for_font.for_cvt_program(&empty, &[]);
     let setting = for_cvt.for_glyph_program(4, 1, &glyph, &[]);
     match check(alloc, &setting, kept, &[Start::unknown(alloc)], &[], EFFORT) {
-        Err(CheckRefusal::Step(StepRefusal::KeptEntry)) => true,
+        Err(CheckRefusal::KeptEntry { .. }) => true,
         _ => false,
     }
 }

@@ -3,7 +3,7 @@ use Rattle.tt_symbolic.proofs.Results.{on_ok}
 use Rattle.tt_symbolic_check.specs.declared.walk.Walk.{Walk}
 use Rattle.tt_symbolic_check.specs.Walking.{Reaches, Walks}
 use Rattle.tt_symbolic_check.proofs.Walkings.{from_false, meet_reaches, reaches_to}
-use Rattle.tt_symbolic_check.proofs.walk.advance.Goals as goal
+use Rattle.tt_symbolic_check.proofs.walk.go_on.Goals as goal
 
 pub returns-in_ok-stop_at-in-Some : goal.returns-in_ok-stop_at-in-Some
 returns-in_ok-stop_at-in-Some c =
