@@ -7,10 +7,12 @@ use Rattle.tt_symbolic_state.specs.declared.cell.Range.{Range}
 use Rattle.tt_symbolic_state.specs.Values.{Fits, IsWithin, Valuation, value}
 use Rattle.tt_symbolic_state.specs.declared.state.State.{State}
 use Rattle.tt_symbolic_state.specs.declared.state.Zone.TheVariants as zone
-use Rattle.tt_symbolic_state.specs.Shows.{ShowsArea, ShowsCalls, none, zone_number}
+use Rattle.tt_symbolic_state.specs.Shows.{IsShown, ShowsArea, ShowsCalls, none, zone_number}
 use Rattle.tt_symbolic_state.specs.declared.cell.Cell.{Cell}
 use Rattle.tt_symbolic_state.specs.declared.state.OpenCall.{OpenCall}
-use Rattle.tt_symbolic_check.specs.Starts.{IsStartState}
+use Rattle.tt_code.specs.Runs.{IsFresh}
+use Rattle.tt_symbolic_state.specs.CvtMachine.{CvtMachine}
+use Rattle.tt_symbolic_check.specs.Starts.{IsAfter, IsStartState, ShowsAfter, StartsAs}
 use Rattle.tt_symbolic_check.specs.declared.start.Start.{Start}
 use Rattle.tt_abs.specs.Cells.{CoversFunctions}
 use Rattle.tt_symbolic_check.specs.Copying.{IsLower, IsUpper}
@@ -78,3 +80,19 @@ start_is start a offset calls stack storage controls fs ranges r0 r1 r2 l z0 z1 
         offset_is = h.fresh.at_first_byte ∙ sym offset;
       };
 }
+
+pub after_is : (end : State) (start : Start) → start.storage ≡ end.storage → start.controls ≡ end.controls → start.functions ≡ end.functions → start.ranges.items ≡ end.ranges.items → ShowsAfter end start
+after_is end start storage controls functions ranges m n shown s =
+    let v = shown.valuation in
+    let h = shown.shows in
+    record {
+      fresh = s.fresh;
+      valuation = v;
+      fits = subst (λ (rs : List Range). Fits rs v) (sym ranges) shown.fits;
+      storage = subst (λ (es : List (ℕ × Cell)). ShowsArea v es n.machine.registers.storage) (sym storage) (subst (ShowsArea v end.storage) (sym s.storage) h.storage);
+      controls_are = subst (λ (es : List (ℕ × Cell)). ShowsArea v es n.controls) (sym controls) (subst (ShowsArea v end.controls) (sym s.controls_are) h.controls_are);
+      functions = subst (λ (es : List (ℕ × ℕ)). CoversFunctions es n.machine.functions) (sym functions) (subst (CoversFunctions end.functions) (sym s.functions) h.functions);
+    }
+
+pub as_start : (a : State) (start : Start) (m : CvtMachine) → IsAfter a start → IsFresh m.machine → IsShown a m.machine m.controls → StartsAs start m
+as_start a start m parts fresh shown = after_is a start parts.storage parts.controls_are parts.functions parts.ranges m m shown (record { fresh = fresh; storage = refl; controls_are = refl; functions = refl })

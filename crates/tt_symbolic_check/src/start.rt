@@ -1,8 +1,9 @@
 //! The states in which a program starts.
 
-ghost use Rattle.std.specs.Prelude.{◌≡◌, [], IfOk};
-ghost use Rattle.tt_symbolic_check.specs.Starts.{IsStartState};
+ghost use Rattle.std.specs.Prelude.{◌≡◌, [], IfOk, true};
+ghost use Rattle.tt_symbolic_check.specs.Starts.{IsAfter, IsStartState, ShowsAfter, StartCovers};
 
+use crate::covering::covers;
 use std::alloc::{AllocError, Global};
 use tt_abs::SortedMap;
 use tt_code::Graphics;
@@ -38,6 +39,34 @@ impl Start {
             ranges: Vec::new(alloc),
         }
     }
+
+    /// Makes the start with the memory and the functions that a state shows.
+    ///
+    /// # Errors
+    /// If memory runs out.
+    pub fn after(alloc: Global, end: &State) -> Result<Start, AllocError>
+        ensures { IfOk result (ShowsAfter end.now) }
+    {
+        Ok(Start {
+            storage: end.storage.copied(alloc)?,
+            controls: end.controls.copied(alloc)?,
+            functions: end.functions.copied(alloc)?,
+            ranges: Vec::from_slice(alloc, end.ranges.as_slice())?,
+        })
+    }
+
+    /// Whether the other start shows each machine that this one shows.
+    ///
+    /// # Errors
+    /// If memory runs out.
+    pub fn is_covered_by(&self, alloc: Global, other: &Start) -> Result<bool, AllocError>
+        ensures { IfOk result (λ b. b ≡ true → StartCovers self.now other.now) }
+    {
+        let mine = start_state(alloc, self)?;
+        let theirs = start_state(alloc, other)?;
+        let covered = covers(alloc, &mine, &theirs)?;
+        Ok(covered)
+    }
 }
 
 /// Makes the state in which a program starts.
@@ -45,7 +74,8 @@ impl Start {
 /// # Errors
 /// If memory runs out.
 pub fn start_state(alloc: Global, start: &Start) -> Result<State, AllocError>
-    ensures { IfOk result (IsStartState start.now) }
+    ensures start { IfOk result (IsStartState start.now) }
+    ensures parts { IfOk result (λ a. IsAfter a start.now) }
 {
     Ok(State {
         offset: 0,
