@@ -39,7 +39,7 @@ use Rattle.tt_symbolic_state.specs.declared.cell.Cell.{Cell}
 use Rattle.tt_symbolic_state.specs.declared.cell.Range.{Range}
 use Rattle.tt_symbolic_state.specs.declared.state.State.{State}
 use Rattle.tt_symbolic.specs.Areas.{IsOutside}
-use Rattle.tt_symbolic.specs.Keeping.{AreAllPairsNoneOf, ArePairsNoneOf, IsNoStore, IsNoneOf, IsPairNoneOf, IsSecondNoneOf, KeepsControls, KeepsStorage, StoresNothing}
+use Rattle.tt_symbolic.specs.Representation.Keeping.{AreAllPairsNoneOf, ArePairsNoneOf, IsNoStore, IsNoneOf, IsPairNoneOf, IsSecondNoneOf, KeepsControls, KeepsStorage, StoresNothing}
 use Rattle.tt_symbolic.specs.Kept.{IsAmong, SameEntries, StepsKeep}
 use Rattle.tt_symbolic.specs.declared.kept.Kept.{Kept}
 use Rattle.tt_symbolic.specs.Leading.{IsAt}

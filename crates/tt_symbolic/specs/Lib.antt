@@ -8,4 +8,4 @@ pub mod Refined
 pub mod Leading
 pub mod Steps
 pub mod Kept
-pub mod Keeping
+pub mod Representation

@@ -4,7 +4,7 @@ ghost use Rattle.std.specs.Prelude.{◌≡◌, ℕ, true, false};
 ghost use Rattle.std.specs.List.{All};
 ghost use Rattle.tt_abs.specs.Settings.{setting_of};
 ghost use Rattle.tt_symbolic.specs.Areas.{IsOutside};
-ghost use Rattle.tt_symbolic.specs.Keeping.{AreAllPairsNoneOf, ArePairsNoneOf, IsNoStore, IsNoneOf, IsPairNoneOf, IsSecondNoneOf, KeepsControls, KeepsStorage, StoresNothing};
+ghost use Rattle.tt_symbolic.specs.Representation.Keeping.{AreAllPairsNoneOf, ArePairsNoneOf, IsNoStore, IsNoneOf, IsPairNoneOf, IsSecondNoneOf, KeepsControls, KeepsStorage, StoresNothing};
 ghost use Rattle.tt_symbolic.specs.Kept.{StepsKeep};
 ghost use Rattle.tt_symbolic.specs.Leading.{IsAt};
 

@@ -1,6 +1,6 @@
 use Rattle.std.proofs.Common.{List, subst}
 use Rattle.tt_symbolic_state.specs.declared.cell.Range.{Range}
-use Rattle.tt_symbolic.specs.Keeping.{IsNoneOf}
+use Rattle.tt_symbolic.specs.Representation.Keeping.{IsNoneOf}
 use Rattle.tt_symbolic.proofs.Keepings.{pair_none}
 use Rattle.tt_symbolic.proofs.kept.is_pair_none_of.Goals as goal
 

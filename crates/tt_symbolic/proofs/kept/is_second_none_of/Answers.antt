@@ -1,7 +1,7 @@
 use Rattle.std.proofs.Common.{List, subst, ap, ◌∙◌, ◌∷◌}
 use Rattle.tt_symbolic_state.specs.declared.cell.Cell.{Cell}
 use Rattle.tt_symbolic_state.specs.declared.cell.Range.{Range}
-use Rattle.tt_symbolic.specs.Keeping.{IsNoneOf}
+use Rattle.tt_symbolic.specs.Representation.Keeping.{IsNoneOf}
 use Rattle.tt_symbolic.proofs.kept.is_second_none_of.Goals as goal
 
 pub returns-in-Ok-cell_under : goal.returns-in-Ok-cell_under

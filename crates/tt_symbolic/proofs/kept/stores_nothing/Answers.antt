@@ -1,7 +1,7 @@
 use Rattle.std.proofs.Common.{subst}
 use Rattle.std.specs.List.{All}
 use Rattle.std.proofs.lemmas.List.{take_all}
-use Rattle.tt_symbolic.specs.Keeping.{IsNoStore}
+use Rattle.tt_symbolic.specs.Representation.Keeping.{IsNoStore}
 use Rattle.tt_symbolic.proofs.Keepings.{no_stores_more, stores_none}
 use Rattle.tt_symbolic.proofs.kept.stores_nothing.Goals as goal
 
