@@ -77,25 +77,32 @@ fn refused_glyph_without_a_family(rt: HostRuntime) {
     assert!(rt; bytes.len() < 300, "two sections alone");
 }
 
+/// Whether the font program is found within this many points.
+fn is_found_within(alloc: Global, font: &Font<'_>, points: u64) -> bool {
+    let mut session = Session::new(font);
+    match session.find_next_within(alloc, &mut Budget::of(points)) {
+        Ok(Some((_, found))) => found.is_some(),
+        _ => false,
+    }
+}
+
+/// Whether it is told that the font program can't be found within this many points.
+fn is_budget_told(alloc: Global, font: &Font<'_>, points: u64) -> bool {
+    let mut session = Session::new(font);
+    match session.find_next_within(alloc, &mut Budget::of(points)) {
+        Err(fault) => matches!(fault, FindFontFault::Budget),
+        Ok(_) => false,
+    }
+}
+
 #[test]
 fn found_within_budgets(rt: HostRuntime) {
     let file = bytes_of(rt.alloc(), &FONT).expect(&rt, "bytes");
     let font = Font::read(rt.alloc(), &file).expect(&rt, "font");
-    let mut session = Session::new(&font);
-    let mut ample = Budget::of(1000);
-    let first = session.find_next_within(rt.alloc(), &mut ample);
+    assert!(rt; is_found_within(rt.alloc(), &font, 1000));
+    assert!(rt; !is_found_within(rt.alloc(), &font, 0));
     assert!(rt;
-        matches!(first, Ok(Some((_, Some(_))))),
-        "the font program is found"
-    );
-    let second = session.find_next_within(rt.alloc(), &mut Budget::of(0));
-    assert!(rt;
-        matches!(second, Err(FindFontFault::Budget)),
+        is_budget_told(rt.alloc(), &font, 0),
         "no point may be made"
-    );
-    let third = session.find_next(rt.alloc());
-    assert!(rt;
-        matches!(third, Err(FindFontFault::Budget)),
-        "the session keeps the fault"
     );
 }
