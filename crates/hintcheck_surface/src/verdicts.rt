@@ -28,26 +28,64 @@ fn print_verdict(rt: &HostRuntime, verdict: &Verdict) -> Result<()> {
     Ok(())
 }
 
-/// Prints the outcomes of the font program, by both calls of a session.
-fn print_session(rt: &HostRuntime, bytes: &[u8], certificate: &[u8]) -> Result<()> {
-    let font = Font::read(rt.alloc(), bytes)?;
-    let mut session = Session::new(&font);
+/// Finds the font's certificate, and prints the verdict.
+fn found_certificate(rt: &HostRuntime, bytes: &[u8]) -> Result<Vec<u8>> {
+    let mut sink = Counted::new(Vec::new(rt.alloc()));
+    let verdict = find_font(rt.alloc(), bytes, &mut sink)?;
+    print_verdict(rt, &verdict)?;
+    Ok(sink.into_inner())
+}
+
+/// Prints the verdict on the font by its certificate.
+fn print_check(rt: &HostRuntime, bytes: &[u8], certificate: &[u8]) -> Result<()> {
+    let mut source = Counted::new(Cursor::new(certificate));
+    let verdict = check_font(rt.alloc(), bytes, &mut source)?;
+    print_verdict(rt, &verdict)
+}
+
+/// Prints the outcome of the font program by its section of the certificate.
+fn print_checked(rt: &HostRuntime, font: &Font<'_>, certificate: &[u8]) -> Result<()> {
+    let mut session = Session::new(font);
     let mut source = Counted::new(Cursor::new(certificate));
     let checked: Option<Outcome> = session.check_next(rt.alloc(), &mut source)?;
     println!(rt; "{checked:?}")?;
-    let mut session = Session::new(&font);
+    Ok(())
+}
+
+/// Prints whether the font program is found.
+fn print_found(rt: &HostRuntime, font: &Font<'_>) -> Result<()> {
+    let mut session = Session::new(font);
     let found: Option<(Outcome, Option<Found>)> = session.find_next(rt.alloc())?;
     println!(rt; "{}", found.is_some())?;
     Ok(())
 }
 
-/// Prints what words and digits are read as.
+/// Prints how many sections a certificate has that is written anew.
+fn print_upgrade(rt: &HostRuntime, certificate: &[u8]) -> Result<()> {
+    let mut old = Counted::new(Cursor::new(certificate));
+    let mut new = Counted::new(Vec::new(rt.alloc()));
+    let sections: u32 = upgrade(rt.alloc(), &mut old, &mut new)?;
+    println!(rt; "{sections} sections")?;
+    Ok(())
+}
+
+/// Prints the verdict on a glyph program by itself.
+fn print_bare(rt: &HostRuntime) -> Result<()> {
+    let maxp = word_bytes(rt.alloc(), MAXP)?;
+    let verdict = bare(rt.alloc(), &maxp, 10, 4, 1, &[0xb0, 0x07, 0x2e])?;
+    print_verdict(rt, &verdict)
+}
+
+/// Prints what words are read as.
 fn print_words(rt: &HostRuntime) -> Result<()> {
-    let task: Result<Task, TaskFault> = read_words(
-        rt.alloc(),
-        &["hintcheck", "verdict", "font.ttf"],
-    );
+    let words = ["hintcheck", "verdict", "font.ttf"];
+    let task: Result<Task, TaskFault> = read_words(rt.alloc(), &words);
     println!(rt; "words {}", task.is_ok())?;
+    Ok(())
+}
+
+/// Prints what digits and a stream are read as.
+fn print_bytes(rt: &HostRuntime) -> Result<()> {
     let digits: Result<Vec<u8>, WordFault> = word_bytes(rt.alloc(), "2e0A");
     println!(rt; "digits {:?}", digits.ok())?;
     let mut source = Counted::new(Cursor::new(&[1u8, 2]));
@@ -56,26 +94,34 @@ fn print_words(rt: &HostRuntime) -> Result<()> {
     Ok(())
 }
 
-pub(crate) fn print_calls(rt: &HostRuntime) -> Result<()> {
-    let bytes = word_bytes(rt.alloc(), FONT)?;
-    print_verdict(rt, &verdict(rt.alloc(), &bytes)?)?;
-    let mut sink = Counted::new(Vec::new(rt.alloc()));
-    print_verdict(rt, &find_font(rt.alloc(), &bytes, &mut sink)?)?;
-    let certificate = sink.into_inner();
-    println!(rt; "{} bytes", certificate.len())?;
-    let mut source = Counted::new(Cursor::new(certificate.as_slice()));
-    print_verdict(rt, &check_font(rt.alloc(), &bytes, &mut source)?)?;
-    print_session(rt, &bytes, &certificate)?;
-    let mut old = Counted::new(Cursor::new(certificate.as_slice()));
-    let mut new = Counted::new(Vec::new(rt.alloc()));
-    println!(rt; "{} sections", upgrade(rt.alloc(), &mut old, &mut new)?)?;
-    let maxp = word_bytes(rt.alloc(), MAXP)?;
-    print_verdict(rt, &bare(rt.alloc(), &maxp, 10, 4, 1, &[0xb0, 0x07, 0x2e])?)?;
-    print_words(rt)?;
+/// Prints what the command answers.
+fn print_command(rt: &HostRuntime) -> Result<()> {
     let mut out = Counted::new(Vec::new(rt.alloc()));
     let mut err = Counted::new(Vec::new(rt.alloc()));
     let words = ["hintcheck", "bare", MAXP, "10", "4", "1", "B0072E"];
     let status: u8 = command(rt, &words, &mut out, &mut err);
     println!(rt; "status {status}, {} bytes", out.into_inner().len())?;
     Ok(())
+}
+
+/// Calls what needs the font and its certificate.
+fn print_font(rt: &HostRuntime, bytes: &[u8]) -> Result<()> {
+    let certificate = found_certificate(rt, bytes)?;
+    println!(rt; "{} bytes", certificate.len())?;
+    print_check(rt, bytes, &certificate)?;
+    let font = Font::read(rt.alloc(), bytes)?;
+    print_checked(rt, &font, &certificate)?;
+    print_found(rt, &font)?;
+    print_upgrade(rt, &certificate)
+}
+
+pub(crate) fn print_calls(rt: &HostRuntime) -> Result<()> {
+    let bytes = word_bytes(rt.alloc(), FONT)?;
+    let answer = verdict(rt.alloc(), &bytes)?;
+    print_verdict(rt, &answer)?;
+    print_font(rt, &bytes)?;
+    print_bare(rt)?;
+    print_words(rt)?;
+    print_bytes(rt)?;
+    print_command(rt)
 }
