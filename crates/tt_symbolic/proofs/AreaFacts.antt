@@ -14,11 +14,12 @@ use Rattle.tt_symbolic_state.specs.declared.cell.Cell.{Cell}
 use Rattle.tt_symbolic_state.specs.Values.{Fits, Valuation, value}
 use Rattle.tt_symbolic_state.specs.declared.state.State.{State}
 use Rattle.tt_symbolic_state.specs.Shows.{Shows, ShowsArea, values}
-use Rattle.tt_symbolic.specs.Changing.{Changes, IsChanged, StoresAt, StoresBetween}
-use Rattle.tt_symbolic.specs.Areas.{Forgets, IsOutside, IsPartOf}
+use Rattle.tt_symbolic.specs.Representation.Changing.{Changes, IsChanged, StoresAt, StoresBetween}
+use Rattle.tt_symbolic.specs.Representation.Areas.{Forgets, IsOutside, IsPartOf}
 use Rattle.tt_code.specs.States.{Machine}
 use Rattle.std.proofs.lemmas.Int.{ints}
 use Rattle.tt_symbolic_state.specs.declared.cell.Range.{Range}
+use Rattle.tt_symbolic_cells.proofs.Computings.{number_from}
 
 pub eq_same : (n : ℕ) → nat_eq n n ≡ true
 eq_same n = go (nat_eq n n) refl
@@ -83,10 +84,6 @@ area_put v es new area area' i cell z is e number after h = record {
       (λ q. after k ∙ stored_other i z area k q ∙ h.listed_is k c (sym (listed_there i cell es k q) ∙ ap (λ l. listed l k) (sym is) ∙ at));
   are_numbers = λ k. subst IsNumber (sym (after k)) (split_at k i (λ q. subst IsNumber (sym (ap (with_stored i z area) q ∙ stored_is i z area)) number) (λ q. subst IsNumber (sym (stored_other i z area k q)) (h.are_numbers k)));
 }
-
-pub number_from : (z : ℤ) → is_number z ≡ true → IsNumber z
-number_from (pos n) h = record { sfits = ltb-true n (2 ^ 31) h }
-number_from (negsuc n) h = record { sfits = ltb-true n (2 ^ 31) h }
 
 pub taken_is : (S : List ℤ) (count place : ℕ) (z d : ℤ) (rest : List ℤ) → drop place S ≡ z ∷ rest → place < count → taken_at d (take count S) place ≡ z
 taken_is [] count zero z d rest e h = absurd (cc)

@@ -22,7 +22,7 @@ use Rattle.tt_symbolic_state.specs.Values.{Fits, Valuation, value}
 use Rattle.tt_symbolic_state.specs.declared.state.OpenCall.{OpenCall}
 use Rattle.tt_symbolic_state.specs.declared.state.State.{State}
 use Rattle.tt_symbolic_state.specs.Shows.{Shows, ShowsCall, ShowsCalls, more, none, values}
-use Rattle.tt_symbolic.specs.Leading.{Closes, GoesTo, IsAt, IsKnownFunction, JumpsIf, JumpsTo, Leads, Opens, Repeats, SameBody, is_asked}
+use Rattle.tt_symbolic.specs.Representation.Leading.{Closes, GoesTo, IsAt, IsKnownFunction, JumpsIf, JumpsTo, Leads, Opens, Repeats, SameBody, is_asked}
 use Rattle.tt_symbolic.specs.Sound.{IsShownBy, Pops, Sound, keeps_controls}
 use Rattle.tt_symbolic.proofs.AreaFacts.{eq_other, eq_same, listed_here, listed_there, split_at}
 use Rattle.tt_symbolic.proofs.Works.{moves_fits, moves_shows, pops_shows, pops_fits, same_controls}

@@ -38,14 +38,14 @@ use Rattle.tt_symbolic_state.specs.Values.{Fits, Valuation, value}
 use Rattle.tt_symbolic_state.specs.declared.cell.Cell.{Cell}
 use Rattle.tt_symbolic_state.specs.declared.cell.Range.{Range}
 use Rattle.tt_symbolic_state.specs.declared.state.State.{State}
-use Rattle.tt_symbolic.specs.Areas.{IsOutside}
+use Rattle.tt_symbolic.specs.Representation.Areas.{IsOutside}
 use Rattle.tt_symbolic.specs.Representation.Keeping.{AreAllPairsNoneOf, ArePairsNoneOf, IsNoStore, IsNoneOf, IsPairNoneOf, IsSecondNoneOf, KeepsControls, KeepsStorage, StoresNothing}
 use Rattle.tt_symbolic.specs.Kept.{IsAmong, SameEntries, StepsKeep}
 use Rattle.tt_symbolic.specs.declared.kept.Kept.{Kept}
-use Rattle.tt_symbolic.specs.Leading.{IsAt}
+use Rattle.tt_symbolic.specs.Representation.Leading.{IsAt}
 use Rattle.tt_symbolic.proofs.AreaFacts.{not_between, stored_other}
 use Rattle.tt_symbolic.proofs.Steppings.{outcome_is, there}
-use Rattle.tt_symbolic.proofs.Takings.{under_is}
+use Rattle.tt_symbolic_cells.proofs.Takings.{under_is}
 
 -- What holds of the registers that an outcome leaves, if there is one.
 record Holds (Q : Registers ℤ ZoneNumber → Type 0) (r : Tested Outcome) : Type 0 where

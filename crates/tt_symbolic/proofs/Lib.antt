@@ -1,12 +1,8 @@
 pub mod AreaFacts
-pub mod Computings
 pub mod Controls
-pub mod Exacts
 pub mod Keepings
 pub mod Plains
 pub mod RefinedFacts
 pub mod Results
-pub mod Stacks
 pub mod Steppings
-pub mod Takings
 pub mod Works

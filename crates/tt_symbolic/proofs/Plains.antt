@@ -21,10 +21,10 @@ use Rattle.tt_symbolic_state.specs.declared.cell.Range.{Range}
 use Rattle.tt_symbolic_state.specs.Values.{Fits, IsWithin, Valuation, value}
 use Rattle.tt_symbolic_state.specs.declared.state.State.{State}
 use Rattle.tt_symbolic_state.specs.Shows.{IsFresh, Shows, ShowsArea, values, graphics_of}
-use Rattle.tt_symbolic.specs.Changing.{ChangesAll}
-use Rattle.tt_symbolic.specs.Plain.{Cuts, Finishes, IsAny, IsControlAt, IsStoredAt, ListsControl, ListsStored, line_leaves}
+use Rattle.tt_symbolic.specs.Representation.Changing.{ChangesAll}
+use Rattle.tt_symbolic.specs.Representation.Plain.{Cuts, Finishes, IsAny, IsControlAt, IsStoredAt, ListsControl, ListsStored, line_leaves}
 use Rattle.tt_symbolic.specs.Sound.{Pushes, Puts, Works, keeps_controls}
-use Rattle.tt_symbolic.specs.Taking.{Leaves}
+use Rattle.tt_symbolic_cells.specs.Taking.{Leaves}
 use Rattle.tt_abs.specs.Entries.{with_entry}
 use Rattle.tt_code.specs.Changes.{with_stored}
 use Rattle.tt_symbolic.proofs.AreaFacts.{area_put, split_at, stored_is, stored_other}

@@ -13,16 +13,19 @@ use Rattle.tt_symbolic_state.specs.Values.{Fits, Valuation, value}
 use Rattle.tt_symbolic_state.specs.declared.state.State.{State}
 use Rattle.tt_symbolic_state.specs.CvtMachine.{ChangesControl, ChangesControls, ChangesOnly, IsPaired, ReadsControl, Refinement, Refines, SameControls, WritesControl}
 use Rattle.tt_symbolic_state.specs.Shows.{Shows, ShowsArea, values}
-use Rattle.tt_symbolic.specs.declared.answer.Answer.{Answer}
-use Rattle.tt_symbolic.specs.declared.exact.Exact.{Exact}
-use Rattle.tt_symbolic.specs.declared.exact.Exact.TheVariants as exact
-use Rattle.tt_symbolic.specs.Areas.{Forgets, ForgetsPair, ForgetsPairs, IsForgotten}
-use Rattle.tt_symbolic.specs.Plain.{Cuts, IsAny, IsControlAt}
-use Rattle.tt_symbolic.specs.Sound.{IsAnswer, Pops, Puts, ShowsSome, Works, keeps_controls}
-use Rattle.tt_symbolic.specs.Refined.{AnswersExact, ChangeWorks, ExactWorks, IsExact, ReadWorks, WriteWorks, exact_line, of_one_line, of_two_line, refined, refinement_for, write_line}
-use Rattle.tt_symbolic.proofs.AreaFacts.{area_between, area_forgets, area_put, not_between, number_from, part_more, part_same}
+use Rattle.tt_symbolic_cells.specs.declared.answer.Answer.{Answer}
+use Rattle.tt_symbolic_cells.specs.declared.exact.Exact.{Exact}
+use Rattle.tt_symbolic_cells.specs.declared.exact.Exact.TheVariants as exact
+use Rattle.tt_symbolic.specs.Representation.Areas.{Forgets, ForgetsPair, ForgetsPairs, IsForgotten}
+use Rattle.tt_symbolic.specs.Representation.Plain.{Cuts, IsAny, IsControlAt}
+use Rattle.tt_symbolic_cells.specs.Answers.{IsAnswer}
+use Rattle.tt_symbolic.specs.Sound.{Pops, Puts, ShowsSome, Works, keeps_controls}
+use Rattle.tt_symbolic_cells.specs.Answers.{AnswersExact, IsExact}
+use Rattle.tt_symbolic.specs.Representation.Refined.{ChangeWorks, ExactWorks, ReadWorks, WriteWorks, exact_line, of_one_line, of_two_line, refined, refinement_for, write_line}
+use Rattle.tt_symbolic_cells.proofs.Computings.{number_from}
+use Rattle.tt_symbolic.proofs.AreaFacts.{area_between, area_forgets, area_put, not_between, part_more, part_same}
 use Rattle.tt_symbolic.proofs.Plains.{cut_fits, cut_shows}
-use Rattle.tt_symbolic.proofs.Takings.{under_is}
+use Rattle.tt_symbolic_cells.proofs.Takings.{under_is}
 use Rattle.tt_symbolic.proofs.Works.{pops_fits, pops_shows, same_controls, same_offset}
 
 -- What the machine says of a result.

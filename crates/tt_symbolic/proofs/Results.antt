@@ -4,11 +4,11 @@ use Rattle.std.proofs.Common.{◌≡◌, ℕ, ℤ, [], ◌∷◌, Ok, Err, Bool,
 use Rattle.std.proofs.lemmas.List.{length-map}
 use Rattle.tt_code.specs.Refusals.{Tested}
 use Rattle.tt_code.specs.States.{Machine, Outcome, Exactly as Exactly', Anything, IsNumber, is_number, leaves}
-use Rattle.tt_symbolic.specs.declared.answer.Answer.{Answer}
-use Rattle.tt_symbolic.specs.declared.answer.Answer.TheVariants.{Exactly, Within}
+use Rattle.tt_symbolic_cells.specs.declared.answer.Answer.{Answer}
+use Rattle.tt_symbolic_cells.specs.declared.answer.Answer.TheVariants.{Exactly, Within}
 use Rattle.std.specs.Prelude.{◌+ℤ◌, ◌-ℤ◌, neg_ℤ}
 use Rattle.std.proofs.lemmas.Int.{ints}
-use Rattle.tt_symbolic.proofs.AreaFacts.{number_from}
+use Rattle.tt_symbolic_cells.proofs.Computings.{number_from}
 use Rattle.tt_code.specs.Computing.{absolute, computed, exact, of_one, of_two, truth}
 use Rattle.tt_code.specs.Runs.{value as number_of}
 use Rattle.tt_code.specs.declared.kinds.Arithmetic.{Arithmetic}
@@ -18,7 +18,8 @@ use Rattle.tt_symbolic_state.specs.declared.cell.Range.{Range}
 use Rattle.tt_symbolic_state.specs.Values.{Fits, Valuation, value}
 use Rattle.tt_symbolic_state.specs.declared.state.State.{State}
 use Rattle.tt_symbolic_state.specs.Shows.{IsFresh, Shows, values}
-use Rattle.tt_symbolic.specs.Sound.{AnswersResult, Computes, Goes, IsAnswer, Pops, Pushes, Puts, ShowsSome, keeps_controls, result_of, takes_one}
+use Rattle.tt_symbolic_cells.specs.Answers.{AnswersResult, IsAnswer, result_of, takes_one}
+use Rattle.tt_symbolic.specs.Sound.{Computes, Goes, Pops, Pushes, Puts, ShowsSome, keeps_controls}
 use Rattle.tt_symbolic.proofs.Works.{pops_shows, pops_fits, puts_cell, puts_fresh, same_controls, same_offset}
 
 -- the number that an answer tells is put on top

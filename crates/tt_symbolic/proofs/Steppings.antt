@@ -22,11 +22,13 @@ use Rattle.tt_symbolic_state.specs.Values.{Valuation, value}
 use Rattle.tt_symbolic_state.specs.declared.state.State.{State}
 use Rattle.tt_symbolic_state.specs.CvtMachine.{Allows, ChangesControls, Ordinary, Refines, Refinement, refinement_of}
 use Rattle.tt_symbolic_state.specs.Shows.{Shows, values}
-use Rattle.tt_symbolic.specs.Sound.{Allowing, Computes as IsComputed, Restacks, Sound, Works, keeps_controls}
-use Rattle.tt_symbolic.specs.Refined.{of_one_line, of_two_line, read_line, refined, write_line}
-use Rattle.tt_symbolic.specs.Leading.{IsAt}
+use Rattle.tt_symbolic_cells.specs.Stacking.{Restacks}
+use Rattle.tt_symbolic.specs.Sound.{Allowing, Computes as IsComputed, Sound, Works, keeps_controls}
+use Rattle.tt_symbolic.specs.Representation.Refined.{of_one_line, of_two_line, read_line, refined, write_line}
+use Rattle.tt_symbolic.specs.Representation.Leading.{IsAt}
 use Rattle.tt_symbolic.proofs.Controls.{starts_there}
-use Rattle.tt_symbolic.specs.Steps.{Dispatches, DoesHere, PutsNumbers, StepsTo, numbers_on, refined_by}
+use Rattle.tt_symbolic_cells.specs.Stacking.{PutsNumbers, numbers_on}
+use Rattle.tt_symbolic.specs.Steps.{Dispatches, DoesHere, StepsTo, refined_by}
 use Rattle.tt_symbolic.proofs.Works.{restacks_works, works_sound}
 
 pub first_code : (i : Instruction) (c code : ℕ) (rest : List ℕ) → code_of i ≡ Some c → i ≡ code ∷ rest → code ≡ c

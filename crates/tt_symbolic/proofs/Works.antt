@@ -9,7 +9,8 @@ use Rattle.tt_symbolic_state.specs.Values.{Fits, IsWithin, Valuation, value}
 use Rattle.tt_symbolic_state.specs.declared.state.State.{State}
 use Rattle.tt_symbolic_state.specs.CvtMachine.{SameControls}
 use Rattle.tt_symbolic_state.specs.Shows.{IsFresh, Shows, values}
-use Rattle.tt_symbolic.specs.Sound.{Allowing, Pops, Pushes, Puts, Restacks, Sound, Works, keeps_controls}
+use Rattle.tt_symbolic_cells.specs.Stacking.{Restacks}
+use Rattle.tt_symbolic.specs.Sound.{Allowing, Pops, Pushes, Puts, Sound, Works, keeps_controls}
 
 -- the same state with another stack
 pub shows_stack : (v : Valuation) (old new : State) (m : Machine) (stack : List ℤ) (controls : ℕ → ℤ) → new ≡ record old { stack = new.stack } → stack ≡ values v new.stack

@@ -1,11 +1,4 @@
 pub mod Sound
-pub mod Areas
-pub mod Bounds
-pub mod Taking
-pub mod Changing
-pub mod Plain
-pub mod Refined
-pub mod Leading
 pub mod Steps
 pub mod Kept
 pub mod Representation

@@ -12,8 +12,8 @@ use Rattle.tt_symbolic_state.specs.Values.{Fits, IsWithin, Valuation, value}
 use Rattle.tt_symbolic_state.specs.CvtMachine.{SameControls}
 use Rattle.tt_symbolic_state.specs.Shows.{IsShown, Shows, values}
 use Rattle.tt_symbolic_state.specs.declared.state.State.{State}
-use Rattle.tt_symbolic.specs.declared.answer.Answer.{Answer}
-use Rattle.tt_symbolic.specs.declared.answer.Answer.TheVariants.{Exactly, Within}
+use Rattle.tt_symbolic_cells.specs.declared.answer.Answer.{Answer}
+use Rattle.tt_symbolic_cells.specs.declared.answer.Answer.TheVariants.{Exactly, Within}
 
 -- which choices and new control values a machine with these control values may have
 abbrev pub Allowing : Type 1
@@ -59,14 +59,6 @@ pub record Sound (does : Machine → Tested Outcome) (Allowed : Allowing) (old n
     pub sound : (m : Machine) (controls : ℕ → ℤ) → IsShown old m controls
         → Goes (does m) (length new.stack) (Allowed m controls) (IsShown new)
 
--- one stack became another as the machine does this, whatever else there is
-pub record Restacks (does : Machine → Tested Outcome) (ranges : List Range) (old new : List Cell)
-    : Type 0 where
-  pub restacks : (v : Valuation) (m : Machine) → Fits ranges v → m.stack ≡ values v old
-      → (rest : List ℤ) × (pushes : List Value) × (does m ≡ Ok (leaves m rest pushes))
-      × ((choices : Choices) → pushed_on pushes choices rest ≡ values v new)
-      × (length rest + length pushes ≡ length new)
-
 -- a number that is one of these for the machine is put on its stack
 pub record Puts (These : Valuation → Machine → (ℕ → ℤ) → ℤ → Type 0) (old new : State) : Type 0
   where
@@ -85,53 +77,6 @@ pub record Pops (old new : State) (cell : Cell) : Type 0 where
 pub record Pushes (old new : State) (cell : Cell) : Type 0 where
   pub top : new.stack ≡ cell ∷ old.stack
   pub same : new ≡ record old { stack = new.stack }
-
--- What an instruction computes.
-
--- the number is what the answer tells
-abbrev pub IsAnswer : Answer → Valuation → ℤ → Type 0
-IsAnswer (Exactly cell) v z = z ≡ value v cell
-IsAnswer (Within range) v z = IsWithin range z
-
--- the answer tells of each of these numbers, if it is one of the machine
-pub record Answers (These : Valuation → ℤ → Type 0) (ranges : List Range) (answer : Answer) : Type 0
-  where
-    pub answers : (v : Valuation) → Fits ranges v → (z : ℤ) → IsNumber z → These v z
-        → IsAnswer answer v z
-
--- what an arithmetic instruction makes of the number below the top and the top
-abbrev pub result_of : Arithmetic → ℤ → ℤ → Value
-result_of Add a b = exact (a +ℤ b)
-result_of Sub a b = exact (a -ℤ b)
-result_of Abs a b = exact (absolute b)
-result_of Neg a b = exact (neg_ℤ b)
-result_of Lt a b = truth (int_lt a b)
-result_of LtEq a b = truth (int_le a b)
-result_of Gt a b = truth (int_lt b a)
-result_of GtEq a b = truth (int_le b a)
-result_of Eq a b = truth (equal a b)
-result_of Neq a b = truth (not (equal a b))
-result_of And a b = truth (is_true a && is_true b)
-result_of Or a b = truth (is_true a || is_true b)
-result_of Not a b = truth (not (is_true b))
-
--- whether it takes the top only
-abbrev pub takes_one : Arithmetic → Bool
-takes_one Abs = true
-takes_one Neg = true
-takes_one Not = true
-takes_one _ = false
-
--- the number is what such an instruction may push
-pub record IsResult (op : Arithmetic) (a b z : ℤ) : Type 0 where
-  pub choice : ℤ
-  pub is_number : IsNumber choice
-  pub result : z ≡ number_of (result_of op a b) choice
-
--- the answer tells what the instruction makes of these cells
-abbrev pub AnswersResult : Arithmetic → Cell → Cell → List Range → Answer → Type 0
-AnswersResult op a b ranges answer =
-    Answers (λ v z. IsResult op (value v a) (value v b) z) ranges answer
 
 -- the instruction is carried out
 abbrev pub Computes : Arithmetic → State → State → Type 0

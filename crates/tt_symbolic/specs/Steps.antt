@@ -15,15 +15,6 @@ use Rattle.tt_symbolic_state.specs.Shows.{values}
 use Rattle.tt_symbolic_state.specs.declared.state.State.{State}
 use Rattle.tt_symbolic.specs.Sound.{Allowing, Sound, Works}
 
--- numbers put on a stack, one after the other
-abbrev pub numbers_on : List ℤ → List ℤ → List ℤ
-numbers_on [] stack = stack
-numbers_on (z ∷ zs) stack = numbers_on zs (z ∷ stack)
-
--- these numbers were put on the stack
-pub record PutsNumbers (zs : List ℤ) (old new : List Cell) : Type 0 where
-  pub puts : (v : Valuation) → values v new ≡ numbers_on zs (values v old)
-
 -- what the instruction of this code allows
 abbrev pub refined_by : ℕ → Allowing
 refined_by code m old choices new = Refines (refinement_of code) m.stack old choices new

@@ -3,7 +3,7 @@
 ghost use Rattle.std.specs.Prelude.{◌≡◌, ℕ, true};
 ghost use Rattle.std.specs.List.{All};
 ghost use Rattle.tt_symbolic_state.specs.declared.cell.Cell.{Cell as AnyCell};
-ghost use Rattle.tt_symbolic.specs.Areas.{Forgets, IsOutside, IsPartOf};
+ghost use Rattle.tt_symbolic.specs.Representation.Areas.{Forgets, IsOutside, IsPartOf};
 
 use tt_abs::SortedMap;
 use tt_symbolic_state::cell::Cell;

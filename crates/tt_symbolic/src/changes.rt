@@ -6,12 +6,12 @@ ghost use Rattle.tt_code.specs.declared.kinds.Update.TheVariants as update_kind;
 ghost use Rattle.tt_code.specs.declared.kinds.Source.TheVariants as source;
 ghost use Rattle.tt_symbolic_state.specs.Values.{Fits, Valuation, value};
 ghost use Rattle.tt_symbolic_state.specs.Shows.{values, zone_number};
-ghost use Rattle.tt_symbolic.specs.Changing.{Changes, ChangesAll, StoresAt, StoresBetween};
+ghost use Rattle.tt_symbolic.specs.Representation.Changing.{Changes, ChangesAll, StoresAt, StoresBetween};
 
 use crate::areas::forget;
-use crate::zones::{reference, set_pointer, set_reference};
 use tt_code::Reason;
 use tt_code::kinds::{Pointer, Reference, Source, Update};
+use tt_symbolic_cells::{reference, set_pointer, set_reference};
 use tt_symbolic_state::StepRefusal;
 use tt_symbolic_state::cell::{Cell, Range, bounds, is_in_machine, known, number};
 use tt_symbolic_state::stack::Stack;

@@ -6,15 +6,15 @@ ghost use Rattle.tt_code.specs.Settings.{body_name as name_of_body, is_target as
 ghost use Rattle.tt_code.specs.declared.kinds.Control.TheVariants as control;
 ghost use Rattle.tt_abs.specs.Settings.{frames_of, setting_of};
 ghost use Rattle.tt_symbolic_state.specs.Values.{Fits, Valuation, value};
-ghost use Rattle.tt_symbolic.specs.Leading.{Closes, GoesTo, IsAt, IsKnownFunction, JumpsIf, JumpsTo, Leads, Opens, Repeats};
+ghost use Rattle.tt_symbolic.specs.Representation.Leading.{Closes, GoesTo, IsAt, IsKnownFunction, JumpsIf, JumpsTo, Leads, Opens, Repeats};
 
-use crate::compute::truth_of;
 use crate::push::pop;
 use std::alloc::AllocError;
 use tt_abs::setting::body_offset;
 use tt_abs::{Kind, Point, Setting, SortedMap};
 use tt_code::Reason;
 use tt_code::kinds::Control;
+use tt_symbolic_cells::truth_of;
 use tt_symbolic_state::StepRefusal;
 use tt_symbolic_state::cell::{Cell, Range, bounds, difference, known, number};
 use tt_symbolic_state::state::{OpenCall, State};

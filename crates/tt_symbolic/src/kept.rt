@@ -3,18 +3,18 @@
 ghost use Rattle.std.specs.Prelude.{◌≡◌, ℕ, true, false};
 ghost use Rattle.std.specs.List.{All};
 ghost use Rattle.tt_abs.specs.Settings.{setting_of};
-ghost use Rattle.tt_symbolic.specs.Areas.{IsOutside};
+ghost use Rattle.tt_symbolic.specs.Representation.Areas.{IsOutside};
 ghost use Rattle.tt_symbolic.specs.Representation.Keeping.{AreAllPairsNoneOf, ArePairsNoneOf, IsNoStore, IsNoneOf, IsPairNoneOf, IsSecondNoneOf, KeepsControls, KeepsStorage, StoresNothing};
 ghost use Rattle.tt_symbolic.specs.Kept.{StepsKeep};
-ghost use Rattle.tt_symbolic.specs.Leading.{IsAt};
+ghost use Rattle.tt_symbolic.specs.Representation.Leading.{IsAt};
 
 use crate::changes::index_bounds;
 use crate::refined::pair_count;
-use crate::shuffle::cell_under;
 use crate::step::{frame_of, innermost, is_ordinary};
 use tt_abs::{Point, Setting};
 use tt_code::entry;
 use tt_code::kinds::{Effect, Update};
+use tt_symbolic_cells::cell_under;
 use tt_symbolic_state::cell::{Cell, Range};
 use tt_symbolic_state::state::State;
 

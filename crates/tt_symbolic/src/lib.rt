@@ -1,18 +1,14 @@
 //! What an instruction makes of a symbolic state.
 #![tactic(auto)]
 
-pub mod answer;
-pub mod areas;
-pub mod changes;
-pub mod compute;
-pub mod control;
-pub mod data;
-pub mod exact;
+mod areas;
+mod changes;
+mod compute;
+mod control;
 pub mod kept;
-pub mod operands;
-pub mod plain;
-pub mod push;
-pub mod refined;
-pub mod shuffle;
+mod plain;
+mod push;
+mod refined;
 pub mod step;
-pub mod zones;
+
+pub use kept::{Kept, NOTHING_KEPT, keeps};

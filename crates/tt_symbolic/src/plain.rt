@@ -4,15 +4,15 @@ ghost use Rattle.std.specs.Prelude.{◌≡◌, ℤ, IfOk, OnOk, [], ◌∷◌};
 ghost use Rattle.tt_code.specs.States.{Machine};
 ghost use Rattle.tt_code.specs.declared.kinds.Pushed.TheVariants as pushed_kind;
 ghost use Rattle.tt_abs.specs.Settings.{setting_of};
-ghost use Rattle.tt_symbolic.specs.Plain.{Cuts, Finishes, IsAny, IsControlAt, IsStoredAt, ListsControl, ListsStored, PlainWorks};
+ghost use Rattle.tt_symbolic.specs.Representation.Plain.{Cuts, Finishes, IsAny, IsControlAt, IsStoredAt, ListsControl, ListsStored, PlainWorks};
 ghost use Rattle.tt_symbolic.specs.Sound.{Puts};
 
 use crate::changes::{index_of, taken, update_all};
-use crate::operands::{take_operands, test_uses};
 use crate::push::put;
 use tt_abs::Setting;
 use tt_code::Reason;
 use tt_code::kinds::{Pushed, Row, Update};
+use tt_symbolic_cells::{take_operands, test_uses};
 use tt_symbolic_state::StepRefusal;
 use tt_symbolic_state::cell::{Cell, FULL};
 use tt_symbolic_state::state::{State, fresh};

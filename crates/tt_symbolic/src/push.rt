@@ -6,8 +6,8 @@ ghost use Rattle.tt_symbolic_state.specs.Values.{Fits, IsWithin, Valuation, valu
 ghost use Rattle.tt_symbolic_state.specs.Shows.{Shows};
 ghost use Rattle.tt_symbolic.specs.Sound.{Pops, Pushes, Puts};
 
-use crate::shuffle::cell_under;
 use tt_code::Reason;
+use tt_symbolic_cells::cell_under;
 use tt_symbolic_state::StepRefusal;
 use tt_symbolic_state::cell::{Cell, FULL, Range};
 use tt_symbolic_state::state::{State, fresh};

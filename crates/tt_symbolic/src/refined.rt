@@ -3,22 +3,20 @@
 
 ghost use Rattle.std.specs.Prelude.{◌≡◌, ◌∷◌, IfOk, OnOk, drop, pos};
 ghost use Rattle.tt_abs.specs.Settings.{setting_of};
-ghost use Rattle.tt_symbolic.specs.Areas.{ForgetsPair, ForgetsPairs};
-ghost use Rattle.tt_symbolic.specs.Refined.{ChangeWorks, ChangesWork, ExactWorks, ReadWorks, WriteWorks, exact_line, of_one_line, of_two_line};
+ghost use Rattle.tt_symbolic.specs.Representation.Areas.{ForgetsPair, ForgetsPairs};
+ghost use Rattle.tt_symbolic.specs.Representation.Refined.{ChangeWorks, ChangesWork, ExactWorks, ReadWorks, WriteWorks, exact_line, of_one_line, of_two_line};
 ghost use Rattle.tt_symbolic_state.specs.Values.{Fits, Valuation, value};
 ghost use Rattle.tt_symbolic_state.specs.declared.cell.Cell.{Cell as AnyCell};
 
 use crate::areas::forget;
 use crate::changes::{index_bounds, index_of};
 use crate::compute::put_answer;
-use crate::exact::{Exact, answer_of_one, answer_of_two};
-use crate::operands::{is_index, refusal_of};
 use crate::plain::{cut, execute_plain, put_any, put_control};
 use crate::push::pop;
-use crate::shuffle::cell_under;
 use tt_abs::Setting;
 use tt_code::Reason;
 use tt_code::kinds::Row;
+use tt_symbolic_cells::{Exact, answer_of_one, answer_of_two, cell_under, is_index, refusal_of};
 use tt_symbolic_state::StepRefusal;
 use tt_symbolic_state::cell::{Cell, is_in_machine, number};
 use tt_symbolic_state::state::State;

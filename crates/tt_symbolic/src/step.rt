@@ -4,23 +4,21 @@ ghost use Rattle.std.specs.Prelude.{◌≡◌, OnOk, Some, true, ℕ};
 ghost use Rattle.tt_code.specs.Cut.{code_of};
 ghost use Rattle.tt_abs.specs.Settings.{setting_of};
 ghost use Rattle.tt_symbolic_state.specs.CvtMachine.{ChangesControls, Ordinary, refinement_of};
-ghost use Rattle.tt_symbolic.specs.Leading.{IsAt, IsInnermost};
+ghost use Rattle.tt_symbolic.specs.Representation.Leading.{IsAt, IsInnermost};
 ghost use Rattle.tt_symbolic.specs.Sound.{keeps_controls};
 ghost use Rattle.tt_symbolic.specs.Steps.{CarriesOut, Dispatches, StepsTo, always, refined_by};
 
 use crate::compute::compute;
 use crate::control::execute_control;
-use crate::data::push_data;
-use crate::exact::Exact;
 use crate::plain::execute_plain;
 use crate::refined::{
     change_control, change_controls, compute_exact_of_one, compute_exact_of_two, read_control,
     write_control,
 };
-use crate::shuffle::shuffle;
 use tt_abs::{Point, Setting};
 use tt_code::kinds::Effect;
 use tt_code::{Frame, Instr, Reason, entry};
+use tt_symbolic_cells::{Exact, push_data, shuffle};
 use tt_symbolic_state::StepRefusal;
 use tt_symbolic_state::state::{OpenCall, State};
 

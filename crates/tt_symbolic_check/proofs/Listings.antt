@@ -11,7 +11,7 @@ use Rattle.tt_symbolic_state.specs.declared.cell.Range.{Range}
 use Rattle.tt_symbolic_check.specs.Covering.{AgreeEntries, Agrees, Extends, IsEntryOf}
 
 -- what is listed in a list of which all entries have a property has it
-found : {V : Type 0} (P : ℕ × V → Type 0) (es : List (ℕ × V)) → All P es → (i : ℕ) (x : V) → listed es i ≡ Some x → P (i, x)
+pub found : {V : Type 0} (P : ℕ × V → Type 0) (es : List (ℕ × V)) → All P es → (i : ℕ) (x : V) → listed es i ≡ Some x → P (i, x)
 found P [] all i x e = absurd (cc)
 found {V} P (y ∷ es) all i x e = go (nat_eq y.0 i) refl e (found P es (All-tail P y es all) i x)
   where

@@ -10,7 +10,7 @@ ghost use Rattle.tt_abs.specs.Cells.{CoversFunctions};
 use std::alloc::{AllocError, Global};
 use tt_abs::SortedMap;
 use tt_code::Graphics;
-use tt_symbolic_state::cell::{Cell, Range, bounds, difference, divided, known, number};
+use tt_symbolic_state::cell::{Cell, Range, bounds, difference, divided, known, simplified};
 use tt_symbolic_state::state::{OpenCall, State, Zone};
 
 /// Returns the cell that is assigned to a symbol, if one is.
@@ -81,16 +81,6 @@ fn assign(assigned: &mut [Option<Cell>], symbol: u32, cell: Cell) -> bool
     true
 }
 
-/// Returns the cell as a number, where its value is always the same, and otherwise as it is.
-fn simplified(ranges: &[Range], cell: Cell) -> Cell
-    ensures { (v : Valuation) → Fits ranges.now v → value v result ≡ value v cell }
-{
-    match number(cell, ranges) {
-        Some(number) => known(number),
-        None => cell,
-    }
-}
-
 /// Returns the cell that is to be assigned to the symbol of the covering cell, so that both agree.
 fn image(mine: Cell, theirs: Cell) -> Option<Cell>
     ensures { IfSome result (λ given. (v : Valuation)
@@ -126,7 +116,7 @@ fn agree(assigned: &mut [Option<Cell>], ranges: &[Range], mine: Cell, theirs: Ce
     ensures extends { Extends assigned.old assigned.new }
     ensures agrees { result ≡ true → Agrees assigned.new ranges.now mine theirs }
 {
-    agree_simplified(assigned, simplified(ranges, mine), theirs)
+    agree_simplified(assigned, simplified(mine, ranges), theirs)
 }
 
 /// Whether two open calls agree.
@@ -214,7 +204,7 @@ fn agree_entries(
 }
 
 /// Whether the functions of the covering state are those of the other, which may have more.
-fn has_functions(mine: &SortedMap<u32>, theirs: &[(u16, u32)]) -> bool
+pub fn has_functions(mine: &SortedMap<u32>, theirs: &[(u16, u32)]) -> bool
     ensures { result ≡ true → CoversFunctions theirs.now mine.now }
 {
     for entry in theirs {
@@ -228,6 +218,17 @@ fn has_functions(mine: &SortedMap<u32>, theirs: &[(u16, u32)]) -> bool
         }
     }
     true
+}
+
+/// Whether the functions of the covering state are those of the other, which may have more. Where
+/// both have the same, one comparison tells.
+fn covers_functions(mine: &SortedMap<u32>, theirs: &SortedMap<u32>) -> bool
+    ensures { result ≡ true → CoversFunctions theirs.now mine.now }
+{
+    if mine.is_same(theirs) {
+        return true;
+    }
+    has_functions(mine, theirs.as_slice())
 }
 
 /// Whether both are the same zone.
@@ -320,7 +321,7 @@ fn agree_states(
     if mine.offset != theirs.offset {
         return false;
     }
-    if !has_functions(&mine.functions, theirs.functions.as_slice()) {
+    if !covers_functions(&mine.functions, &theirs.functions) {
         return false;
     }
     if !agree_graphics(assigned, ranges, &mine.graphics, &theirs.graphics) {
@@ -348,11 +349,24 @@ fn agree_states(
     agree_entries(assigned, ranges, &mine.controls, theirs.controls.as_slice())
 }
 
-/// Whether the states are at the same offset, and as deep in calls and in elements.
+/// Whether both are in calls of the same bodies from the same places.
+fn are_in_same_calls(mine: &[OpenCall], theirs: &[OpenCall]) -> bool {
+    if mine.len() != theirs.len() {
+        return false;
+    }
+    for (own, other) in mine.iter().zip(theirs) {
+        if own.body != other.body || own.call != other.call {
+            return false;
+        }
+    }
+    true
+}
+
+/// Whether the states are at the same place, and as deep in elements: then more is to be compared.
 fn may_cover(mine: &State, theirs: &State) -> bool {
     mine.offset == theirs.offset
-        && mine.calls.len() == theirs.calls.len()
         && mine.stack.len() == theirs.stack.len()
+        && are_in_same_calls(mine.calls.as_slice(), theirs.calls.as_slice())
 }
 
 /// Makes a list in which nothing is assigned to any of so many symbols.

@@ -1,18 +1,20 @@
 //! The check of a program by listed symbolic states.
 #![tactic(auto)]
 
-pub mod checking;
-pub mod copying;
-pub mod covering;
+mod checking;
+mod copying;
+mod covering;
 pub mod laws;
-pub mod place_index;
-pub mod refusal;
-pub mod splits;
-pub mod start;
-pub mod walk;
+mod place_index;
+mod refusal;
+mod splits;
+mod start;
+mod walk;
 
 pub use checking::check;
-pub use covering::covers;
+pub use copying::{Split, copied, lower, raise};
+pub use covering::{covers, has_functions};
 pub use refusal::CheckRefusal;
-pub use start::Start;
-pub use walk::{Effort, USUAL_EFFORT};
+pub use splits::wanted;
+pub use start::{Start, start_state};
+pub use walk::{Effort, USUAL_EFFORT, is_at_end};

@@ -121,7 +121,7 @@ fn find(
 ) -> Result<Option<usize>, AllocError>
     ensures { IfOk result (λ found. IfSome found (λ i. IsCoveredBy listed.now i state.now)) }
 {
-    let mut place = index.first(state.offset);
+    let mut place = index.first(state);
     for i in 0..MOST_TESTED {
         let Some(there) = listed.get(place) else {
             return Ok(None);

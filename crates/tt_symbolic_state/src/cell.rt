@@ -98,6 +98,19 @@ pub fn number(cell: Cell, ranges: &[Range]) -> Option<i32>
     }
 }
 
+/// Returns the cell as a number, where its value is always the same, and otherwise as it is.
+pub fn simplified(cell: Cell, ranges: &[Range]) -> Cell
+    ensures { (v : Valuation) → Fits ranges.now v → value v result ≡ value v cell }
+{
+    if cell.factor == 0 {
+        return cell;
+    }
+    match number(cell, ranges) {
+        Some(number) => known(number),
+        None => cell,
+    }
+}
+
 /// Whether the cell's value is always a number of the machine.
 pub fn is_in_machine(cell: Cell, ranges: &[Range]) -> bool
     ensures { IsTrue result → (v : Valuation) → Fits ranges.now v

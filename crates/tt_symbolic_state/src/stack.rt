@@ -32,6 +32,20 @@ impl Stack {
         }
     }
 
+    /// Makes the stack of these cells, the bottom first.
+    pub fn from_cells(cells: Vec<Cell>) -> Self
+        ensures { result ≡ reverse cells.items }
+    {
+        Stack { cells }
+    }
+
+    /// Returns the cells, the bottom first.
+    pub fn into_cells(self) -> Vec<Cell>
+        ensures { result.items ≡ reverse self }
+    {
+        self.cells
+    }
+
     /// Returns how many cells there are.
     pub fn len(&self) -> usize
         ensures { result ≡ length self.now }

@@ -1,7 +1,7 @@
 use Rattle.std.proofs.Common.{take, ℕ}
 use Rattle.std.specs.List.{All}
 use Rattle.tt_symbolic_state.specs.declared.cell.Cell.{Cell}
-use Rattle.tt_symbolic.specs.Areas.{IsOutside}
+use Rattle.tt_symbolic.specs.Representation.Areas.{IsOutside}
 use Rattle.tt_symbolic.proofs.areas.are_outside.Given as goal
 
 abbrev pub invariant-loop-entry : goal.invariant-loop-entry

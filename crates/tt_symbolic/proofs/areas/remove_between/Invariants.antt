@@ -1,4 +1,4 @@
-use Rattle.tt_symbolic.specs.Areas.{IsPartOf}
+use Rattle.tt_symbolic.specs.Representation.Areas.{IsPartOf}
 use Rattle.tt_symbolic.proofs.areas.remove_between.Given as goal
 
 abbrev pub invariant-loop-i : goal.invariant-loop-i

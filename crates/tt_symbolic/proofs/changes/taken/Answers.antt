@@ -2,7 +2,7 @@ use Rattle.std.proofs.Common.{pos, subst, ℕ, ◌≡◌, ◌∷◌, drop, ◌+�
 use Rattle.tt_symbolic_state.specs.Values.{value}
 use Rattle.tt_symbolic_state.specs.Shows.{values}
 use Rattle.tt_symbolic.proofs.AreaFacts.{taken_is}
-use Rattle.tt_symbolic.proofs.Takings.{under_is}
+use Rattle.tt_symbolic_cells.proofs.Takings.{under_is}
 use Rattle.tt_symbolic.proofs.changes.taken.Goals as goal
 
 pub returns-in-Some : goal.returns-in-Some

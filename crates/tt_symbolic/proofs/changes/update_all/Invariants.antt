@@ -1,5 +1,5 @@
 use Rattle.std.proofs.Common.{drop}
-use Rattle.tt_symbolic.specs.Changing.{IsChanged}
+use Rattle.tt_symbolic.specs.Representation.Changing.{IsChanged}
 use Rattle.tt_symbolic.proofs.changes.update_all.Given as goal
 
 abbrev pub invariant-loop-change : goal.invariant-loop-change

@@ -1,6 +1,6 @@
 use Rattle.std.proofs.Common.{ap, sym, ◌∙◌}
 use Rattle.tt_code.specs.Entries.{view}
-use Rattle.tt_symbolic.specs.Plain.{line_of}
+use Rattle.tt_symbolic.specs.Representation.Plain.{line_of}
 use Rattle.tt_symbolic.proofs.Keepings.{keeps_other, keeps_plain, keeps_store}
 use Rattle.tt_symbolic.proofs.kept.keeps_storage.Goals as goal
 

@@ -1,5 +1,5 @@
 use Rattle.tt_abs.specs.Settings.{setting_of}
-use Rattle.tt_symbolic.specs.Plain.{line_of}
+use Rattle.tt_symbolic.specs.Representation.Plain.{line_of}
 use Rattle.tt_symbolic.proofs.Results.{on_ok}
 use Rattle.tt_symbolic.proofs.AreaFacts.{fits_there}
 use Rattle.tt_symbolic.proofs.Plains.{plain_works}

@@ -1,6 +1,6 @@
 use Rattle.tt_abs.specs.Settings.{setting_of}
 use Rattle.tt_code.specs.Changes.{plain}
-use Rattle.tt_symbolic.specs.Plain.{line_of}
+use Rattle.tt_symbolic.specs.Representation.Plain.{line_of}
 use Rattle.tt_symbolic.proofs.Results.{on_ok}
 use Rattle.tt_symbolic.proofs.RefinedFacts.{changes_work}
 use Rattle.tt_symbolic.proofs.refined.change_controls.Goals as goal

@@ -1,7 +1,7 @@
 use Rattle.std.proofs.Common.{subst, List}
 use Rattle.tt_abs.specs.Settings.{setting_of}
 use Rattle.tt_symbolic_state.specs.declared.cell.Range.{Range}
-use Rattle.tt_symbolic.specs.Refined.{AnswersExact}
+use Rattle.tt_symbolic_cells.specs.Answers.{AnswersExact}
 use Rattle.tt_symbolic.proofs.Results.{on_ok}
 use Rattle.tt_symbolic.proofs.RefinedFacts.{exact_one}
 use Rattle.tt_symbolic.proofs.refined.compute_exact_of_one.Goals as goal

@@ -1,4 +1,4 @@
-use Rattle.tt_symbolic.specs.Areas.{ForgetsPairs}
+use Rattle.tt_symbolic.specs.Representation.Areas.{ForgetsPairs}
 use Rattle.tt_symbolic.proofs.refined.forget_pairs.Given as goal
 
 abbrev pub invariant-loop-pair : goal.invariant-loop-pair

@@ -2,8 +2,8 @@ use Rattle.std.proofs.Common.{ap, ◌∙◌, ◌≡◌}
 use Rattle.tt_code.specs.Table.{effect_of}
 use Rattle.tt_abs.specs.Settings.{setting_of}
 use Rattle.tt_symbolic_state.specs.CvtMachine.{refinement_of, ChangesControl, ReadsControl, WritesControl}
-use Rattle.tt_symbolic.specs.Refined.{of_one_line, of_two_line, read_line, refinement_for, write_line}
-use Rattle.tt_symbolic.specs.declared.exact.Exact.TheVariants as exact
+use Rattle.tt_symbolic.specs.Representation.Refined.{of_one_line, of_two_line, read_line, refinement_for, write_line}
+use Rattle.tt_symbolic_cells.specs.declared.exact.Exact.TheVariants as exact
 use Rattle.tt_symbolic.proofs.Results.{on_ok}
 use Rattle.tt_symbolic.proofs.Steppings.{code_is, first_code, refined_here, ordinary_here, read_effect, write_effect, change_effect, exact_effects}
 use Rattle.tt_symbolic.proofs.step.execute_here.Goals as goal

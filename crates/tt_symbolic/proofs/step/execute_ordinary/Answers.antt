@@ -4,7 +4,7 @@ use Rattle.tt_code.specs.Table.{effect_of}
 use Rattle.tt_abs.specs.Settings.{setting_of}
 use Rattle.tt_code.specs.Computing.{shuffled}
 use Rattle.tt_symbolic_state.specs.declared.cell.Range.{Range}
-use Rattle.tt_symbolic.specs.Sound.{Restacks}
+use Rattle.tt_symbolic_cells.specs.Stacking.{Restacks}
 use Rattle.tt_symbolic.proofs.Results.{on_ok}
 use Rattle.tt_symbolic.proofs.Steppings.{first_code, data_here, stack_here}
 use Rattle.tt_symbolic.proofs.step.execute_ordinary.Goals as goal

@@ -1,7 +1,7 @@
 use Rattle.std.proofs.Common.{◌∷◌, [], List, reverse, refl, ap, sym, ◌∙◌, subst}
 use Rattle.std.proofs.lemmas.List.{reverse-append}
 use Rattle.tt_symbolic_state.specs.declared.state.OpenCall.{OpenCall}
-use Rattle.tt_symbolic.specs.Leading.{SameBody}
+use Rattle.tt_symbolic.specs.Representation.Leading.{SameBody}
 use Rattle.tt_symbolic.proofs.step.step.Goals as goal
 
 pub step_at-requires : goal.step_at-requires

@@ -1,0 +1,5 @@
+pub mod Computings
+pub mod Exacts
+pub mod Simplifying
+pub mod Stacks
+pub mod Takings

@@ -1,0 +1,12 @@
+use Rattle.std.proofs.Common.{rules}
+use Rattle.std.specs.Prelude.{FitsSigned}
+use Rattle.std.specs.Int.{w64}
+use Rattle.std.proofs.lemmas.Int.{to_z-of_z}
+use Rattle.tt_symbolic_cells.proofs.Computings.{difference_within}
+use Rattle.tt_symbolic_cells.proofs.results.difference_range.Goals as goal
+
+pub returns-in-Some : goal.returns-in-Some
+returns-in-Some c =
+    let a : FitsSigned w64 c.in-Some.low = search rules in
+    let b : FitsSigned w64 c.in-Some.high = search rules in
+    difference_within c.args.a c.args.b c.args.ranges.now c.in-Some.low c.in-Some.high c.range_between.result c.in-Some.ensures (simp to_z-of_z at c.range_between.ensures)

@@ -1,0 +1,4 @@
+pub mod Answers
+pub mod Stacking
+pub mod Taking
+pub mod Representation

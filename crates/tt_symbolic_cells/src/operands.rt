@@ -1,0 +1,298 @@
+//! Taking operands. `taken` is how many cells are taken from the top already; a function that takes
+//! more returns how many are taken then.
+
+ghost use Rattle.std.specs.Prelude.{◌≡◌, ◌+◌, IfOk, OnOk, drop, Ok, true};
+ghost use Rattle.tt_code.specs.Operands.{count_of, is_zone, pair, pairs, take_one, take_operand, take_operands as take_all, test_uses as test_all, tested, times};
+ghost use Rattle.tt_code.specs.declared.reason.Reason.{Reason as AnyReason};
+ghost use Rattle.tt_code.specs.States.{is_below};
+ghost use Rattle.tt_abs.specs.Settings.{setting_of};
+ghost use Rattle.tt_symbolic_state.specs.Values.{Fits, Valuation, value};
+ghost use Rattle.tt_symbolic_state.specs.Shows.{graphics_of, values};
+ghost use Rattle.tt_symbolic_cells.specs.Taking.{Leaves, Takes, below_bound};
+
+use crate::zones::{contours, names_zone, pointer, points_in, points_within, reference};
+use tt_abs::Setting;
+use tt_code::kinds::{Operand, Use};
+use tt_code::{Graphics, Reason};
+use tt_symbolic_state::cell::{Cell, Range, bounds, number};
+use tt_symbolic_state::stack::Stack;
+use tt_symbolic_state::state::Zone;
+
+/// Whether the cell is always an index below the bound.
+pub fn is_index(ranges: &[Range], cell: Cell, bound: u32) -> bool
+    ensures { result ≡ true → (v : Valuation) → Fits ranges.now v
+        → is_below (value v cell) bound ≡ true }
+{
+    match bounds(cell, ranges) {
+        Some((low, high)) => low >= 0 && high < i64::from(bound),
+        None => false,
+    }
+}
+
+/// Returns why an index is refused: for its own reason, where it is known.
+pub fn refusal_of(ranges: &[Range], cell: Cell, reason: Reason) -> Reason {
+    match number(cell, ranges) {
+        Some(_) => reason,
+        None => Reason::UnknownOperand,
+    }
+}
+
+/// Takes an index below the bound.
+fn take_below(
+    ranges: &[Range],
+    stack: &Stack,
+    taken: usize,
+    bound: u32,
+    reason: Reason,
+) -> Result<usize, Reason>
+    ensures { IfOk result (λ n. (v : Valuation) → Fits ranges.now v → (r : AnyReason)
+        → Takes (below_bound bound r) (values v stack.now) taken n) }
+{
+    match stack.under(taken) {
+        Some(cell) => {
+            if is_index(ranges, cell, bound) {
+                Ok(taken + 1)
+            } else {
+                Err(refusal_of(ranges, cell, reason))
+            }
+        }
+        None => Err(Reason::Underflow),
+    }
+}
+
+/// Takes any cell.
+fn take_any(stack: &Stack, taken: usize) -> Result<usize, Reason>
+    ensures { IfOk result (λ n. (v : Valuation) → Takes take_one (values v stack.now) taken n) }
+{
+    match stack.under(taken) {
+        Some(_) => Ok(taken + 1),
+        None => Err(Reason::Underflow),
+    }
+}
+
+/// Takes a zone that the font has.
+fn take_zone(
+    setting: &Setting<'_>,
+    ranges: &[Range],
+    stack: &Stack,
+    taken: usize,
+) -> Result<usize, Reason>
+    ensures { IfOk result (λ n. (v : Valuation) → Fits ranges.now v → (r : AnyReason)
+        → Takes (tested (is_zone (setting_of setting.now)) r) (values v stack.now) taken n) }
+{
+    match stack.under(taken) {
+        Some(cell) => match number(cell, ranges) {
+            Some(zone) => {
+                if names_zone(setting, zone) {
+                    Ok(taken + 1)
+                } else {
+                    Err(Reason::Zone)
+                }
+            }
+            None => Err(Reason::UnknownOperand),
+        },
+        None => Err(Reason::Underflow),
+    }
+}
+
+/// Returns the count that the cell is.
+fn count(ranges: &[Range], cell: Cell) -> Result<u32, Reason>
+    ensures { IfOk result (λ n. (v : Valuation) → Fits ranges.now v
+        → count_of (value v cell) ≡ Ok n) }
+{
+    match number(cell, ranges) {
+        Some(number) => match u32::try_from(number) {
+            Ok(n) => Ok(n),
+            Err(_) => Err(Reason::Count),
+        },
+        None => Err(Reason::UnknownOperand),
+    }
+}
+
+/// Takes `count` indexes below the bound.
+fn take_many(
+    ranges: &[Range],
+    stack: &Stack,
+    taken: usize,
+    bound: u32,
+    count: u32,
+    reason: Reason,
+) -> Result<usize, Reason>
+    ensures { IfOk result (λ n. (v : Valuation) → Fits ranges.now v → (r : AnyReason)
+        → Takes (times count (below_bound bound r)) (values v stack.now) taken n) }
+{
+    let mut after = taken;
+    for i in 0..count {
+        after = take_below(ranges, stack, after, bound, reason)?;
+    }
+    Ok(after)
+}
+
+/// Takes an index below the bound and any cell.
+fn take_pair(
+    ranges: &[Range],
+    stack: &Stack,
+    taken: usize,
+    bound: u32,
+    reason: Reason,
+) -> Result<usize, Reason>
+    ensures { IfOk result (λ n. (v : Valuation) → Fits ranges.now v → (r : AnyReason)
+        → Takes (pair (below_bound bound r)) (values v stack.now) taken n) }
+{
+    let after = take_below(ranges, stack, taken, bound, reason)?;
+    let end = take_any(stack, after)?;
+    Ok(end)
+}
+
+/// Takes `count` pairs of an index below the bound and any cell.
+fn take_many_pairs(
+    ranges: &[Range],
+    stack: &Stack,
+    taken: usize,
+    bound: u32,
+    count: u32,
+    reason: Reason,
+) -> Result<usize, Reason>
+    ensures { IfOk result (λ n. (v : Valuation) → Fits ranges.now v → (r : AnyReason)
+        → Takes (times count (pair (below_bound bound r))) (values v stack.now) taken n) }
+{
+    let mut after = taken;
+    for i in 0..count {
+        after = take_pair(ranges, stack, after, bound, reason)?;
+    }
+    Ok(after)
+}
+
+/// Takes a count, and as many pairs.
+fn take_pairs(
+    ranges: &[Range],
+    stack: &Stack,
+    taken: usize,
+    bound: u32,
+    reason: Reason,
+) -> Result<usize, Reason>
+    ensures { IfOk result (λ n. (v : Valuation) → Fits ranges.now v → (r : AnyReason)
+        → Takes (pairs count_of (below_bound bound r)) (values v stack.now) taken n) }
+{
+    match stack.under(taken) {
+        Some(cell) => {
+            let n = count(ranges, cell)?;
+            let end = take_many_pairs(ranges, stack, taken + 1, bound, n, reason)?;
+            Ok(end)
+        }
+        None => Err(Reason::Underflow),
+    }
+}
+
+/// Takes what an operand describes.
+fn take(
+    setting: &Setting<'_>,
+    graphics: &Graphics<Cell, Zone>,
+    ranges: &[Range],
+    stack: &Stack,
+    taken: usize,
+    operand: Operand,
+) -> Result<usize, Reason>
+    ensures { IfOk result (λ n. (v : Valuation) → Fits ranges.now v
+        → Takes (take_operand (setting_of setting.now) (graphics_of v graphics.now) operand)
+        (values v stack.now) taken n) }
+{
+    match operand {
+        Operand::Number => take_any(stack, taken),
+        Operand::Point(within) => {
+            take_below(
+                ranges,
+                stack,
+                taken,
+                points_within(setting, graphics, within),
+                Reason::Point,
+            )
+        }
+        Operand::Cvt => take_below(ranges, stack, taken, setting.cvt, Reason::Cvt),
+        Operand::Storage => {
+            take_below(
+                ranges,
+                stack,
+                taken,
+                u32::from(setting.limits.storage),
+                Reason::Storage,
+            )
+        }
+        Operand::Zone => take_zone(setting, ranges, stack, taken),
+        Operand::Contour => {
+            take_below(
+                ranges,
+                stack,
+                taken,
+                contours(setting, graphics.zp2),
+                Reason::Contour,
+            )
+        }
+        Operand::LoopPoints(within) => {
+            let n = count(ranges, graphics.loop_number)?;
+            take_many(
+                ranges,
+                stack,
+                taken,
+                points_within(setting, graphics, within),
+                n,
+                Reason::Point,
+            )
+        }
+        Operand::PointPairs(within) => {
+            take_pairs(
+                ranges,
+                stack,
+                taken,
+                points_within(setting, graphics, within),
+                Reason::Point,
+            )
+        }
+        Operand::CvtPairs => take_pairs(ranges, stack, taken, setting.cvt, Reason::Cvt),
+    }
+}
+
+/// Takes the operands, one after the other, and returns how many cells were taken.
+///
+/// # Errors
+/// The reason of the first test that can fail, or `UnknownOperand`.
+pub fn take_operands(
+    setting: &Setting<'_>,
+    graphics: &Graphics<Cell, Zone>,
+    ranges: &[Range],
+    stack: &Stack,
+    operands: &[Operand],
+) -> Result<usize, Reason>
+    ensures { IfOk result (λ n. (v : Valuation) → Fits ranges.now v
+        → Leaves (take_all (setting_of setting.now) (graphics_of v graphics.now) operands.now
+        (values v stack.now)) (drop n (values v stack.now))) }
+{
+    let mut taken = 0;
+    for operand in operands {
+        taken = take(setting, graphics, ranges, stack, taken, *operand)?;
+    }
+    Ok(taken)
+}
+
+/// Tests the reference points that are used.
+///
+/// # Errors
+/// `Point`, where one of them is known and no point; `UnknownOperand`, where one may be none.
+pub fn test_uses(
+    setting: &Setting<'_>,
+    graphics: &Graphics<Cell, Zone>,
+    ranges: &[Range],
+    uses: &[Use],
+) -> Result<(), Reason>
+    ensures { OnOk result ((v : Valuation) → Fits ranges.now v
+        → test_all (setting_of setting.now) (graphics_of v graphics.now) uses.now ≡ Ok tt) }
+{
+    for used in uses {
+        let cell = reference(graphics, used.reference);
+        let bound = points_in(setting, pointer(graphics, used.pointer));
+        if !is_index(ranges, cell, bound) {
+            return Err(refusal_of(ranges, cell, Reason::Point));
+        }
+    }
+    Ok(())
+}

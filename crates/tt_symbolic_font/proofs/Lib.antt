@@ -1,0 +1,3 @@
+pub mod Checked
+pub mod Following
+pub mod Fonts

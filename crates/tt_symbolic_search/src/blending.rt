@@ -1,0 +1,439 @@
+//! Merges of two states: the least listed state that shows both, with widened ranges.
+
+use crate::boxes::{Area, Symbols, is_wide, listed_near};
+use crate::cell_names::{CellName, Part};
+use crate::origins::{NOWHERE, OriginNumber, Origins};
+use crate::thresholds::{End, GREATEST, LEAST, widened};
+use crate::track::Track;
+use std::alloc::{AllocError, Global};
+use std::collections::HashMap;
+use std::mem;
+use tt_abs::SortedMap;
+use tt_symbolic_state::cell::{Cell, Range, bounds, known, number};
+use tt_symbolic_state::stack::Stack;
+
+/// Strides are below this.
+const MOST_STRIDE: u64 = 1 << 20;
+
+/// How many divisions find a common divisor at most.
+const MOST_DIVISIONS: u32 = 100;
+
+/// What the merges of a run know of one another.
+#[derive(Drop)]
+pub(crate) struct Merges {
+    /// The origins of symbols.
+    pub origins: Origins,
+    /// The origin of what is read from an entry that was listed, until a merge dropped it.
+    pub dropped: HashMap<Part, OriginNumber>,
+    /// The thresholds of widening.
+    pub thresholds: Vec<i64>,
+}
+
+impl Merges {
+    /// Returns the origin of what is read from an entry that isn't listed.
+    pub(crate) fn dropped_origin(&self, part: Part) -> OriginNumber {
+        self.dropped.get(&part).copied().unwrap_or(NOWHERE)
+    }
+
+    /// Notes that a merge drops an entry that was a known number.
+    fn note_dropped(&mut self, name: CellName) -> Result<(), AllocError> {
+        let before = self.dropped_origin(name.part);
+        let origin = self.origins.merged(name, true, before, NOWHERE)?;
+        self.dropped.insert(name.part, origin)?;
+        Ok(())
+    }
+}
+
+/// Returns the greatest common divisor of two numbers.
+fn common_divisor(a: u64, b: u64) -> u64 {
+    let (mut greater, mut less) = (a, b);
+    for _ in 0..MOST_DIVISIONS {
+        match greater.checked_rem(less) {
+            None => return greater,
+            Some(rest) => {
+                greater = less;
+                less = rest;
+            }
+        }
+    }
+    1
+}
+
+/// Returns a number of which the distances of all values of two cells are multiples.
+fn stride_of(one: Cell, other: Cell) -> i64 {
+    let distance = i64::from(one.offset).saturating_sub(i64::from(other.offset));
+    let factors = common_divisor(
+        u64::from(one.factor.unsigned_abs()),
+        u64::from(other.factor.unsigned_abs()),
+    );
+    let stride = common_divisor(factors, distance.unsigned_abs());
+    if stride == 0 || stride >= MOST_STRIDE {
+        return 1;
+    }
+    i64::try_from(stride).unwrap_or(1)
+}
+
+/// A set of numbers in steps of a stride, of which one is the base.
+#[derive(Clone, Copy)]
+struct Steps {
+    base: i64,
+    stride: i64,
+}
+
+impl Steps {
+    /// Makes the steps in which the values of two cells are.
+    fn of(one: Cell, other: Cell) -> Steps {
+        let stride = stride_of(one, other);
+        let base = if stride == 1 {
+            0
+        } else {
+            i64::from(one.offset)
+        };
+        Steps { base, stride }
+    }
+
+    /// Returns the number of the step at a number, or of the one before it.
+    fn at(self, number: i64) -> i64 {
+        let distance = number.saturating_sub(self.base);
+        distance.checked_div_euclid(self.stride).unwrap_or(0)
+    }
+
+    /// Returns the numbers of the steps between which a cell's values are.
+    fn of_cell(self, cell: Cell, ranges: &[Range]) -> (i64, i64) {
+        match bounds(cell, ranges) {
+            Some((low, high)) => (self.at(low), self.at(high)),
+            None => (LEAST, GREATEST),
+        }
+    }
+
+    /// Returns the range of these numbers of steps, as far as their numbers are those of the
+    /// machine.
+    fn range(self, low: i64, high: i64) -> Range {
+        let greatest = self.at(GREATEST).min(GREATEST);
+        let least = 0i64.saturating_sub(self.least_distance()).max(LEAST);
+        Range {
+            low: i32::try_from(low.max(least)).unwrap_or(i32::MIN),
+            high: i32::try_from(high.min(greatest)).unwrap_or(i32::MAX),
+        }
+    }
+
+    /// Returns how many steps the least number of the machine is below the base.
+    fn least_distance(self) -> i64 {
+        let distance = self.base.saturating_sub(LEAST);
+        distance.checked_div_euclid(self.stride).unwrap_or(0)
+    }
+
+    /// Returns the cell of these steps with a symbol.
+    fn cell(self, symbol: u32) -> Cell {
+        Cell {
+            symbol,
+            factor: i32::try_from(self.stride).unwrap_or(1),
+            offset: i32::try_from(self.base).unwrap_or(0),
+        }
+    }
+}
+
+/// A merge: a track is made to show what an old one shows too.
+#[derive(Drop)]
+struct Blending<'a> {
+    old: &'a Track,
+    /// The symbols that the track had.
+    mine: Symbols,
+    /// The symbols that it gets.
+    new: Symbols,
+    /// How often what is merged has risen before.
+    rises: u32,
+}
+
+impl Blending<'_> {
+    /// Returns the number that both cells always are, if there is one.
+    fn common_number(&self, old: Cell, mine: Cell) -> Option<i32> {
+        let theirs = number(old, self.old.state.ranges.as_slice())?;
+        let own = number(mine, self.mine.ranges.as_slice())?;
+        if theirs == own { Some(own) } else { None }
+    }
+
+    /// Returns a cell that can be each value of both cells.
+    fn cell(
+        &mut self,
+        merges: &mut Merges,
+        old: Cell,
+        mine: Cell,
+        name: CellName,
+    ) -> Result<Cell, AllocError> {
+        if let Some(number) = self.common_number(old, mine) {
+            return Ok(known(number));
+        }
+        let steps = Steps::of(old, mine);
+        let theirs = steps.of_cell(old, self.old.state.ranges.as_slice());
+        let own = steps.of_cell(mine, self.mine.ranges.as_slice());
+        let is_changed = old.factor == 0 || mine.factor == 0 || theirs != own;
+        let origin = self.origin(merges, old, mine, name, is_changed)?;
+        let range = self.hull(merges.thresholds.as_slice(), steps, theirs, own);
+        let symbol = self.new.add(range, origin)?;
+        Ok(steps.cell(symbol))
+    }
+
+    /// Returns the range of the steps of both cells, widened where it has risen often.
+    fn hull(&self, thresholds: &[i64], steps: Steps, old: (i64, i64), mine: (i64, i64)) -> Range {
+        let low = if mine.0 < old.0 {
+            widened(thresholds, End::Low, old.0, mine.0, self.rises)
+        } else {
+            old.0
+        };
+        let high = if mine.1 > old.1 {
+            widened(thresholds, End::High, old.1, mine.1, self.rises)
+        } else {
+            old.1
+        };
+        steps.range(low, high)
+    }
+
+    /// Returns the origin of the symbol of a merged cell.
+    fn origin(
+        &self,
+        merges: &mut Merges,
+        old: Cell,
+        mine: Cell,
+        name: CellName,
+        is_changed: bool,
+    ) -> Result<OriginNumber, AllocError> {
+        let theirs = self.old.origin(old);
+        let own = self.mine.origin(mine);
+        if !is_changed {
+            return merges.origins.computed(theirs, own);
+        }
+        let lost_number = old.factor == 0 && mine.factor == 0;
+        merges.origins.merged(name, lost_number, theirs, own)
+    }
+
+    /// Merges what is left of the calls.
+    fn calls(&mut self, merges: &mut Merges, track: &mut Track) -> Result<(), AllocError> {
+        let old = self.old;
+        let theirs = old.state.calls.as_slice().iter();
+        for (call, other) in track.state.calls.iter_mut().zip(theirs) {
+            let name = CellName {
+                body: Some(call.body),
+                part: Part::Left,
+            };
+            call.left = self.cell(merges, other.left, call.left, name)?;
+        }
+        Ok(())
+    }
+
+    /// Merges the graphics states.
+    fn graphics(&mut self, merges: &mut Merges, track: &mut Track) -> Result<(), AllocError> {
+        let old = self.old.state.graphics;
+        let mine = track.state.graphics;
+        let rp0 = self.cell(merges, old.rp0, mine.rp0, track.name(Part::Rp0))?;
+        let rp1 = self.cell(merges, old.rp1, mine.rp1, track.name(Part::Rp1))?;
+        let rp2 = self.cell(merges, old.rp2, mine.rp2, track.name(Part::Rp2))?;
+        let name = track.name(Part::Loop);
+        let loop_number = self.cell(merges, old.loop_number, mine.loop_number, name)?;
+        let graphics = &mut track.state.graphics;
+        graphics.rp0 = rp0;
+        graphics.rp1 = rp1;
+        graphics.rp2 = rp2;
+        graphics.loop_number = loop_number;
+        Ok(())
+    }
+
+    /// Merges the stacks.
+    fn stack(
+        &mut self,
+        alloc: Global,
+        merges: &mut Merges,
+        track: &mut Track,
+    ) -> Result<(), AllocError> {
+        let mut cells = mem::replace(&mut track.state.stack, Stack::new(alloc)).into_cells();
+        let old = self.old;
+        let theirs = old.state.stack.as_slice().iter();
+        for (height, (cell, other)) in cells.iter_mut().zip(theirs).enumerate() {
+            if cell.factor != 0 || other.factor != 0 || cell.offset != other.offset {
+                let name = track.element_name(height);
+                *cell = self.cell(merges, *other, *cell, name)?;
+            }
+        }
+        track.state.stack = Stack::from_cells(cells);
+        Ok(())
+    }
+
+    /// Merges an entry with that of the old state, if it lists it: returns its cell, if it is still
+    /// listed.
+    fn entry(
+        &mut self,
+        merges: &mut Merges,
+        area: Area,
+        old: Option<Cell>,
+        mine: Cell,
+        name: CellName,
+    ) -> Result<Option<Cell>, AllocError> {
+        let Some(old) = old else {
+            drop_entry(merges, name, mine)?;
+            return Ok(None);
+        };
+        let cell = self.cell(merges, old, mine, name)?;
+        if cell.factor != 0 && is_wide(self.new.range(cell), area.width()) {
+            return Ok(None);
+        }
+        Ok(Some(cell))
+    }
+}
+
+/// Which entry of a memory area it is.
+pub(crate) fn part_of(area: Area, number: u16) -> Part {
+    match area {
+        Area::Storage => Part::Storage(number),
+        Area::Controls => Part::Control(number),
+    }
+}
+
+/// What becomes of an entry by a merge.
+#[derive(Clone, Copy)]
+struct Change {
+    number: u16,
+    /// Its cell; none where it is no longer listed.
+    cell: Option<Cell>,
+}
+
+/// Notes that an entry is dropped which only one of the states lists.
+fn drop_entry(merges: &mut Merges, name: CellName, cell: Cell) -> Result<(), AllocError> {
+    if cell.factor == 0 {
+        merges.note_dropped(name)?;
+    }
+    Ok(())
+}
+
+/// Notes which entries of the old state are dropped, since the other doesn't list them.
+fn drop_old_entries(
+    merges: &mut Merges,
+    track: &Track,
+    area: Area,
+    mine: &SortedMap<Cell>,
+    theirs: &SortedMap<Cell>,
+) -> Result<(), AllocError> {
+    for (place, entry) in theirs.as_slice().iter().enumerate() {
+        if listed_near(mine, place, entry.0).is_none() {
+            drop_entry(merges, track.name(part_of(area, entry.0)), entry.1)?;
+        }
+    }
+    Ok(())
+}
+
+/// Whether the cells are the same known number.
+fn is_same_number(one: Cell, other: Cell) -> bool {
+    one.factor == 0 && other.factor == 0 && one.offset == other.offset
+}
+
+/// Finds out what becomes of the entries of a memory area, which the track lists.
+fn entry_changes(
+    alloc: Global,
+    blending: &mut Blending<'_>,
+    merges: &mut Merges,
+    track: &Track,
+    area: Area,
+    mine: &SortedMap<Cell>,
+    theirs: &SortedMap<Cell>,
+) -> Result<Vec<Change>, AllocError> {
+    let mut changes = Vec::new(alloc);
+    for (place, entry) in mine.as_slice().iter().enumerate() {
+        let (number, cell) = *entry;
+        let other = listed_near(theirs, place, number);
+        if other.is_some_and(|other| is_same_number(other, cell)) {
+            continue;
+        }
+        let name = track.name(part_of(area, number));
+        let merged = blending.entry(merges, area, other, cell, name)?;
+        changes.push(Change {
+            number,
+            cell: merged,
+        })?;
+    }
+    Ok(changes)
+}
+
+/// Changes the entries of a memory area.
+fn change_entries(entries: &mut SortedMap<Cell>, changes: &[Change]) -> Result<(), AllocError> {
+    for change in changes {
+        match change.cell {
+            Some(cell) => entries.put(change.number, cell)?,
+            None => entries.remove(change.number),
+        }
+    }
+    Ok(())
+}
+
+/// Merges the storage areas.
+fn blend_storage(
+    alloc: Global,
+    blending: &mut Blending<'_>,
+    merges: &mut Merges,
+    track: &mut Track,
+) -> Result<(), AllocError> {
+    let theirs = &blending.old.state.storage;
+    drop_old_entries(merges, track, Area::Storage, &track.state.storage, theirs)?;
+    let mine = &track.state.storage;
+    let changes = entry_changes(alloc, blending, merges, track, Area::Storage, mine, theirs)?;
+    change_entries(&mut track.state.storage, changes.as_slice())
+}
+
+/// Merges the control values.
+fn blend_controls(
+    alloc: Global,
+    blending: &mut Blending<'_>,
+    merges: &mut Merges,
+    track: &mut Track,
+) -> Result<(), AllocError> {
+    let theirs = &blending.old.state.controls;
+    drop_old_entries(merges, track, Area::Controls, &track.state.controls, theirs)?;
+    let mine = &track.state.controls;
+    let changes = entry_changes(alloc, blending, merges, track, Area::Controls, mine, theirs)?;
+    change_entries(&mut track.state.controls, changes.as_slice())
+}
+
+/// Whether the place of the old track is the later one.
+fn is_later(old: &Track, track: &Track) -> bool {
+    for (theirs, own) in old.levels.as_slice().iter().zip(track.levels.as_slice()) {
+        if theirs.turn != own.turn {
+            return theirs.turn > own.turn;
+        }
+        if theirs.base != own.base {
+            return theirs.base > own.base;
+        }
+    }
+    false
+}
+
+/// Makes a track show what an old one of the same frame shows too, with a symbol for each cell that
+/// isn't a number.
+pub(crate) fn blend(
+    alloc: Global,
+    merges: &mut Merges,
+    old: &Track,
+    track: &mut Track,
+    rises: u32,
+) -> Result<(), AllocError> {
+    let mut blending = Blending {
+        old,
+        mine: Symbols::take(alloc, track),
+        new: Symbols::new(alloc),
+        rises,
+    };
+    blending.calls(merges, track)?;
+    blending.graphics(merges, track)?;
+    blending.stack(alloc, merges, track)?;
+    blend_storage(alloc, &mut blending, merges, track)?;
+    blend_controls(alloc, &mut blending, merges, track)?;
+    if is_later(old, track) {
+        track.levels = Vec::from_slice(alloc, old.levels.as_slice())?;
+    }
+    track.add_splits(old.splits.as_slice())?;
+    let Blending {
+        old: _,
+        mine: _,
+        new,
+        rises: _,
+    } = blending;
+    new.put(track);
+    Ok(())
+}

@@ -1,0 +1,248 @@
+//! States in which each cell has a symbol of its own, as listed states are, and states without the
+//! symbols that no cell has.
+
+use crate::origins::{NOWHERE, OriginNumber};
+use crate::track::Track;
+use std::alloc::{AllocError, Global};
+use std::mem;
+use tt_abs::SortedMap;
+use tt_symbolic_state::cell::{Cell, Range, known, number};
+use tt_symbolic_state::stack::Stack;
+
+/// How many numbers the range of a storage cell has of which nothing is known, less 1.
+const STORAGE_WIDTH: i64 = (1 << 32) - 1;
+
+/// How many numbers the range of a control value may have that isn't worth to be listed.
+const CONTROL_WIDTH: i64 = 1 << 24;
+
+/// In place of a new number: there is none.
+const NONE: u32 = u32::MAX;
+
+/// The symbols of a state.
+#[derive(Drop)]
+pub(crate) struct Symbols {
+    /// Their ranges.
+    pub ranges: Vec<Range>,
+    /// Their origins.
+    pub origins: Vec<OriginNumber>,
+}
+
+impl Symbols {
+    /// Makes no symbols.
+    pub(crate) fn new(alloc: Global) -> Symbols {
+        Symbols {
+            ranges: Vec::new(alloc),
+            origins: Vec::new(alloc),
+        }
+    }
+
+    /// Takes the symbols out of a track, which is left without any.
+    pub(crate) fn take(alloc: Global, track: &mut Track) -> Symbols {
+        Symbols {
+            ranges: mem::replace(&mut track.state.ranges, Vec::new(alloc)),
+            origins: mem::replace(&mut track.origins, Vec::new(alloc)),
+        }
+    }
+
+    /// Gives a track these symbols.
+    pub(crate) fn put(self, track: &mut Track) {
+        let Symbols { ranges, origins } = self;
+        track.state.ranges = ranges;
+        track.origins = origins;
+    }
+
+    /// Adds a symbol, and returns its number.
+    pub(crate) fn add(&mut self, range: Range, origin: OriginNumber) -> Result<u32, AllocError> {
+        let number = u32::try_from(self.ranges.len()).map_err(|_| AllocError)?;
+        self.ranges.push(range)?;
+        self.origins.push(origin)?;
+        Ok(number)
+    }
+
+    /// Returns the origin of a symbol.
+    pub(crate) fn origin(&self, cell: Cell) -> OriginNumber {
+        if cell.factor == 0 {
+            return NOWHERE;
+        }
+        match self.origins.get(cell.symbol as usize) {
+            Some(origin) => *origin,
+            None => NOWHERE,
+        }
+    }
+
+    /// Returns the range of a cell's symbol.
+    pub(crate) fn range(&self, cell: Cell) -> Option<Range> {
+        self.ranges.get(cell.symbol as usize).copied()
+    }
+}
+
+/// Whether cells that have a symbol in common are to have one in common still.
+#[derive(Clone, Copy, Debug, PartialEq, Eq)]
+pub(crate) enum Sharing {
+    /// They are.
+    Kept,
+    /// Each gets a symbol of its own.
+    Dropped,
+}
+
+/// New symbols in place of old ones.
+#[derive(Drop)]
+struct Renaming {
+    old: Symbols,
+    new: Symbols,
+    sharing: Sharing,
+    /// The new number of each old symbol, where sharing is kept.
+    numbers: Vec<u32>,
+}
+
+impl Renaming {
+    /// Returns the new number of an old symbol that has one, where sharing is kept.
+    fn renamed(&self, symbol: u32) -> Option<u32> {
+        match self.numbers.get(symbol as usize) {
+            Some(number) if *number != NONE => Some(*number),
+            _ => None,
+        }
+    }
+
+    /// Returns the cell with a new symbol.
+    fn cell(&mut self, cell: Cell) -> Result<Cell, AllocError> {
+        if cell.factor == 0 {
+            return Ok(cell);
+        }
+        let Some(range) = self.old.range(cell) else {
+            return Ok(cell);
+        };
+        if range.low == range.high {
+            if let Some(number) = number(cell, self.old.ranges.as_slice()) {
+                return Ok(known(number));
+            }
+        }
+        if let Some(symbol) = self.renamed(cell.symbol) {
+            return Ok(Cell { symbol, ..cell });
+        }
+        let symbol = self.new.add(range, self.old.origin(cell))?;
+        if self.sharing == Sharing::Kept {
+            if let Some(place) = self.numbers.get_mut(cell.symbol as usize) {
+                *place = symbol;
+            }
+        }
+        Ok(Cell { symbol, ..cell })
+    }
+
+    /// Renames the symbols of what is left of the calls, and of the graphics state.
+    fn registers(&mut self, track: &mut Track) -> Result<(), AllocError> {
+        for call in track.state.calls.iter_mut() {
+            call.left = self.cell(call.left)?;
+        }
+        let graphics = &mut track.state.graphics;
+        graphics.rp0 = self.cell(graphics.rp0)?;
+        graphics.rp1 = self.cell(graphics.rp1)?;
+        graphics.rp2 = self.cell(graphics.rp2)?;
+        graphics.loop_number = self.cell(graphics.loop_number)?;
+        Ok(())
+    }
+
+    /// Renames the symbols of a stack.
+    fn stack(&mut self, alloc: Global, stack: &mut Stack) -> Result<(), AllocError> {
+        let mut cells = mem::replace(stack, Stack::new(alloc)).into_cells();
+        for cell in cells.iter_mut() {
+            *cell = self.cell(*cell)?;
+        }
+        *stack = Stack::from_cells(cells);
+        Ok(())
+    }
+
+    /// Renames the symbols of memory entries. Entries of which nothing is known any more are no
+    /// longer listed, where sharing is dropped.
+    fn entries(
+        &mut self,
+        alloc: Global,
+        entries: &mut SortedMap<Cell>,
+        width: i64,
+    ) -> Result<(), AllocError> {
+        for (number, cell) in symbolic_entries(alloc, entries)?.as_slice() {
+            if self.sharing == Sharing::Dropped && is_wide(self.old.range(*cell), width) {
+                entries.remove(*number);
+            } else {
+                entries.put(*number, self.cell(*cell)?)?;
+            }
+        }
+        Ok(())
+    }
+}
+
+/// Returns what is listed with a number, which is mostly found at a place.
+pub(crate) fn listed_near(entries: &SortedMap<Cell>, place: usize, number: u16) -> Option<Cell> {
+    match entries.as_slice().get(place) {
+        Some(entry) if entry.0 == number => Some(entry.1),
+        _ => entries.get(number),
+    }
+}
+
+/// Returns the entries whose cells have symbols.
+fn symbolic_entries(
+    alloc: Global,
+    entries: &SortedMap<Cell>,
+) -> Result<Vec<(u16, Cell)>, AllocError> {
+    let mut list = Vec::new(alloc);
+    for entry in entries.as_slice() {
+        if entry.1.factor != 0 {
+            list.push(*entry)?;
+        }
+    }
+    Ok(list)
+}
+
+/// Whether a range has more numbers than a width.
+pub(crate) fn is_wide(range: Option<Range>, width: i64) -> bool {
+    match range {
+        Some(range) => i64::from(range.high).saturating_sub(i64::from(range.low)) >= width,
+        None => false,
+    }
+}
+
+/// How wide the range of an entry is that isn't listed.
+#[derive(Clone, Copy, Debug, PartialEq, Eq)]
+pub(crate) enum Area {
+    /// The storage area.
+    Storage,
+    /// The control values.
+    Controls,
+}
+
+impl Area {
+    /// Returns how many numbers the range of an entry has of which too little is known, less 1.
+    pub(crate) fn width(self) -> i64 {
+        match self {
+            Area::Storage => STORAGE_WIDTH,
+            Area::Controls => CONTROL_WIDTH,
+        }
+    }
+}
+
+/// Gives the cells of a track's state new symbols, and leaves out those that no cell has.
+pub(crate) fn rename(alloc: Global, track: &mut Track, sharing: Sharing) -> Result<(), AllocError> {
+    let old = Symbols::take(alloc, track);
+    let numbers = match sharing {
+        Sharing::Kept => vec![in alloc; NONE; old.ranges.len()]?,
+        Sharing::Dropped => Vec::new(alloc),
+    };
+    let mut renaming = Renaming {
+        old,
+        new: Symbols::new(alloc),
+        sharing,
+        numbers,
+    };
+    renaming.registers(track)?;
+    renaming.stack(alloc, &mut track.state.stack)?;
+    renaming.entries(alloc, &mut track.state.storage, Area::Storage.width())?;
+    renaming.entries(alloc, &mut track.state.controls, Area::Controls.width())?;
+    let Renaming {
+        old: _,
+        new,
+        sharing: _,
+        numbers: _,
+    } = renaming;
+    new.put(track);
+    Ok(())
+}

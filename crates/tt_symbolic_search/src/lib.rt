@@ -1,0 +1,34 @@
+//! The search of the symbolic check: it proposes the listed states by which `check` of
+//! tt_symbolic_check accepts a program, and the start states of glyph programs. Nobody has to trust
+//! it, so that no contract says what it finds.
+//!
+//! A font is judged by one `Search`, which keeps what was learnt from program to program:
+//!
+//! 1. `find` for the font program, then `check` by what was found; likewise for the CVT program,
+//!    which starts with the functions on which all ends of the font program agree.
+//! 2. `starts_after` the ends of the CVT program: the starts of the glyph programs. Each end has to
+//!    be covered by one of them. What they list is kept: no glyph program may write it.
+//! 3. `find` for each glyph program, then `check`. Where `find` answers `KeptEntry`, the program
+//!    writes entries that the starts list; these are left out from then on, so that all glyph
+//!    programs are taken up again from new starts.
+#![tactic(auto)]
+
+mod arrivals;
+mod blame;
+mod blending;
+mod boxes;
+mod cell_names;
+mod inclusion;
+mod marks;
+mod origins;
+mod run;
+pub mod search;
+mod signature;
+mod starts;
+mod stepping;
+mod thresholds;
+mod track;
+mod waiting;
+mod writes;
+
+pub use search::{Found, Search, USUAL_SEARCH};

@@ -1,0 +1,206 @@
+//! Where symbols come from: which merges made them. A merge that lost a number which a later
+//! instruction needs is found from the symbol of its operand.
+
+use crate::cell_names::CellName;
+use std::alloc::{AllocError, Global};
+use std::collections::HashMap;
+
+/// The number of an origin; `NOWHERE` is that of symbols that no merge made.
+pub(crate) type OriginNumber = u32;
+
+/// No merge.
+pub(crate) const NOWHERE: OriginNumber = 0;
+
+/// What made a symbol.
+#[derive(Clone, Copy, Debug, PartialEq, Eq, Hash)]
+struct Origin {
+    /// The cell that was merged; none where an instruction computed it.
+    merged: Option<CellName>,
+    /// Whether two known numbers were merged.
+    lost_number: bool,
+    /// The origin of the one number.
+    first: OriginNumber,
+    /// The origin of the other number.
+    second: OriginNumber,
+}
+
+/// All origins of the symbols of a run.
+#[derive(Drop)]
+pub(crate) struct Origins {
+    /// The origins, by their numbers.
+    list: Vec<Origin>,
+    /// Their numbers.
+    numbers: HashMap<Origin, OriginNumber>,
+}
+
+/// Which merges are looked for.
+#[derive(Clone, Copy, Debug, PartialEq, Eq)]
+pub(crate) enum Wanted {
+    /// Those that lost a known number.
+    LostNumbers,
+    /// All.
+    Any,
+}
+
+/// Notes that an origin is seen, and returns whether it wasn't before.
+fn see(seen: &mut [bool], number: OriginNumber) -> bool {
+    match seen.get_mut(number as usize) {
+        Some(mark) => {
+            let is_new = !*mark;
+            *mark = true;
+            is_new
+        }
+        None => false,
+    }
+}
+
+impl Origins {
+    /// Makes the origins of no symbol.
+    pub(crate) fn new(alloc: Global) -> Origins {
+        Origins {
+            list: Vec::new(alloc),
+            numbers: HashMap::new(alloc),
+        }
+    }
+
+    /// Forgets all origins.
+    pub(crate) fn clear(&mut self) {
+        self.list.clear();
+        self.numbers.clear();
+    }
+
+    /// Returns an origin.
+    fn get(&self, number: OriginNumber) -> Option<Origin> {
+        let place = usize::try_from(number.checked_sub(1)?).ok()?;
+        self.list.get(place).copied()
+    }
+
+    /// Returns the number of an origin, which it gets where it has none.
+    fn number_of(&mut self, origin: Origin) -> Result<OriginNumber, AllocError> {
+        if let Some(number) = self.numbers.get(&origin) {
+            return Ok(*number);
+        }
+        self.list.push(origin)?;
+        let number = u32::try_from(self.list.len()).map_err(|_| AllocError)?;
+        self.numbers.insert(origin, number)?;
+        Ok(number)
+    }
+
+    /// Returns the origin of a number that was computed from two others.
+    pub(crate) fn computed(
+        &mut self,
+        first: OriginNumber,
+        second: OriginNumber,
+    ) -> Result<OriginNumber, AllocError> {
+        let low = first.min(second);
+        let high = first.max(second);
+        if low == NOWHERE || low == high {
+            return Ok(high);
+        }
+        self.number_of(Origin {
+            merged: None,
+            lost_number: false,
+            first: low,
+            second: high,
+        })
+    }
+
+    /// Returns the origin of a number that was merged from two others.
+    pub(crate) fn merged(
+        &mut self,
+        name: CellName,
+        lost_number: bool,
+        first: OriginNumber,
+        second: OriginNumber,
+    ) -> Result<OriginNumber, AllocError> {
+        let low = first.min(second);
+        let high = first.max(second);
+        if low == NOWHERE || low == high {
+            if let Some(origin) = self.get(high) {
+                if origin.merged == Some(name) {
+                    return Ok(high);
+                }
+            }
+        }
+        self.number_of(Origin {
+            merged: Some(name),
+            lost_number,
+            first: low,
+            second: high,
+        })
+    }
+
+    /// Returns the cell that an origin names, if its merge is one that is looked for and the cell
+    /// isn't kept apart already.
+    fn culprit(origin: Origin, wanted: Wanted, apart: &[CellName]) -> Option<CellName> {
+        let name = origin.merged?;
+        if wanted == Wanted::LostNumbers && !origin.lost_number {
+            return None;
+        }
+        if name.is_main_element() || apart.contains(&name) {
+            return None;
+        }
+        Some(name)
+    }
+
+    /// Looks at the origins of one level: puts the cells that are found in a list, and the origins
+    /// behind the others in the next level.
+    fn look_at_level(
+        &self,
+        level: &[OriginNumber],
+        wanted: Wanted,
+        apart: &[CellName],
+        seen: &mut [bool],
+        next: &mut Vec<OriginNumber>,
+        found: &mut Vec<CellName>,
+    ) -> Result<(), AllocError> {
+        for number in level {
+            let Some(origin) = self.get(*number) else {
+                continue;
+            };
+            if !see(seen, *number) {
+                continue;
+            }
+            match Origins::culprit(origin, wanted, apart) {
+                Some(name) => found.push(name)?,
+                None => {
+                    next.push(origin.first)?;
+                    next.push(origin.second)?;
+                }
+            }
+        }
+        Ok(())
+    }
+
+    /// Returns the nearest cells from whose merges a symbol of this origin comes, and that aren't
+    /// kept apart yet.
+    pub(crate) fn nearest(
+        &self,
+        alloc: Global,
+        from: OriginNumber,
+        wanted: Wanted,
+        apart: &[CellName],
+    ) -> Result<Vec<CellName>, AllocError> {
+        let mut found = Vec::new(alloc);
+        let mut seen = vec![in alloc; false; self.list.len().saturating_add(1)]?;
+        let mut level = Vec::new(alloc);
+        level.push(from)?;
+        for _ in 0..=self.list.len() {
+            let mut next = Vec::new(alloc);
+            let seen_now = seen.as_mut_slice();
+            self.look_at_level(
+                level.as_slice(),
+                wanted,
+                apart,
+                seen_now,
+                &mut next,
+                &mut found,
+            )?;
+            if !found.is_empty() || next.is_empty() {
+                return Ok(found);
+            }
+            level = next;
+        }
+        Ok(found)
+    }
+}

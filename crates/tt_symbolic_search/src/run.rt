@@ -1,0 +1,416 @@
+//! A run of the search: from the starts of a program until nothing waits, or until a state is
+//! refused.
+
+use crate::arrivals::{Arrival, Arrivals};
+use crate::blame::culprits;
+use crate::blending::Merges;
+use crate::boxes::{Sharing, rename};
+use crate::cell_names::CellName;
+use crate::marks::Marks;
+use crate::origins::NOWHERE;
+use crate::signature::{Functions, signature};
+use crate::stepping::{Before, Led, step_on};
+use crate::track::Track;
+use crate::writes::Writes;
+use std::alloc::{AllocError, Global};
+use tt_abs::{Kind, Setting, Spot};
+use tt_code::Reason;
+use tt_symbolic::kept::Kept;
+use tt_symbolic::step::code_at;
+use tt_symbolic_check::{CheckRefusal, Start, is_at_end, lower, raise, start_state, wanted};
+use tt_symbolic_state::{State, StepRefusal};
+
+/// How many steps a state makes beside another one before it is put down.
+const MOST_CROWDED: u32 = 40;
+
+/// After how many turns of a known number a state is put down.
+const TURNS_TOGETHER: u32 = 1000;
+
+/// How many splits are made before one step at most.
+const MOST_SPLITS: u32 = 4096;
+
+/// How many symbols a state may have besides two for each element of the stack, until those that no
+/// cell has are left out.
+const MOST_SPARE_SYMBOLS: usize = 256;
+
+/// The code of EIF.
+const EIF: u8 = 0x59;
+
+/// Why a run ends before nothing waits.
+#[derive(Drop)]
+pub(crate) struct Stop {
+    /// Why.
+    pub refusal: CheckRefusal,
+    /// Cells whose numbers are to be kept apart.
+    pub apart: Vec<CellName>,
+}
+
+/// What a run may rely on.
+#[derive(Clone, Copy)]
+pub(crate) struct Task<'a> {
+    pub alloc: Global,
+    pub setting: &'a Setting<'a>,
+    pub kept: Kept<'a>,
+    pub apart: &'a [CellName],
+    pub widest_compared: i64,
+    /// Whether the functions of states are told apart.
+    pub functions: Functions,
+}
+
+/// The state that is carried on.
+#[derive(Drop)]
+struct Way {
+    track: Box<Track>,
+    /// Whether it waited until now: it isn't put down before it has made a step.
+    is_first: bool,
+    /// Where its last step has led.
+    led: Led,
+    /// How many steps it has made since it waited, or since none was found to wait behind it.
+    steps: u32,
+}
+
+/// A run of the search.
+#[derive(Drop)]
+pub(crate) struct Run {
+    pub arrivals: Arrivals,
+    marks: Marks,
+    way: Option<Way>,
+    before: Before,
+    /// Where a kept entry was first written.
+    pub first_write: Option<(Spot, u32)>,
+    /// How many steps were made.
+    pub steps: u64,
+}
+
+/// Where a state is: in which program, and at which offset there.
+fn spot_of(state: &State) -> Spot {
+    match state.calls.last() {
+        None => Spot::Main,
+        Some(call) => Spot::of_body(call.body),
+    }
+}
+
+/// Returns the refusal of the instruction at which a state was.
+fn refused(spot: Spot, offset: u32, refusal: StepRefusal) -> CheckRefusal {
+    match refusal {
+        StepRefusal::Refused(reason) => CheckRefusal::Refused {
+            spot,
+            offset,
+            reason,
+        },
+        StepRefusal::KeptEntry => CheckRefusal::KeptEntry { spot, offset },
+        StepRefusal::OutOfMemory(error) => CheckRefusal::OutOfMemory(error),
+    }
+}
+
+/// Makes the stop of a run without cells to blame.
+fn make_stop(alloc: Global, refusal: CheckRefusal) -> Stop {
+    Stop {
+        refusal,
+        apart: Vec::new(alloc),
+    }
+}
+
+/// Makes the stop of a run for want of memory.
+fn out_of_memory(task: &Task<'_>, error: AllocError) -> Stop {
+    make_stop(task.alloc, CheckRefusal::OutOfMemory(error))
+}
+
+/// Whether an instruction of this code may want a split: comparisons, IF, JROT, JROF, CALL, LOOPCALL
+/// and ENDF.
+fn may_split(code: u8) -> bool {
+    matches!(code, 0x50..=0x55 | 0x58 | 0x78 | 0x79 | 0x2A | 0x2B | 0x2D)
+}
+
+/// Whether all starts have the same functions.
+fn have_same_functions(starts: &[Start]) -> bool {
+    match starts {
+        [first, rest @ ..] => rest
+            .iter()
+            .all(|start| start.functions.is_same(&first.functions)),
+        [] => true,
+    }
+}
+
+/// Returns whether the functions of states are told apart: where they aren't always the same.
+pub(crate) fn told_functions(setting: &Setting<'_>, starts: &[Start]) -> Functions {
+    match setting.kind {
+        Kind::Glyph { .. } if have_same_functions(starts) => Functions::Untold,
+        _ => Functions::Told,
+    }
+}
+
+/// Makes the track of a start.
+fn start_track(alloc: Global, start: &Start) -> Result<Box<Track>, AllocError> {
+    let state = start_state(alloc, start)?;
+    let track = Track::start(alloc, state)?;
+    Ok(Box::new(alloc, track)?)
+}
+
+impl Run {
+    /// Makes a run that has done nothing, and in which nothing waits.
+    fn empty(task: &Task<'_>) -> Result<Run, AllocError> {
+        let alloc = task.alloc;
+        Ok(Run {
+            arrivals: Arrivals::new(alloc, task.functions),
+            marks: Marks::new(alloc, task.setting)?,
+            way: None,
+            before: Before::new(alloc),
+            first_write: None,
+            steps: 0,
+        })
+    }
+
+    /// Makes a run that has done nothing, in which the starts wait.
+    pub(crate) fn begin(task: &Task<'_>, starts: &[Start]) -> Result<Run, AllocError> {
+        let mut run = Run::empty(task)?;
+        for start in starts {
+            let track = start_track(task.alloc, start)?;
+            run.arrivals.put_part(task.alloc, track)?;
+        }
+        Ok(run)
+    }
+
+    /// Whether the state must be put down where it is, since a loop is there that may not end.
+    fn must_arrive(&self, way: &Way) -> bool {
+        if !self.arrivals.waiting.is_empty() {
+            return true;
+        }
+        let turn = way.track.levels.last().map_or(0, |level| level.turn);
+        turn % TURNS_TOGETHER == TURNS_TOGETHER - 1
+            || way
+                .track
+                .state
+                .calls
+                .iter()
+                .any(|call| call.left.factor != 0)
+    }
+
+    /// Returns how the state arrives where it is, if it may be put down there. The instruction there
+    /// has this code.
+    fn arrival(&self, task: &Task<'_>, way: &Way, code: Option<u8>) -> Option<Arrival> {
+        let state = &way.track.state;
+        if is_at_end(task.setting, state) {
+            return Some(Arrival::AtEnd);
+        }
+        if way.is_first {
+            return None;
+        }
+        if way.led == Led::Back && self.must_arrive(way) {
+            return Some(Arrival::Back);
+        }
+        if self.marks.at(spot_of(state), state.offset) {
+            return Some(Arrival::AtListed);
+        }
+        let is_meeting = way.led != Led::On || code == Some(EIF);
+        if !is_meeting && way.steps <= MOST_CROWDED {
+            return None;
+        }
+        if self.arrivals.waiting.has_behind(&way.track) {
+            return Some(Arrival::Onward);
+        }
+        None
+    }
+
+    /// Puts the state down, if it is to be put down where it is; otherwise returns it.
+    fn arrive(
+        &mut self,
+        task: &Task<'_>,
+        merges: &mut Merges,
+        way: Way,
+        code: Option<u8>,
+    ) -> Result<Option<Way>, AllocError> {
+        let mut way = way;
+        let Some(arrival) = self.arrival(task, &way, code) else {
+            if way.steps > MOST_CROWDED {
+                way.steps = 0;
+            }
+            return Ok(Some(way));
+        };
+        let signature = signature(&way.track, task.functions, task.apart);
+        if arrival == Arrival::AtListed
+            && !self.arrivals.has(signature)
+            && !self.arrivals.waiting.has_behind(&way.track)
+        {
+            return Ok(Some(way));
+        }
+        let state = &way.track.state;
+        self.marks.set(spot_of(state), state.offset);
+        let Way { track, .. } = way;
+        self.arrivals
+            .arrive(task.alloc, merges, track, signature, arrival)?;
+        Ok(None)
+    }
+
+    /// Lets the upper parts of the state wait that the next instruction splits off.
+    fn split(&mut self, task: &Task<'_>, track: &mut Track) -> Result<(), AllocError> {
+        for _ in 0..MOST_SPLITS {
+            let Some(split) = wanted(task.setting, &track.state, task.widest_compared) else {
+                return Ok(());
+            };
+            let origin = track.origins.get(split.symbol as usize).copied();
+            track.note_split(origin.unwrap_or(NOWHERE))?;
+            let mut upper = self.arrivals.copied(task.alloc, track)?;
+            raise(&mut upper.state, split);
+            lower(&mut track.state, split);
+            self.arrivals.put_part(task.alloc, upper)?;
+        }
+        Ok(())
+    }
+
+    /// Leaves out the symbols that no cell has, where these may be many.
+    fn tidy(&self, task: &Task<'_>, track: &mut Track) -> Result<(), AllocError> {
+        let most = track.state.stack.len().saturating_mul(2);
+        if track.state.ranges.len() > most.saturating_add(MOST_SPARE_SYMBOLS) {
+            rename(task.alloc, track, Sharing::Kept)?;
+        }
+        Ok(())
+    }
+
+    /// Explains the refusal of a step.
+    fn explained(
+        &self,
+        task: &Task<'_>,
+        merges: &Merges,
+        track: &Track,
+        place: (Spot, u32),
+        refusal: StepRefusal,
+    ) -> Result<Stop, AllocError> {
+        let reason = match &refusal {
+            StepRefusal::Refused(reason) => Some(*reason),
+            _ => None,
+        };
+        let apart = match reason {
+            Some(reason) => {
+                let before = &self.before;
+                culprits(
+                    task.alloc,
+                    &merges.origins,
+                    track,
+                    before,
+                    reason,
+                    task.apart,
+                )?
+            }
+            None => Vec::new(task.alloc),
+        };
+        Ok(Stop {
+            refusal: refused(place.0, place.1, refusal),
+            apart,
+        })
+    }
+
+    /// Makes a step of the state, by the instruction of this code.
+    fn step(
+        &mut self,
+        task: &Task<'_>,
+        merges: &mut Merges,
+        writes: &mut Writes,
+        way: &mut Way,
+        code: Option<u8>,
+    ) -> Result<(), Stop> {
+        let place = (spot_of(&way.track.state), way.track.state.offset);
+        let track = &mut way.track;
+        let Some(code) = code else {
+            let refusal = StepRefusal::Refused(Reason::Target);
+            return Err(make_stop(task.alloc, refused(place.0, place.1, refusal)));
+        };
+        if Writes::are_wanted(task.setting, &track.state, &task.kept, code) {
+            let noted = writes.note(task.setting, &track.state, &task.kept);
+            noted.map_err(|error| make_stop(task.alloc, CheckRefusal::OutOfMemory(error)))?;
+            self.first_write = self.first_write.or(Some(place));
+        }
+        let done = step_on(
+            task.alloc,
+            task.setting,
+            merges,
+            track,
+            code,
+            &mut self.before,
+        );
+        match done {
+            Ok(led) => way.led = led,
+            Err(refusal) => {
+                let explained = self.explained(task, merges, &way.track, place, refusal);
+                return Err(explained.unwrap_or_else(|error| {
+                    make_stop(task.alloc, CheckRefusal::OutOfMemory(error))
+                }));
+            }
+        }
+        Ok(())
+    }
+
+    /// Prepares the state for the instruction of this code: splits it, and leaves out what isn't
+    /// needed.
+    fn prepare(
+        &mut self,
+        task: &Task<'_>,
+        track: &mut Track,
+        code: Option<u8>,
+    ) -> Result<(), AllocError> {
+        if code.is_some_and(may_split) {
+            self.split(task, track)?;
+            self.tidy(task, track)?;
+        }
+        Ok(())
+    }
+
+    /// Returns the state that is carried on, or the first that waits.
+    fn next_way(&mut self, alloc: Global) -> Result<Option<Way>, AllocError> {
+        if let Some(way) = self.way.take() {
+            return Ok(Some(way));
+        }
+        let Some(track) = self.arrivals.take(alloc)? else {
+            return Ok(None);
+        };
+        Ok(Some(Way {
+            track,
+            is_first: true,
+            led: Led::On,
+            steps: 0,
+        }))
+    }
+
+    /// Puts the state down, or returns it once it is prepared for the instruction of this code;
+    /// nothing where the state was put down.
+    fn approach(
+        &mut self,
+        task: &Task<'_>,
+        merges: &mut Merges,
+        way: Way,
+        code: Option<u8>,
+    ) -> Result<Option<Way>, AllocError> {
+        let Some(mut way) = self.arrive(task, merges, way, code)? else {
+            return Ok(None);
+        };
+        self.prepare(task, &mut way.track, code)?;
+        Ok(Some(way))
+    }
+
+    /// Carries on the state that is on its way, or the first that waits. Returns whether there was
+    /// one.
+    pub(crate) fn advance(
+        &mut self,
+        task: &Task<'_>,
+        merges: &mut Merges,
+        writes: &mut Writes,
+    ) -> Result<bool, Stop> {
+        let taken = self
+            .next_way(task.alloc)
+            .map_err(|error| out_of_memory(task, error))?;
+        let Some(way) = taken else {
+            return Ok(false);
+        };
+        let code = code_at(task.setting, &way.track.state);
+        let approached = self.approach(task, merges, way, code);
+        let Some(mut way) = approached.map_err(|error| out_of_memory(task, error))? else {
+            return Ok(true);
+        };
+        self.step(task, merges, writes, &mut way, code)?;
+        self.steps = self.steps.saturating_add(1);
+        way.steps = way.steps.saturating_add(1);
+        way.is_first = false;
+        self.way = Some(way);
+        Ok(true)
+    }
+}

@@ -1,0 +1,269 @@
+//! The search of a font: what was learnt from its programs so far, and the listed states of the next.
+
+use crate::blending::Merges;
+use crate::cell_names::CellName;
+use crate::origins::Origins;
+use crate::run::{Run, Stop, Task, told_functions};
+use crate::starts;
+use crate::thresholds::thresholds;
+use crate::writes::Writes;
+use std::alloc::{AllocError, Global};
+use std::collections::HashMap;
+use tt_abs::Setting;
+use tt_code::Reason;
+use tt_symbolic::kept::Kept;
+use tt_symbolic_check::{CheckRefusal, Effort, Start};
+use tt_symbolic_state::State;
+
+/// How often a program is searched at most, each time with more that was learnt.
+const MOST_TRIALS: u32 = 14;
+
+/// How many numbers the range of a symbol may have that comparisons split, where all are split.
+const WIDEST: i64 = 1 << 33;
+
+/// How much the search of a program may usually do: the steps of all its trials together.
+pub const USUAL_SEARCH: Effort = Effort {
+    steps: 20_000_000,
+    widest_compared: 1 << 16,
+};
+
+/// How many times the steps of the search the check may have, splits and stops counted.
+const CHECKED_AGAIN: u64 = 4;
+
+/// How many steps the check may have besides.
+const MORE_CHECKED: u64 = 10_000;
+
+/// What was found for a program.
+#[derive(Drop)]
+pub struct Found {
+    /// The listed states by which the program is to be checked.
+    pub listed: Vec<State>,
+    /// How many steps the check may have, and which comparisons it splits.
+    pub effort: Effort,
+}
+
+/// The search of a font.
+#[derive(Drop)]
+pub struct Search {
+    alloc: Global,
+    /// What the merges know.
+    merges: Merges,
+    /// The cells whose numbers are kept apart.
+    apart: Vec<CellName>,
+    /// The entries that glyph programs write.
+    writes: Writes,
+    /// How many numbers the range of a symbol had at most that comparisons split.
+    widest: i64,
+    /// How many steps were made for all programs.
+    steps: u64,
+}
+
+/// What is searched for a program.
+#[derive(Drop)]
+struct Trial<'a> {
+    setting: &'a Setting<'a>,
+    kept: Kept<'a>,
+    starts: &'a [Start],
+    effort: Effort,
+    /// The last refusal.
+    has_refused: Option<CheckRefusal>,
+}
+
+/// How a run of a program ended.
+#[derive(Drop)]
+enum Ended {
+    /// Nothing waits any more.
+    Whole,
+    /// It stopped.
+    Stopped(Stop),
+    /// It made as many steps as it may, or lists too many states.
+    TooLong,
+}
+
+impl Search {
+    /// Makes the search of a font of which nothing is known.
+    pub fn new(alloc: Global) -> Search {
+        Search {
+            alloc,
+            merges: Merges {
+                origins: Origins::new(alloc),
+                dropped: HashMap::new(alloc),
+                thresholds: Vec::new(alloc),
+            },
+            apart: Vec::new(alloc),
+            writes: Writes::new(alloc),
+            widest: 0,
+            steps: 0,
+        }
+    }
+
+    /// Returns how many steps the search has made so far, for all programs together.
+    pub fn steps(&self) -> u64 {
+        self.steps
+    }
+
+    /// Makes the starts of glyph programs after the ends of the CVT program: few that cover all of
+    /// them, without the entries that glyph programs are known to write.
+    ///
+    /// # Errors
+    /// If memory runs out.
+    pub fn starts_after(&mut self, ends: &[State]) -> Result<Vec<Start>, AllocError> {
+        self.begin_run();
+        let apart = self.apart.as_slice();
+        starts::starts_after(self.alloc, &mut self.merges, ends, &self.writes, apart)
+    }
+
+    /// Finds the listed states by which a program that starts in one of these ways is to be checked.
+    ///
+    /// # Errors
+    /// `Refused` with the place of an instruction and its reason, where no states were found;
+    /// `KeptEntry` with the place of an instruction that writes kept entries: `starts_after` leaves
+    /// these out from now on; `BudgetMet`, where as many steps were made or too many states are
+    /// listed; `OutOfMemory`.
+    pub fn find(
+        &mut self,
+        setting: &Setting<'_>,
+        kept: &Kept<'_>,
+        starts: &[Start],
+        effort: Effort,
+    ) -> Result<Found, CheckRefusal> {
+        self.merges.thresholds = thresholds(self.alloc, setting)?;
+        self.apart.retain(|name| name.body.is_some());
+        let learnt = self.apart.len();
+        let before = self.steps;
+        let mut trial = Trial {
+            setting,
+            kept: *kept,
+            starts,
+            effort: Effort {
+                widest_compared: effort.widest_compared.max(self.widest),
+                ..effort
+            },
+            has_refused: None,
+        };
+        for _ in 0..MOST_TRIALS {
+            match self.try_once(&mut trial, before) {
+                Ok(Some(found)) => {
+                    self.widest = trial.effort.widest_compared;
+                    return Ok(found);
+                }
+                Ok(None) => {}
+                Err(refusal) => {
+                    self.apart.truncate(learnt);
+                    return Err(refusal);
+                }
+            }
+        }
+        self.apart.truncate(learnt);
+        Err(trial.has_refused.unwrap_or(CheckRefusal::BudgetMet))
+    }
+
+    /// Forgets what the merges of another run know.
+    fn begin_run(&mut self) {
+        self.merges.origins.clear();
+        self.merges.dropped.clear();
+    }
+
+    /// Searches once. Returns what was found; nothing, where more was learnt.
+    fn try_once(
+        &mut self,
+        trial: &mut Trial<'_>,
+        before: u64,
+    ) -> Result<Option<Found>, CheckRefusal> {
+        self.begin_run();
+        let (run, stop) = self.run(trial, before)?;
+        if let Some((spot, offset)) = run.first_write {
+            return Err(CheckRefusal::KeptEntry { spot, offset });
+        }
+        match stop {
+            None => Ok(Some(Found {
+                effort: Effort {
+                    steps: run
+                        .steps
+                        .saturating_mul(CHECKED_AGAIN)
+                        .saturating_add(MORE_CHECKED),
+                    ..trial.effort
+                },
+                listed: run.arrivals.into_listed(self.alloc)?,
+            })),
+            Some(stop) => {
+                self.learn(trial, stop)?;
+                Ok(None)
+            }
+        }
+    }
+
+    /// Makes a run: until nothing waits, or until it stops.
+    fn run(&mut self, trial: &Trial<'_>, before: u64) -> Result<(Run, Option<Stop>), CheckRefusal> {
+        let task = Task {
+            alloc: self.alloc,
+            setting: trial.setting,
+            kept: trial.kept,
+            apart: self.apart.as_slice(),
+            widest_compared: trial.effort.widest_compared,
+            functions: told_functions(trial.setting, trial.starts),
+        };
+        let mut run = Run::begin(&task, trial.starts)?;
+        let used = self.steps.saturating_sub(before);
+        let most = trial.effort.steps.saturating_sub(used);
+        let (merges, writes) = (&mut self.merges, &mut self.writes);
+        let ended = run_on(&mut run, &task, merges, writes, most);
+        self.steps = self.steps.saturating_add(run.steps);
+        match ended {
+            Ended::Whole => Ok((run, None)),
+            Ended::Stopped(stop) => Ok((run, Some(stop))),
+            Ended::TooLong => Err(CheckRefusal::BudgetMet),
+        }
+    }
+
+    /// Learns from a stop which cells are to be kept apart, or that all comparisons are to be split.
+    ///
+    /// # Errors
+    /// The refusal, where nothing can be learnt from it.
+    fn learn(&mut self, trial: &mut Trial<'_>, stop: Stop) -> Result<(), CheckRefusal> {
+        let Stop { refusal, apart } = stop;
+        if !apart.is_empty() {
+            self.apart.extend_from_slice(apart.as_slice())?;
+            trial.has_refused = Some(refusal);
+            return Ok(());
+        }
+        if !is_unknown(&refusal) || trial.effort.widest_compared >= WIDEST {
+            return Err(refusal);
+        }
+        trial.effort.widest_compared = WIDEST;
+        trial.has_refused = Some(refusal);
+        Ok(())
+    }
+}
+
+/// Whether the refusal says that too little is known.
+fn is_unknown(refusal: &CheckRefusal) -> bool {
+    matches!(
+        refusal,
+        CheckRefusal::Refused {
+            reason: Reason::UnknownOperand,
+            ..
+        }
+    )
+}
+
+/// Carries on what waits in a run, until nothing does, or for so many steps.
+fn run_on(
+    run: &mut Run,
+    task: &Task<'_>,
+    merges: &mut Merges,
+    writes: &mut Writes,
+    most: u64,
+) -> Ended {
+    for _ in 0..most.saturating_mul(2) {
+        match run.advance(task, merges, writes) {
+            Ok(true) => {}
+            Ok(false) => return Ended::Whole,
+            Err(stop) => return Ended::Stopped(stop),
+        }
+        if run.steps >= most || run.arrivals.are_too_many() {
+            return Ended::TooLong;
+        }
+    }
+    Ended::TooLong
+}

@@ -1,0 +1,137 @@
+//! The starts of glyph programs: what all ends of the CVT program show, without the entries that glyph
+//! programs write.
+
+use crate::blending::{Merges, blend};
+use crate::boxes::{Sharing, rename};
+use crate::cell_names::CellName;
+use crate::inclusion::{have_same_frame, is_within};
+use crate::signature::{Functions, signature};
+use crate::track::Track;
+use crate::writes::Writes;
+use std::alloc::{AllocError, Global};
+use tt_symbolic_check::{Start, start_state};
+use tt_symbolic_state::State;
+
+/// How many starts are kept apart at most.
+const MOST_STARTS: usize = 8;
+
+/// Makes the state in which glyph programs start after an end, without the entries that they write.
+fn state_after(alloc: Global, end: &State, writes: &Writes) -> Result<State, AllocError> {
+    let mut start = Start::after(alloc, end)?;
+    for (number, _) in end.storage.as_slice() {
+        if writes.has_storage(*number) {
+            start.storage.remove(*number);
+        }
+    }
+    for (number, _) in end.controls.as_slice() {
+        if writes.has_control(*number) {
+            start.controls.remove(*number);
+        }
+    }
+    start_state(alloc, &start)
+}
+
+/// Starts that are merged where their signatures are the same.
+#[derive(Drop)]
+struct Starts {
+    tracks: Vec<Track>,
+    signatures: Vec<u64>,
+}
+
+impl Starts {
+    /// Whether a start is covered already.
+    fn covers(&self, track: &Track) -> bool {
+        for other in self.tracks.iter() {
+            if have_same_frame(&track.state, &other.state, Functions::Told)
+                && is_within(&track.state, &other.state)
+            {
+                return true;
+            }
+        }
+        false
+    }
+
+    /// Returns the place of a start with which another one is to be merged.
+    fn like(&self, track: &Track, signature: u64) -> Option<usize> {
+        let is_full = self.tracks.len() >= MOST_STARTS;
+        for (place, other) in self.tracks.iter().enumerate() {
+            let is_same = self.signatures.get(place) == Some(&signature);
+            if (is_full || is_same)
+                && have_same_frame(&track.state, &other.state, Functions::Told)
+            {
+                return Some(place);
+            }
+        }
+        None
+    }
+
+    /// Adds a start, or merges it with another one.
+    fn add(
+        &mut self,
+        alloc: Global,
+        merges: &mut Merges,
+        track: Track,
+        signature: u64,
+    ) -> Result<(), AllocError> {
+        let mut track = track;
+        match self.like(&track, signature) {
+            Some(place) => {
+                if let Some(other) = self.tracks.get_mut(place) {
+                    blend(alloc, merges, other, &mut track, 0)?;
+                    *other = track;
+                }
+                Ok(())
+            }
+            None => {
+                rename(alloc, &mut track, Sharing::Dropped)?;
+                self.tracks.push(track)?;
+                self.signatures.push(signature)?;
+                Ok(())
+            }
+        }
+    }
+}
+
+/// Makes a start of what a state shows.
+fn start_of(track: Track) -> Start {
+    let Track { state, .. } = track;
+    let State {
+        storage,
+        controls,
+        functions,
+        ranges,
+        ..
+    } = state;
+    Start {
+        storage,
+        controls,
+        functions,
+        ranges,
+    }
+}
+
+/// Makes the starts of glyph programs after the ends of the CVT program.
+pub(crate) fn starts_after(
+    alloc: Global,
+    merges: &mut Merges,
+    ends: &[State],
+    writes: &Writes,
+    apart: &[CellName],
+) -> Result<Vec<Start>, AllocError> {
+    let mut starts = Starts {
+        tracks: Vec::new(alloc),
+        signatures: Vec::new(alloc),
+    };
+    for end in ends {
+        let track = Track::start(alloc, state_after(alloc, end, writes)?)?;
+        if !starts.covers(&track) {
+            let signature = signature(&track, Functions::Told, apart);
+            starts.add(alloc, merges, track, signature)?;
+        }
+    }
+    let mut list = Vec::new(alloc);
+    for track in starts.tracks {
+        list.push(start_of(track))?;
+    }
+    Ok(list)
+}

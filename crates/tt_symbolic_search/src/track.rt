@@ -1,0 +1,281 @@
+//! A state on its way, with what the search knows beside it.
+
+use crate::cell_names::{CellName, Part};
+use crate::origins::{NOWHERE, OriginNumber};
+use crate::signature::mix;
+use std::alloc::{AllocError, Global};
+use std::mem;
+use std::rc::Rc;
+use tt_symbolic_check::copied;
+use tt_symbolic_state::State;
+use tt_symbolic_state::cell::Cell;
+use tt_symbolic_state::stack::Stack;
+
+/// How many splits a state remembers.
+const MOST_SPLITS: usize = 24;
+
+/// What is known of the main program, or of a call that hasn't returned.
+#[derive(Clone, Copy, Debug, PartialEq, Eq)]
+pub(crate) struct Level {
+    /// How many turns of calls, and jumps back, it has seen.
+    pub turn: u32,
+    /// From which height on the stack's elements are its own.
+    pub base: u32,
+}
+
+/// A state on its way.
+#[derive(Drop)]
+pub(crate) struct Track {
+    /// The state.
+    pub state: State,
+    /// The origin of each symbol.
+    pub origins: Vec<OriginNumber>,
+    /// The main program, then each call that hasn't returned.
+    pub levels: Vec<Level>,
+    /// The origins of the symbols that were split, the latest last.
+    pub splits: Vec<OriginNumber>,
+    /// A hash of the known numbers below each height of the stack.
+    pub hashes: Rc<Vec<u64>>,
+    /// Up to which height these are right.
+    pub hashed: usize,
+}
+
+/// Where a state is in the order of the program: for the main program and each call, how many turns
+/// it has seen, and at which offset it is.
+pub(crate) type Place = Vec<(u32, u32)>;
+
+/// Makes a list the same as another one, in the memory that it has, where that is enough.
+fn copy_list<T: Copy>(list: &mut Vec<T>, other: &[T]) -> Result<(), AllocError> {
+    list.clear();
+    list.extend_from_slice(other)
+}
+
+/// Makes a state the same as another one, in the memory that it has, where that is enough.
+fn copy_state(alloc: Global, state: &mut State, other: &State) -> Result<(), AllocError> {
+    let mut cells = mem::replace(&mut state.stack, Stack::new(alloc)).into_cells();
+    copy_list(&mut cells, other.stack.as_slice())?;
+    state.stack = Stack::from_cells(cells);
+    copy_list(&mut state.calls, other.calls.as_slice())?;
+    copy_list(&mut state.ranges, other.ranges.as_slice())?;
+    state.storage.copy_from(&other.storage)?;
+    state.controls.copy_from(&other.controls)?;
+    state.functions.copy_from(&other.functions)?;
+    state.offset = other.offset;
+    state.graphics = other.graphics;
+    Ok(())
+}
+
+impl Track {
+    /// Makes the track of a state in which a program starts.
+    pub(crate) fn start(alloc: Global, state: State) -> Result<Track, AllocError> {
+        let origins = vec![in alloc; NOWHERE; state.ranges.len()]?;
+        let level = Level { turn: 0, base: 0 };
+        Ok(Track {
+            state,
+            origins,
+            levels: vec![in alloc; level]?,
+            splits: Vec::new(alloc),
+            hashes: Rc::new(alloc, Vec::new(alloc))?,
+            hashed: 0,
+        })
+    }
+
+    /// Makes a copy.
+    pub(crate) fn copied(&self, alloc: Global) -> Result<Track, AllocError> {
+        Ok(Track {
+            state: copied(alloc, &self.state)?,
+            origins: Vec::from_slice(alloc, self.origins.as_slice())?,
+            levels: Vec::from_slice(alloc, self.levels.as_slice())?,
+            splits: Vec::from_slice(alloc, self.splits.as_slice())?,
+            hashes: self.hashes.clone()?,
+            hashed: self.hashed,
+        })
+    }
+
+    /// Becomes a copy of another one, in the memory that it has, where that is enough.
+    pub(crate) fn copy_from(&mut self, alloc: Global, other: &Track) -> Result<(), AllocError> {
+        copy_state(alloc, &mut self.state, &other.state)?;
+        copy_list(&mut self.origins, other.origins.as_slice())?;
+        copy_list(&mut self.levels, other.levels.as_slice())?;
+        copy_list(&mut self.splits, other.splits.as_slice())?;
+        self.hashes = other.hashes.clone()?;
+        self.hashed = other.hashed;
+        Ok(())
+    }
+
+    /// Returns where it is at a level, if it has that many.
+    fn place_at(&self, level: usize) -> Option<(u32, u32)> {
+        let turn = self.levels.get(level)?.turn;
+        match self.state.calls.get(level) {
+            Some(call) => Some((turn, call.call)),
+            None => Some((turn, self.state.offset)),
+        }
+    }
+
+    /// Returns where it is.
+    pub(crate) fn place(&self, alloc: Global) -> Result<Place, AllocError> {
+        let mut place = Vec::new(alloc);
+        for level in 0..self.levels.len() {
+            if let Some(step) = self.place_at(level) {
+                place.push(step)?;
+            }
+        }
+        Ok(place)
+    }
+
+    /// Whether a place comes before the one where it is, or is the same.
+    pub(crate) fn is_at_or_after(&self, place: &[(u32, u32)]) -> bool {
+        for level in 0..place.len() {
+            let theirs = place[level];
+            let Some(own) = self.place_at(level) else {
+                return false;
+            };
+            if theirs < own {
+                return true;
+            }
+            if own < theirs {
+                return false;
+            }
+        }
+        true
+    }
+
+    /// Returns the origin of a cell's symbol.
+    pub(crate) fn origin(&self, cell: Cell) -> OriginNumber {
+        if cell.factor == 0 {
+            return NOWHERE;
+        }
+        match self.origins.get(cell.symbol as usize) {
+            Some(origin) => *origin,
+            None => NOWHERE,
+        }
+    }
+
+    /// Remembers that a symbol of this origin was split.
+    pub(crate) fn note_split(&mut self, origin: OriginNumber) -> Result<(), AllocError> {
+        if origin == NOWHERE || self.splits.last() == Some(&origin) {
+            return Ok(());
+        }
+        self.splits.retain(|other| *other != origin);
+        if self.splits.len() >= MOST_SPLITS {
+            self.splits.remove(0);
+        }
+        self.splits.push(origin)?;
+        Ok(())
+    }
+
+    /// Takes over the splits that another state remembers.
+    pub(crate) fn add_splits(&mut self, others: &[OriginNumber]) -> Result<(), AllocError> {
+        for origin in others {
+            if !self.splits.contains(origin) {
+                self.splits.push(*origin)?;
+            }
+        }
+        for _ in 0..self.splits.len() {
+            if self.splits.len() > MOST_SPLITS {
+                self.splits.remove(0);
+            }
+        }
+        Ok(())
+    }
+
+    /// Returns the name of the innermost body; none in the main program.
+    pub(crate) fn body(&self) -> Option<u32> {
+        let call = self.state.calls.last()?;
+        Some(call.body)
+    }
+
+    /// Returns the body of a level; none for the main program.
+    pub(crate) fn body_at(&self, level: usize) -> Option<u32> {
+        let call = self.state.calls.get(level.checked_sub(1)?)?;
+        Some(call.body)
+    }
+
+    /// Returns the name of a cell of the innermost body's states.
+    pub(crate) fn name(&self, part: Part) -> CellName {
+        CellName {
+            body: self.body(),
+            part,
+        }
+    }
+
+    /// Returns the name of the element at a height of the stack.
+    pub(crate) fn element_name(&self, height: usize) -> CellName {
+        let height = u32::try_from(height).unwrap_or(u32::MAX);
+        let mut name = CellName {
+            body: None,
+            part: Part::Stack(height),
+        };
+        for level in 1..self.levels.len() {
+            let base = self.levels[level].base;
+            if base <= height {
+                name = CellName {
+                    body: self.body_at(level),
+                    part: Part::Stack(height - base),
+                };
+            }
+        }
+        name
+    }
+
+    /// Notes that all elements of the stack below a height are as they were.
+    pub(crate) fn touch(&mut self, height: usize) {
+        self.hashed = self.hashed.min(height);
+        let Ok(low) = u32::try_from(height) else {
+            return;
+        };
+        if let Some(level) = self.levels.last_mut() {
+            level.base = level.base.min(low);
+        }
+    }
+
+    /// Returns a hash of the known numbers below a height of the stack, if that is noted.
+    pub(crate) fn noted_hash(&self, height: usize) -> Option<u64> {
+        if height > self.hashed {
+            return None;
+        }
+        self.hashes.get(height).copied()
+    }
+
+    /// Notes a hash of the known numbers below each height of the stack.
+    fn note_hashes(&mut self, alloc: Global) -> Result<(), AllocError> {
+        let cells = self.state.stack.as_slice();
+        let mut hashes = Vec::with_capacity(alloc, cells.len().saturating_add(1))?;
+        let mut hash = 0;
+        hashes.push(hash)?;
+        for cell in cells {
+            if cell.factor == 0 {
+                hash = mix(hash, i64::from(cell.offset));
+            }
+            hashes.push(hash)?;
+        }
+        self.hashes = Rc::new(alloc, hashes)?;
+        self.hashed = cells.len();
+        Ok(())
+    }
+
+    /// Goes into a call that was just opened.
+    pub(crate) fn go_in(&mut self, alloc: Global) -> Result<(), AllocError> {
+        let depth = self.state.stack.len();
+        if self.levels.len() == 1 && self.noted_hash(depth).is_none() {
+            self.note_hashes(alloc)?;
+        }
+        let base = u32::try_from(depth).unwrap_or(u32::MAX);
+        self.levels.push(Level { turn: 0, base })?;
+        Ok(())
+    }
+
+    /// Comes back from a call that was just closed.
+    pub(crate) fn come_back(&mut self) {
+        if let Some(level) = self.levels.pop() {
+            self.touch(level.base as usize);
+        }
+    }
+
+    /// Counts a turn of the innermost call, or a jump back there.
+    pub(crate) fn count_turn(&mut self) {
+        if let Some(level) = self.levels.last_mut() {
+            level.turn = level.turn.saturating_add(1);
+        }
+    }
+}
