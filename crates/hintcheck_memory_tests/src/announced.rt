@@ -1,12 +1,12 @@
 //! Numbers that a section only announces, for which no memory is reserved.
 
 use crate::heap::Heap;
-use hintcheck_test_fixtures::hex_bytes::bytes_of;
-use hintcheck_test_fixtures::section_calls::{AT_START, Told, decoded};
-use hintcheck_test_fixtures::streams::steps_of;
 use std::process::Abort;
 use std::test::Fail;
 use tt_cert::Form;
+use tt_test_fixtures::hex_bytes::bytes_of;
+use tt_test_fixtures::section_calls::{AT_START, Told, decoded};
+use tt_test_fixtures::streams::steps_of;
 
 /// How many bytes are left: less than one for each of 65,534.
 const LEFT: usize = 20_000;

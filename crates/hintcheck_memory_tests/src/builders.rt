@@ -2,11 +2,11 @@
 
 use crate::heap::Heap;
 use crate::trials::{Told, Trial, refusals_of};
-use hintcheck_test_fixtures::families::{CALL, add, join, put, state_of};
 use std::alloc::Global;
 use std::test::Fail;
 use tt_code::Frame;
 use tt_family::{Builder, ContextFault, JoinFault};
+use tt_test_fixtures::families::{CALL, add, join, put, state_of};
 
 /// A call on a builder.
 #[derive(Clone, Copy, Debug)]

@@ -6,14 +6,14 @@ use crate::heap::Heap;
 use crate::matching::{Either, Matching};
 use crate::trials::{Told, Trial, assert_refused};
 use hintcheck::command;
-use hintcheck_test_fixtures::fonts::MAXP_WORD;
-use hintcheck_test_fixtures::paths::path_of;
 use std::io::Print;
 use std::path::PathBuf;
 use std::process::Abort;
 use std::test::Fail;
 use std::{env, fs, process};
 use tt_stream::Counted;
+use tt_test_fixtures::fonts::MAXP_WORD;
+use tt_test_fixtures::paths::path_of;
 
 /// What a command has to print.
 #[derive(Clone, Copy)]

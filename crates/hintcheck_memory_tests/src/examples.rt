@@ -1,15 +1,15 @@
 //! The fonts on which the calls are made, all programs of which are accepted.
 
 use hintcheck_test_fixtures::font_calls::found;
-use hintcheck_test_fixtures::fonts::{NoFile, TWICE, font_of, font_with, square};
-use hintcheck_test_fixtures::hex_bytes::bytes_of;
-use hintcheck_test_fixtures::programs::{CALLS_WITH_A_NUMBER, POPPING};
-use hintcheck_test_fixtures::section_calls::{Told, decoded};
-use hintcheck_test_fixtures::stored_certificates::FORM_1;
-use hintcheck_test_fixtures::streams::{ALL, steps_of};
 use std::alloc::Global;
 use std::test::Fail;
 use tt_cert::Form;
+use tt_test_fixtures::fonts::{NoFile, TWICE, font_of, font_with, square};
+use tt_test_fixtures::hex_bytes::bytes_of;
+use tt_test_fixtures::programs::{CALLS_WITH_A_NUMBER, POPPING};
+use tt_test_fixtures::section_calls::{Told, decoded};
+use tt_test_fixtures::stored_certificates::FORM_1;
+use tt_test_fixtures::streams::{ALL, steps_of};
 
 /// The programs of such a font.
 #[derive(Clone, Copy)]

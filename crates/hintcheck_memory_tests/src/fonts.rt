@@ -6,10 +6,10 @@ use crate::matching::Matching;
 use crate::trials::{Told, Trial, refusals_of};
 use hintcheck::{FindFontFault, FontFault, UpgradeFault, bare, find_font, upgrade};
 use hintcheck_test_fixtures::font_calls::{Told as Font, checked, judged};
-use hintcheck_test_fixtures::fonts::MAXP;
-use hintcheck_test_fixtures::streams::{Steps, steps_of};
 use std::test::Fail;
 use tt_stream::Counted;
+use tt_test_fixtures::fonts::MAXP;
+use tt_test_fixtures::streams::{Steps, steps_of};
 
 /// A call on a font.
 #[derive(Clone, Copy, Debug)]

@@ -8,8 +8,6 @@ use crate::examples::{CALL_POPS, EXAMPLES, Example, example_of, files_of, files_
 use crate::heap::Heap;
 use crate::sections::section_of;
 use crate::trials::{Told, Trial, assert_refused, refusals_of, told_of};
-use hintcheck_test_fixtures::families::state_of;
-use hintcheck_test_fixtures::programs::{LIMITS, cut};
 use std::alloc::{AllocError, Global};
 use std::test::Fail;
 use tt_abs::Cell::Known;
@@ -17,6 +15,8 @@ use tt_abs::{Kind, Point, Refusal, Setting, State, Successors, transfer};
 use tt_code::{CodeFault, Program};
 use tt_family::{check, check_full};
 use tt_find::find;
+use tt_test_fixtures::families::state_of;
+use tt_test_fixtures::programs::{LIMITS, cut};
 
 /// A call on the program of the last glyph.
 #[derive(Clone, Copy, Debug)]

@@ -5,12 +5,12 @@ use crate::fonts::told_of_written;
 use crate::heap::Heap;
 use crate::matching::Matching;
 use crate::trials::{Told, Trial, refusals_of};
-use hintcheck_test_fixtures::section_calls::{Section, Told as Read, decoded};
-use hintcheck_test_fixtures::streams::steps_of;
 use std::alloc::Global;
 use std::test::Fail;
 use tt_cert::{EncodeFault, encode};
 use tt_stream::Counted;
+use tt_test_fixtures::section_calls::{Section, Told as Read, decoded};
+use tt_test_fixtures::streams::steps_of;
 
 /// A call on the section of the last glyph.
 #[derive(Clone, Copy, Debug)]

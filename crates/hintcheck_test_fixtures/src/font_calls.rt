@@ -1,12 +1,12 @@
 //! What a check by a certificate, the search for one and an upgrade answer, on bytes in memory.
 
-use crate::streams::{Steps, Taker, steps_of};
 use hintcheck::{
     Budget, CheckFontFault, FindFontFault, UpgradeFault, Verdict, VerdictFault, check_font,
     check_font_within, find_font, find_font_within, upgrade, verdict, verdict_within,
 };
 use std::alloc::Global;
 use tt_stream::Counted;
+use tt_test_fixtures::streams::{Steps, Taker, steps_of};
 
 /// What a check answers.
 #[derive(Clone, Copy, Debug, PartialEq, Eq)]

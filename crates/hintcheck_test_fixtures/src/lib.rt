@@ -1,15 +1,4 @@
-//! What the tests of several crates share: fonts made in memory, families of states, readers and
-//! writers that pass little at a time, stored certificates, and what the product's calls tell of
-//! them.
+//! What the tests of hintcheck share: what its calls tell.
 #![tactic(auto)]
 
-pub mod composites;
-pub mod families;
 pub mod font_calls;
-pub mod fonts;
-pub mod hex_bytes;
-pub mod paths;
-pub mod programs;
-pub mod section_calls;
-pub mod stored_certificates;
-pub mod streams;

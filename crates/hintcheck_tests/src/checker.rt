@@ -1,24 +1,11 @@
-//! Tests of the verdicts, and of what the command prints of them.
+//! Tests of calls whose steps matter: budgets that are handed on, a session that is stopped, readers
+//! and writers that fail, and files with two names. What the verdicts are, and what is printed, are cases of
+//! `hintcheck_cases`.
 
-mod budget_commands;
-mod budget_sessions;
-mod budgets;
 mod budgets_handed_on;
-pub(crate) mod certificate_commands;
-mod certificates;
-mod commands;
-mod explanations;
+mod failing_outputs;
 mod failing_readers;
 mod failing_writers;
-mod finding_sessions;
-pub(crate) mod font_files;
-mod font_programs;
-mod glyph_programs;
-mod lines;
-mod listing;
-mod malicious_files;
 pub(crate) mod outputs;
-mod scans;
 mod sessions;
-mod upgrade_commands;
-mod upgrades;
+mod two_names;

@@ -1,6 +1,4 @@
-//! Tests of `tt_family`: builders, certificates, and the check of a family.
+//! Tests of `tt_family`: builders, and finished families.
 
 mod builders;
 mod certificates;
-mod checking;
-mod fillings;

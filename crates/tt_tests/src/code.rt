@@ -1,5 +1,3 @@
-//! Tests of `tt_code`: bytes that aren't programs, and programs with known structure.
+//! Tests of `tt_code`: what the reasons tell.
 
-mod faults;
-mod places;
 mod reasons;

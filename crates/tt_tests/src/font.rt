@@ -1,5 +1,4 @@
-//! Tests of `tt_font`: small font files, whole and with faults.
+//! Tests of `tt_font`: glyphs that are made of many others, and the texts of faults.
 
 mod faults;
 mod glyphs;
-mod tables;

@@ -1,5 +1,5 @@
-//! The tests of the crates that the checker is made of, a module for each, except for those of
-//! certificate files.
+//! The tests of the crates that the checker is made of, a module for each: calls whose steps matter,
+//! and readers and writers that fail. What the calls answer is in the cases of `hintcheck_cases`.
 #![tactic(auto)]
 
 #[cfg(test)]
@@ -7,10 +7,14 @@ mod abs;
 #[cfg(test)]
 mod cert;
 #[cfg(test)]
+mod cert_file;
+#[cfg(test)]
 mod code;
 #[cfg(test)]
 mod find;
 #[cfg(test)]
 mod font;
+#[cfg(test)]
+mod hex_words;
 #[cfg(test)]
 mod stream;

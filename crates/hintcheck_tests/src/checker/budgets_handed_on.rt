@@ -2,9 +2,9 @@
 
 use hintcheck::Budget;
 use hintcheck_test_fixtures::font_calls::{Told, checked_within, found_within, judged_within};
-use hintcheck_test_fixtures::hex_bytes::bytes_of;
-use hintcheck_test_fixtures::stored_certificates::{FONT, FORM_4, UNDERFLOWING};
-use hintcheck_test_fixtures::streams::{ALL, Taker, steps_of};
+use tt_test_fixtures::hex_bytes::bytes_of;
+use tt_test_fixtures::stored_certificates::{FONT, FORM_4, UNDERFLOWING};
+use tt_test_fixtures::streams::{ALL, Taker, steps_of};
 
 /// The points of these fonts: 18 to judge the first, 9 to check it by its certificate and 27 to
 /// find that; 11 to judge the other one, which is refused.

@@ -1,22 +1,28 @@
 //! Readers that give one byte a call, of which one fails: all that was told by then remains valid,
 //! and no further call is made.
 
-use crate::checker::certificates::with_byte;
 use hintcheck::{Session, read_font};
 use hintcheck_test_fixtures::font_calls::{
-    Told, checked_by, found, told_of_check_fault, upgraded_by,
+    Told, checked_by, found, told_of_check_fault, upgraded, upgraded_by,
 };
-use hintcheck_test_fixtures::fonts::{TWICE, font_with};
-use hintcheck_test_fixtures::hex_bytes::bytes_of;
-use hintcheck_test_fixtures::section_calls::{Told as Read, told_of_file_by};
-use hintcheck_test_fixtures::stored_certificates::{
-    FONT, FORM_1, FORM_1_UPGRADED, FORM_2, FORM_4, UNDERFLOWING,
-};
-use hintcheck_test_fixtures::streams::{ALL, Steps, Taker};
 use std::alloc::Global;
 use std::test::Fail;
 use tt_font::Font;
 use tt_stream::{Counted, Source};
+use tt_test_fixtures::fonts::{TWICE, font_with};
+use tt_test_fixtures::hex_bytes::bytes_of;
+use tt_test_fixtures::section_calls::{Told as Read, told_of_file_by};
+use tt_test_fixtures::stored_certificates::{
+    FONT, FORM_1, FORM_1_UPGRADED, FORM_2, FORM_4, UNDERFLOWING,
+};
+use tt_test_fixtures::streams::{ALL, Steps, Taker};
+
+/// Returns the bytes with another one at a place.
+fn with_byte(alloc: Global, bytes: &[u8], place: usize, byte: u8) -> Option<Vec<u8>> {
+    let mut changed = Vec::from_slice(alloc, bytes).ok()?;
+    *changed.get_mut(place)? = byte;
+    Some(changed)
+}
 
 /// Returns these bytes, one a call, of which the one after this many others fails.
 fn one_by_one(bytes: &[u8], calls: usize) -> Steps<'_> {
@@ -104,7 +110,7 @@ fn checks_and_sessions(rt: HostRuntime) -> Result<(), Fail> {
         (&pops, &bytes, 10, 1, 95, Told::Form(10)),
     ];
     for (font, certificate, place, byte, calls, told) in table {
-        let changed = with_byte(certificate, place, byte, rt.alloc()).expect(&rt, "certificate");
+        let changed = with_byte(rt.alloc(), certificate, place, byte).expect(&rt, "certificate");
         let case = Case {
             font,
             bytes: &changed,
@@ -138,12 +144,16 @@ fn first_wrong_read(alloc: Global, bytes: &[u8]) -> Option<usize> {
 }
 
 /// Returns the first call of the reader of an old certificate whose failure isn't told, or after
-/// which no beginning of the new one was written.
+/// which no beginning of the new one was written, as where the old one ends there.
 fn first_wrong_upgrade(alloc: Global, old: &[u8], new: &[u8]) -> Option<usize> {
     for calls in 0..=old.len() {
         let taker = Taker::new(alloc, 1, ALL);
         let (told, written) = upgraded_by(alloc, one_by_one(old, calls), taker);
-        if told != Err(Told::Read) || !new.starts_with(&written) {
+        let (_, of_cut) = upgraded(alloc, &old[..calls], false, ALL);
+        if told != Err(Told::Read)
+            || !new.starts_with(&written)
+            || written.as_slice() != of_cut.as_slice()
+        {
             return Some(calls);
         }
     }

@@ -2,16 +2,16 @@
 //! is a beginning of the certificate.
 
 use hintcheck_test_fixtures::font_calls::{Told, found, found_by, upgraded_by};
-use hintcheck_test_fixtures::fonts::{TWICE, font_with};
-use hintcheck_test_fixtures::hex_bytes::bytes_of;
-use hintcheck_test_fixtures::section_calls::{
-    Section, Told as Written, decoded, encoded, written_header,
-};
-use hintcheck_test_fixtures::stored_certificates::{FONT, FORM_2, FORM_4, UNDERFLOWING};
-use hintcheck_test_fixtures::streams::{ALL, Steps, Taker, steps_of};
 use std::alloc::Global;
 use std::test::Fail;
 use tt_cert::Form;
+use tt_test_fixtures::fonts::{TWICE, font_with};
+use tt_test_fixtures::hex_bytes::bytes_of;
+use tt_test_fixtures::section_calls::{Section, Told as Written, decoded, encoded, written_header};
+use tt_test_fixtures::stored_certificates::{
+    FONT, FORM_1, FORM_1_UPGRADED, FORM_2, FORM_4, UNDERFLOWING,
+};
+use tt_test_fixtures::streams::{ALL, Steps, Taker, steps_of};
 
 /// Takes one byte a call; the call after this many others fails, or takes nothing.
 fn taker(alloc: Global, calls: usize, takes_nothing: bool) -> Taker {
@@ -70,7 +70,13 @@ fn searches_and_upgrades(rt: HostRuntime) -> Result<(), Fail> {
     let (_, of_points) = found(rt.alloc(), &points, ALL);
     assert_eq!(rt; first_wrong_search(rt.alloc(), &pops, &form_4), None);
     assert_eq!(rt; first_wrong_search(rt.alloc(), &points, &of_points), None);
+    let form_1 = bytes_of(rt.alloc(), &FORM_1).expect(&rt, "form 1");
+    let form_1_upgraded = bytes_of(rt.alloc(), &FORM_1_UPGRADED).expect(&rt, "form 1 in form 4");
     assert_eq!(rt; first_wrong_upgrade(rt.alloc(), &form_2, &form_4), None);
+    assert_eq!(rt;
+        first_wrong_upgrade(rt.alloc(), &form_1, &form_1_upgraded),
+        None
+    );
     assert_eq!(rt;
         first_wrong_upgrade(rt.alloc(), &of_points, &of_points),
         None

@@ -1,6 +1,5 @@
 //! Lists of entries with known changes and joins.
 
-use crate::abs::samples::join_twice;
 use std::alloc::{AllocError, Global};
 use tt_abs::{Order, SortedMap};
 
@@ -99,9 +98,9 @@ fn is_joined(alloc: Global) -> Option<bool> {
     let mut storage: SortedMap<i32> = SortedMap::from_slice(alloc, &[(1, -7), (2, 5)]).ok()?;
     let other = SortedMap::from_slice(alloc, &[(1, -7), (2, 6)]).ok()?;
     let is_below = storage.below(&other);
-    let changed = join_twice(&mut storage, &other);
+    let changed = [storage.join(&other), storage.join(&other)];
     let is_shared = storage.as_slice() == [(1, -7)].as_slice();
-    Some(!is_below && changed == Ok([true, false]) && is_shared && other.below(&storage))
+    Some(!is_below && changed == [Ok(true), Ok(false)] && is_shared && other.below(&storage))
 }
 
 #[test]

@@ -1,15 +1,15 @@
 //! One finder for many programs.
 
-use crate::find::fixtures::{Told, with_function, with_function_by};
+use crate::find::fixtures::{Told, with_function_by};
 use crate::find::programs::{
     BRANCHES_AND_CALLS, CALLS, CALLS_AND_ADDS, CALLS_TWICE, JUMPING_BACK, MAY_STOP_COUNTING,
     STRAIGHT, TEN_JUMPS_BACK, THREE_TURNS,
 };
-use hintcheck_test_fixtures::programs::POPPING;
 use std::alloc::Global;
 use std::process::Abort;
 use tt_family::Certificate;
 use tt_find::Finder;
+use tt_test_fixtures::programs::POPPING;
 
 /// Whether a certificate has the contexts of another one, and the states that this one lists.
 fn has_all_of(one: &Certificate, other: &Certificate) -> bool {
@@ -66,7 +66,7 @@ fn is_found_alike(
     program: &[u8],
     gives_back: bool,
 ) -> Option<bool> {
-    let alone = with_function(alloc, font, program)?;
+    let alone = with_function_by(alloc, &mut Finder::new(alloc), font, program)?;
     let again = with_function_by(alloc, finder, font, program)?;
     let is_alike = is_told_alike(&again, &alone);
     if gives_back {

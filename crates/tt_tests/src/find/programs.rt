@@ -1,66 +1,8 @@
 //! The programs of the tests. A font program of these has the body of function 0 at offset 3.
 
-/// PUSHB 0, 9; MIAP.
-pub(crate) const MOVES_A_POINT: [u8; 4] = [0xb1, 0x00, 0x09, 0x3e];
-
-/// PUSHB 7; MDAP of the last phantom point.
-pub(crate) const TAKES_A_PHANTOM_POINT: [u8; 3] = [0xb0, 0x07, 0x2e];
-
-/// MPPEM; IF, PUSHB 1; ELSE, PUSHB 2; EIF; POP. Both ways meet at offset 8.
-pub(crate) const BRANCHES: [u8; 9] = [0x4b, 0x58, 0xb0, 0x01, 0x1b, 0xb0, 0x02, 0x59, 0x21];
-
-/// MPPEM; IF, PUSHB 1; EIF; POP.
-pub(crate) const PUSHES_ON_ONE_WAY: [u8; 6] = [0x4b, 0x58, 0xb0, 0x01, 0x59, 0x21];
-
-/// MPPEM; IF, POP; ELSE, POP; EIF. There is nothing to pop on either way.
-pub(crate) const POPS_ON_BOTH_WAYS: [u8; 6] = [0x4b, 0x58, 0x21, 0x1b, 0x21, 0x59];
-
-/// MPPEM; IF; EIF; RTG. Without the IF's body both ways meet at offset 3.
-pub(crate) const BRANCHES_ON_NOTHING: [u8; 4] = [0x4b, 0x58, 0x59, 0x18];
-
-/// PUSHW -3; JMPR to the start, without end.
-pub(crate) const STARTS_AGAIN: [u8; 4] = [0xb8, 0xff, 0xfd, 0x1c];
-
-/// PUSHB 1; JMPR to the place just after it; RTG.
-pub(crate) const JUMPS_BY_ONE: [u8; 4] = [0xb0, 0x01, 0x1c, 0x18];
-
-/// PUSHB 1; MPPEM; JROT to the place just after it, where it doesn't jump too; RTG.
-pub(crate) const MAY_JUMP_BY_ONE: [u8; 5] = [0xb0, 0x01, 0x4b, 0x78, 0x18];
-
-/// PUSHB 2; JMPR over RTG; RTG.
-pub(crate) const JUMPS_BY_TWO: [u8; 5] = [0xb0, 0x02, 0x1c, 0x18, 0x18];
-
-/// PUSHB 2; JMPR over POP to the end.
-pub(crate) const JUMPS_TO_THE_END: [u8; 4] = [0xb0, 0x02, 0x1c, 0x21];
-
-/// PUSHB 1; PUSHB 1, ADD; PUSHW -6, JMPR to offset 2. It counts without end.
-pub(crate) const COUNTS: [u8; 9] = [0xb0, 0x01, 0xb0, 0x01, 0x60, 0xb8, 0xff, 0xfa, 0x1c];
-
 /// PUSHB 1; PUSHB 1, ADD; PUSHW -7, MPPEM, JROT to offset 2; POP. It counts, and may stop.
 pub(crate) const MAY_STOP_COUNTING: [u8; 11] = [
     0xb0, 0x01, 0xb0, 0x01, 0x60, 0xb8, 0xff, 0xf9, 0x4b, 0x78, 0x21,
-];
-
-/// RTG; PUSHB 1; PUSHW -5, JMPR to offset 1. It pushes without end.
-pub(crate) const PUSHES_WITHOUT_END: [u8; 7] = [0x18, 0xb0, 0x01, 0xb8, 0xff, 0xfb, 0x1c];
-
-/// PUSHB 1; DUP, MDAP; PUSHB 1, ADD; PUSHW -9, MPPEM, JROT to offset 2; POP; POP. The second number
-/// that MDAP takes isn't known, and the second POP has nothing to pop.
-pub(crate) const REFUSED_TWICE: [u8; 14] = [
-    0xb0, 0x01, 0x20, 0x2e, 0xb0, 0x01, 0x60, 0xb8, 0xff, 0xf7, 0x4b, 0x78, 0x21, 0x21,
-];
-
-/// PUSHB 1; RTG; RTG, PUSHW -5, MPPEM, JROT to offset 3; PUSHB 1, ADD; PUSHW -14, MPPEM, JROT to
-/// offset 2; POP.
-pub(crate) const LOOP_IN_A_LOOP: [u8; 18] = [
-    0xb0, 0x01, 0x18, 0x18, 0xb8, 0xff, 0xfb, 0x4b, 0x78, 0xb0, 0x01, 0x60, 0xb8, 0xff, 0xf2, 0x4b,
-    0x78, 0x21,
-];
-
-/// RTG four times; PUSHW, MPPEM, JROT three times, to the offsets 3, 2 and 1.
-pub(crate) const THREE_JUMPS_BACK: [u8; 19] = [
-    0x18, 0x18, 0x18, 0x18, 0xb8, 0xff, 0xfb, 0x4b, 0x78, 0xb8, 0xff, 0xf5, 0x4b, 0x78, 0xb8, 0xff,
-    0xef, 0x4b, 0x78,
 ];
 
 /// RTG eleven times; PUSHW, MPPEM, JROT ten times, to the offsets from 10 down to 1.
@@ -70,15 +12,6 @@ pub(crate) const TEN_JUMPS_BACK: [u8; 61] = [
     0xff, 0xe3, 0x4b, 0x78, 0xb8, 0xff, 0xdd, 0x4b, 0x78, 0xb8, 0xff, 0xd7, 0x4b, 0x78, 0xb8, 0xff,
     0xd1, 0x4b, 0x78, 0xb8, 0xff, 0xcb, 0x4b, 0x78, 0xb8, 0xff, 0xc5, 0x4b, 0x78,
 ];
-
-/// PUSHB 0; FDEF, ENDF; RTG. The definition leads to just after its ENDF.
-pub(crate) const DEFINES: [u8; 5] = [0xb0, 0x00, 0x2c, 0x2d, 0x18];
-
-/// FDEF 0: PUSHB 0, CALL; ENDF.
-pub(crate) const CALLING: [u8; 7] = [0xb0, 0x00, 0x2c, 0xb0, 0x00, 0x2b, 0x2d];
-
-/// FDEF 0: ENDF.
-pub(crate) const EMPTY: [u8; 4] = [0xb0, 0x00, 0x2c, 0x2d];
 
 /// FDEF 0: RTG; RTG, PUSHW -5, MPPEM, JROT to offset 4; ENDF.
 pub(crate) const JUMPING_BACK: [u8; 11] = [
@@ -96,15 +29,6 @@ pub(crate) const CALLS: [u8; 3] = [0xb0, 0x00, 0x2b];
 /// PUSHB 0, CALL twice.
 pub(crate) const CALLS_TWICE: [u8; 6] = [0xb0, 0x00, 0x2b, 0xb0, 0x00, 0x2b];
 
-/// PUSHB 7, 0; CALL; RTG.
-pub(crate) const CALLS_AND_RTG: [u8; 5] = [0xb1, 0x07, 0x00, 0x2b, 0x18];
-
-/// PUSHB 1; CALL, of a function that isn't known.
-pub(crate) const CALLS_ANOTHER: [u8; 3] = [0xb0, 0x01, 0x2b];
-
-/// MPPEM; IF, PUSHB 0, CALL; ELSE, POP; EIF. There is nothing to pop.
-pub(crate) const MAY_CALL: [u8; 8] = [0x4b, 0x58, 0xb0, 0x00, 0x2b, 0x1b, 0x21, 0x59];
-
 /// PUSHB 1; PUSHB 0; CALL; ADD, for which two numbers are missing.
 pub(crate) const CALLS_AND_ADDS: [u8; 6] = [0xb0, 0x01, 0xb0, 0x00, 0x2b, 0x60];
 
@@ -115,20 +39,3 @@ pub(crate) const BRANCHES_AND_CALLS: [u8; 11] = [
 
 /// PUSHB 1, 2, 3, 3, 0; LOOPCALL.
 pub(crate) const THREE_TURNS: [u8; 7] = [0xb4, 0x01, 0x02, 0x03, 0x03, 0x00, 0x2a];
-
-/// PUSHB 1, 2, 3, 4, 0; LOOPCALL.
-pub(crate) const FOUR_TURNS: [u8; 7] = [0xb4, 0x01, 0x02, 0x03, 0x04, 0x00, 0x2a];
-
-/// PUSHB 1, 2, 3, 0, 0; LOOPCALL.
-pub(crate) const NO_TURN: [u8; 7] = [0xb4, 0x01, 0x02, 0x03, 0x00, 0x00, 0x2a];
-
-/// PUSHB 0, 0; LOOPCALL; RTG.
-pub(crate) const NO_TURN_AND_RTG: [u8; 5] = [0xb1, 0x00, 0x00, 0x2a, 0x18];
-
-/// PUSHW 4,095; PUSHB 0; LOOPCALL.
-pub(crate) const TURNS_4095: [u8; 6] = [0xb8, 0x0f, 0xff, 0xb0, 0x00, 0x2a];
-
-/// PUSHW 32,767, 32,767; ADD; PUSHB 1; ADD; PUSHB 0; LOOPCALL.
-pub(crate) const TURNS_65535: [u8; 12] = [
-    0xb9, 0x7f, 0xff, 0x7f, 0xff, 0x60, 0xb0, 0x01, 0x60, 0xb0, 0x00, 0x2a,
-];

@@ -1,53 +1,7 @@
-//! The texts of faults, and files with any fault.
+//! The texts of faults.
 
-use hintcheck_test_fixtures::fonts::{NoFile, font_of, made, square};
 use std::alloc::{AllocError, Global};
-use std::test::Fail;
-use tt_font::{Font, FontFault, Tag};
-
-/// Returns a font with a simple glyph and a composite one, both with programs.
-fn small_font(alloc: Global) -> Result<Vec<u8>, NoFile> {
-    let glyph = square(alloc, &[0x4B])?;
-    let composite = made(alloc, &[0, 0x20, 0, 0, 0, 0, 1, 0, 0, 0, 0, 0, 0, 1, 0x4B])?;
-    font_of(
-        alloc,
-        &[0x4B],
-        &[0x4B],
-        &[glyph.as_slice(), composite.as_slice()],
-    )
-}
-
-/// Whether a font is read, or is refused for another reason than that memory ran out.
-fn is_answered(alloc: Global, file: &[u8]) -> bool {
-    match Font::read(alloc, file) {
-        Ok(_) => true,
-        Err(fault) => fault.number() < 9,
-    }
-}
-
-#[test]
-fn answers_for_every_length(rt: HostRuntime) -> Result<(), Fail> {
-    let file = small_font(rt.alloc())?;
-    for n in 0..file.len() {
-        assert!(rt; is_answered(rt.alloc(), &file[..n]), "the first {n} bytes");
-    }
-    Ok(())
-}
-
-#[test]
-fn answers_for_every_byte(rt: HostRuntime) -> Result<(), Fail> {
-    let mut file = small_font(rt.alloc())?;
-    let bytes = file.as_mut_slice();
-    for i in 0..bytes.len() {
-        let old = bytes[i];
-        for value in 0..=255 {
-            bytes[i] = value;
-            assert!(rt; is_answered(rt.alloc(), bytes), "{value} at byte {i}");
-        }
-        bytes[i] = old;
-    }
-    Ok(())
-}
+use tt_font::{FontFault, Tag};
 
 /// Whether a fault is printed as this text.
 fn prints(alloc: Global, fault: &FontFault, text: &str) -> bool {

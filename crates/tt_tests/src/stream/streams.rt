@@ -1,6 +1,5 @@
 //! Readers and writers that take or give little at a time, or fail.
 
-use hintcheck_test_fixtures::streams::Narrow;
 use std::alloc::Global;
 use std::io::{ErrorKind, Write};
 use std::test::Fail;
@@ -9,6 +8,7 @@ use tt_stream::{
     Buffered, Bytes, Counted, PrintFailed, ReadFailed, Sink, Source, WriteFailed, read_all,
     write_all,
 };
+use tt_test_fixtures::streams::Narrow;
 
 /// A text of some letters, written one at a time.
 #[derive(Drop)]

@@ -1,0 +1,154 @@
+//! Cases that are many: each budget, each length of a file, each byte at each value.
+
+use crate::calls::{call, told_of_check, told_of_font};
+use crate::commands::run_words;
+use anyhow::Result;
+use hintcheck::Budget;
+use std::alloc::Global;
+use std::fs;
+use tt_cases::context::Context;
+use tt_cases::files::held;
+use tt_cases::words::Words;
+
+/// Whether what is told within a budget of `most` points is what should be, where `points` are
+/// needed for what is told without a bound.
+fn is_within(is: &str, told: &str, budget: &Budget, most: u64, points: u64) -> bool {
+    if most < points {
+        let is_told = is.starts_with("fault 46 budget") && !is.ends_with("other bytes");
+        return is_told && budget.made() == most && budget.is_exceeded();
+    }
+    is == told && budget.made() == points && !budget.is_exceeded()
+}
+
+/// `within CALL FILES`: how many points a call makes without a bound, and what it tells. With each
+/// bound from 0 to one more it tells the same, or the budget's fault where it needs more points.
+pub(crate) fn within(context: &Context<'_>, words: &mut Words<'_>) -> Result<String> {
+    let alloc = context.rt.alloc();
+    let kind = words.next()?;
+    let names = words.rest(alloc)?;
+    let mut unlimited = Budget::unlimited();
+    let told = call(context, kind, &names, &mut unlimited)?;
+    let points = unlimited.made();
+    for most in 0..=points.saturating_add(1) {
+        let mut budget = Budget::of(most);
+        let is = call(context, kind, &names, &mut budget)?;
+        if !is_within(is.as_str(), told.as_str(), &budget, most, points) {
+            return Ok(format!(in alloc; "{points} points, {told}, but within {most} {is}")?);
+        }
+    }
+    Ok(format!(in alloc; "{points} points, {told}")?)
+}
+
+/// Returns what a case on the file `cut` tells while that has `length` bytes, with `N` for this
+/// number where it is that of a byte.
+fn told_of_cut(context: &Context<'_>, kind: &str, words: &[&str], length: usize) -> Result<String> {
+    let alloc = context.rt.alloc();
+    let told = match kind {
+        "run" => run_words(context, words)?,
+        _ => call(context, kind, words, &mut Budget::unlimited())?,
+    };
+    let phrase = format!(in alloc; "at byte {length}")?;
+    match told.split_once(phrase.as_str()) {
+        Some((before, after)) => Ok(format!(in alloc; "{before}at byte N{after}")?),
+        None => Ok(told),
+    }
+}
+
+/// `lengths NAME KIND WORDS`: what a case on the file `cut` tells, where that is a beginning of the
+/// named file, of each length below its own.
+pub(crate) fn lengths(context: &Context<'_>, words: &mut Words<'_>) -> Result<String> {
+    let alloc = context.rt.alloc();
+    let bytes = held(context, words.next()?)?;
+    let kind = words.next()?;
+    let names = words.rest(alloc)?;
+    let mut told = String::new(alloc);
+    for length in 0..bytes.len() {
+        fs::write(context.rt, "cut", &bytes[..length])?;
+        let is = told_of_cut(context, kind, &names, length)?;
+        if length > 0 && is.as_str() != told.as_str() {
+            return Ok(format!(in alloc; "{told}, but at {length} {is}")?);
+        }
+        told = is;
+    }
+    Ok(told)
+}
+
+/// Whether something told is a verdict, or a fault 1 to 8 or 43.
+fn is_answer(told: &str) -> bool {
+    match told.strip_prefix("fault ") {
+        Some(fault) => {
+            fault.starts_with("43 ") || matches!(fault.as_bytes(), [b'1'..=b'8', b' ', ..])
+        }
+        None => true,
+    }
+}
+
+/// Whether the check of a font by a certificate has an answer, and accepts only where the verdict
+/// does, which tells this.
+fn is_checked(alloc: Global, font: &[u8], certificate: &[u8], verdict: &str) -> Result<bool> {
+    let check = told_of_check(alloc, font, certificate, &mut Budget::unlimited())?;
+    let is_same = !check.ends_with("good") || verdict.ends_with("good");
+    Ok(is_answer(check.as_str()) && is_same)
+}
+
+/// Whether that is so, and the verdict has an answer.
+fn is_answered(alloc: Global, font: &[u8], certificate: &[u8]) -> Result<bool> {
+    let verdict = told_of_font(alloc, font, &mut Budget::unlimited())?;
+    Ok(is_answer(verdict.as_str()) && is_checked(alloc, font, certificate, verdict.as_str())?)
+}
+
+/// Whether that is so with each value of the font's byte at this place.
+fn is_font_answered(alloc: Global, font: &[u8], certificate: &[u8], place: usize) -> Result<bool> {
+    let mut changed = Vec::from_slice(alloc, font)?;
+    for value in 0..=255 {
+        if let Some(byte) = changed.get_mut(place) {
+            *byte = value;
+        }
+        if !is_answered(alloc, &changed, certificate)? {
+            return Ok(false);
+        }
+    }
+    Ok(true)
+}
+
+/// Whether the check is right with each value of the certificate's byte at this place.
+fn is_certificate_answered(
+    alloc: Global,
+    font: &[u8],
+    certificate: &[u8],
+    verdict: &str,
+    place: usize,
+) -> Result<bool> {
+    let mut changed = Vec::from_slice(alloc, certificate)?;
+    for value in 0..=255 {
+        if let Some(byte) = changed.get_mut(place) {
+            *byte = value;
+        }
+        if !is_checked(alloc, font, &changed, verdict)? {
+            return Ok(false);
+        }
+    }
+    Ok(true)
+}
+
+/// `answered FONT CERT`: whether the verdict on a font and its check by a certificate have an answer
+/// for each beginning of the font, and with each byte of either at each value.
+pub(crate) fn answered(context: &Context<'_>, words: &mut Words<'_>) -> Result<String> {
+    let alloc = context.rt.alloc();
+    let font = held(context, words.next()?)?;
+    let certificate = held(context, words.next()?)?;
+    for length in 0..font.len() {
+        if !is_answered(alloc, &font[..length], &certificate)?
+            || !is_font_answered(alloc, &font, &certificate, length)?
+        {
+            return Ok(format!(in alloc; "not the font at {length}")?);
+        }
+    }
+    let verdict = told_of_font(alloc, &font, &mut Budget::unlimited())?;
+    for place in 0..certificate.len() {
+        if !is_certificate_answered(alloc, &font, &certificate, verdict.as_str(), place)? {
+            return Ok(format!(in alloc; "not the certificate at {place}")?);
+        }
+    }
+    Ok(String::from_str(alloc, "each")?)
+}

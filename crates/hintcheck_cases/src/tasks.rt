@@ -1,0 +1,46 @@
+//! Cases of the command line: the task that words ask for, or why there is none, and hexadecimal
+//! words.
+
+use crate::commands::spelled;
+use anyhow::Result;
+use hintcheck_words::{TaskFault, read_words, word_bytes};
+use std::alloc::Global;
+use tt_cases::context::Context;
+use tt_cases::words::Words;
+
+/// Returns what words ask for.
+fn task_text(alloc: Global, words: &[&str]) -> Result<String> {
+    let mut text = String::new(alloc);
+    match read_words(alloc, words) {
+        Ok(task) => write!(text, "{task:?}")?,
+        Err(TaskFault::Words(error)) => write!(text, "{:?}", error.kind())?,
+        Err(TaskFault::OutOfMemory(_)) => text.push_str("9")?,
+    }
+    Ok(text)
+}
+
+/// `words WORDS`: the task that the words after the program's name ask for, or the kind of clap's
+/// error.
+pub(crate) fn task(context: &Context<'_>, words: &mut Words<'_>) -> Result<String> {
+    let alloc = context.rt.alloc();
+    let mut spellings = Vec::new(alloc);
+    for word in words.rest(alloc)? {
+        spellings.push(spelled(context, word)?)?;
+    }
+    let mut texts = Vec::new(alloc);
+    texts.push("hintcheck")?;
+    for spelling in &spellings {
+        texts.push(spelling.as_str())?;
+    }
+    task_text(alloc, &texts)
+}
+
+/// `hex WORD`: the bytes that the word spells, or `bad`.
+pub(crate) fn hex_word(context: &Context<'_>, words: &mut Words<'_>) -> Result<String> {
+    let alloc = context.rt.alloc();
+    let word = spelled(context, words.next()?)?;
+    match word_bytes(alloc, &word) {
+        Ok(bytes) => Ok(format!(in alloc; "{:?}", bytes.as_slice())?),
+        Err(_) => Ok(String::from_str(alloc, "bad")?),
+    }
+}

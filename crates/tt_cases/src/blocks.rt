@@ -1,0 +1,67 @@
+//! A file of cases, in blocks: a line that says what is asked for, and the lines of its answer.
+
+use anyhow::{Result, anyhow};
+use std::alloc::Global;
+
+/// A line, and the lines of its answer that follow it.
+#[derive(Drop)]
+pub struct Block<'a> {
+    /// Where the line stands in the file, from 1.
+    pub number: usize,
+    /// The line before `->`.
+    pub asked: &'a str,
+    /// What stands after `->` in it, if there is one.
+    pub answer: Option<&'a str>,
+    /// The lines that follow it, each begun with `|` or `!`.
+    pub lines: Vec<&'a str>,
+}
+
+/// Returns the block that a line begins. Without an answer it may end with a comment after ` #`.
+fn block_of(alloc: Global, number: usize, line: &str) -> Block<'_> {
+    let (asked, answer) = match line.split_once("->") {
+        Some((asked, answer)) => (asked.trim_end(), Some(answer.trim())),
+        None => (
+            line.split_once(" #")
+                .map_or(line, |parts| parts.0)
+                .trim_end(),
+            None,
+        ),
+    };
+    Block {
+        number,
+        asked,
+        answer,
+        lines: Vec::new(alloc),
+    }
+}
+
+/// Adds a line to the blocks: to the last one, if it is a line of an answer. Blank lines and lines
+/// that begin with `#` are passed over.
+fn add_line<'a>(
+    alloc: Global,
+    blocks: &mut Vec<Block<'a>>,
+    number: usize,
+    line: &'a str,
+) -> Result<()> {
+    let first = line.trim_start();
+    if first.is_empty() || first.starts_with('#') {
+        return Ok(());
+    }
+    if !line.starts_with('|') && !line.starts_with('!') {
+        blocks.push(block_of(alloc, number, line))?;
+        return Ok(());
+    }
+    match blocks.last_mut() {
+        Some(block) => Ok(block.lines.push(line.trim_end())?),
+        None => Err(anyhow!("{number}: an answer to nothing")),
+    }
+}
+
+/// Returns the blocks of a file.
+pub fn blocks_of(alloc: Global, text: &str) -> Result<Vec<Block<'_>>> {
+    let mut blocks = Vec::new(alloc);
+    for (place, line) in text.lines().enumerate() {
+        add_line(alloc, &mut blocks, place.saturating_add(1), line)?;
+    }
+    Ok(blocks)
+}

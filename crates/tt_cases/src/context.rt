@@ -1,0 +1,96 @@
+//! What the cases of a file share: limits, and the fonts and files that its lines name.
+
+use crate::files::{make_file, pieces_of};
+use crate::words::Words;
+use anyhow::Result;
+use std::alloc::AllocError;
+use tt_abs::Kind;
+use tt_code::Limits;
+
+/// The limits where no line says others: those of the small fonts.
+const LIMITS: Limits = Limits {
+    storage: 4,
+    functions: 2,
+    stack: 8,
+    program_size: 64,
+    zones: 2,
+    twilight: 4,
+};
+
+/// What a file's lines have said so far.
+#[derive(Drop)]
+pub struct Context<'a> {
+    pub rt: &'a HostRuntime,
+    pub file: &'a str,
+    pub limits: Limits,
+    /// How many control values there are.
+    pub cvt: u16,
+    /// How many points and contours the glyph has.
+    pub points: u16,
+    pub contours: u16,
+    /// The units that `unit` changes one of.
+    pub units: Vec<Vec<u8>>,
+    /// What each row begins with.
+    pub beginning: &'a str,
+}
+
+impl<'a> Context<'a> {
+    /// Returns the context at the head of a file.
+    pub fn new(rt: &'a HostRuntime, file: &'a str) -> Context<'a> {
+        Context {
+            rt,
+            file,
+            limits: LIMITS,
+            cvt: 10,
+            points: 4,
+            contours: 1,
+            units: Vec::new(rt.alloc()),
+            beginning: "",
+        }
+    }
+
+    /// Returns the kind of a glyph's program.
+    pub fn glyph(&self) -> Kind {
+        Kind::Glyph {
+            points: self.points,
+            contours: self.contours,
+        }
+    }
+
+    /// Takes the limits that words give, and the usual ones for the others.
+    fn set_limits(&mut self, words: &mut Words<'a>) -> Result<()> {
+        self.limits = Limits {
+            storage: words.number("storage", LIMITS.storage)?,
+            functions: words.number("functions", LIMITS.functions)?,
+            stack: words.number("stack", LIMITS.stack)?,
+            program_size: words.number("size", LIMITS.program_size)?,
+            zones: words.number("zones", LIMITS.zones)?,
+            twilight: words.number("twilight", LIMITS.twilight)?,
+        };
+        self.cvt = words.number("cvt", 10)?;
+        self.points = words.number("points", 4)?;
+        self.contours = words.number("contours", 1)?;
+        Ok(())
+    }
+
+    /// Takes a line that changes the context; whether it is one.
+    pub fn set_up(&mut self, words: &mut Words<'a>) -> Result<bool> {
+        match words.first() {
+            Some("limits") => {
+                words.next()?;
+                self.set_limits(words)?;
+            }
+            Some("units") => {
+                words.next()?;
+                self.units.clear();
+            }
+            Some("unit") => {
+                words.next()?;
+                let unit = pieces_of(self, words)?;
+                self.units.push(unit).map_err(AllocError::from)?;
+            }
+            _ => return make_file(self, words),
+        }
+        Ok(true)
+    }
+}

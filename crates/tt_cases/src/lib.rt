@@ -1,0 +1,20 @@
+//! What cases are made of: the notation of their files, and the kinds of cases that ask the parts of
+//! the checker, below its verdict on a font.
+#![tactic(auto)]
+
+pub mod blocks;
+mod builders;
+pub mod context;
+mod families;
+pub mod files;
+mod fonts;
+pub mod kinds;
+mod orders;
+mod places;
+mod programs;
+mod sections;
+mod stacks;
+mod states;
+mod steps;
+mod symbolic;
+pub mod words;

@@ -1,0 +1,220 @@
+//! Cases of certificate files: their headers, their sections, each rule broken once, and what is
+//! written.
+
+use crate::context::Context;
+use crate::files::pieces_of;
+use crate::places::frame_text;
+use crate::states::{state_text, usual};
+use crate::words::{Words, number_of};
+use anyhow::{Context as _, Result, bail, ensure};
+use std::alloc::Global;
+use tt_cert::Form;
+use tt_test_fixtures::section_calls::{
+    Section, Told, decoded, encoded, told_of_end, told_of_file_by, told_of_header, written_header,
+};
+use tt_test_fixtures::streams::{ALL, Steps, Taker};
+
+/// What is read from bytes.
+#[derive(Clone, Copy)]
+enum Reading {
+    /// A section in a form.
+    Section(Form),
+    /// A whole file.
+    File,
+    /// A file's header.
+    Header,
+    /// The end of a file, at a place.
+    End(u64),
+}
+
+/// Returns the text of what is told, where places are counted from a start.
+fn told_text(alloc: Global, told: &Told, start: u64) -> Result<String> {
+    let text = match told {
+        Told::Section { after, left: 0 } => format!(in alloc;
+            "ends at {}",
+            after.wrapping_sub(start)
+        )?,
+        Told::Section { after, left } => {
+            format!(in alloc; "ends at {}, {left} left", after.wrapping_sub(start))?
+        }
+        Told::Header(form, sections) => format!(in alloc; "form {form}, {sections} sections")?,
+        Told::Done => String::from_str(alloc, "end")?,
+        Told::Form(place) => format!(in alloc; "43 at {}", place.wrapping_sub(start))?,
+        Told::Read => String::from_str(alloc, "44")?,
+        Told::Write => String::from_str(alloc, "45")?,
+        Told::OutOfMemory => String::from_str(alloc, "9")?,
+    };
+    Ok(text)
+}
+
+/// Returns what reading tells, of a section from a place on.
+fn told_by(alloc: Global, reading: Reading, steps: Steps<'_>, start: u64) -> Result<String> {
+    match reading {
+        Reading::Section(form) => told_text(alloc, &decoded(alloc, steps, start, form).1, start),
+        Reading::File => told_text(alloc, &told_of_file_by(alloc, steps), 0),
+        Reading::Header => told_text(alloc, &told_of_header(steps), 0),
+        Reading::End(place) => told_text(alloc, &told_of_end(steps, place), 0),
+    }
+}
+
+/// How many bytes a call gives, and where a section begins.
+const WAYS: [(usize, u64); 6] = [(1000, 0), (1000, 1000), (1, 0), (2, 7), (3, 0), (5, 0)];
+
+/// Returns what reading bytes tells: the same however many a call gives, and wherever a section
+/// begins.
+fn told_alike(alloc: Global, reading: Reading, bytes: &[u8], calls: usize) -> Result<String> {
+    let mut told = String::new(alloc);
+    for (step, start) in WAYS {
+        let next = told_by(alloc, reading, Steps { bytes, step, calls }, start)?;
+        if !told.is_empty() && told.as_str() != next.as_str() {
+            return Ok(format!(in alloc; "{told}, but {next} by {step} from {start}")?);
+        }
+        told = next;
+    }
+    Ok(told)
+}
+
+/// Returns the form that the words give, if they do.
+fn form_of(words: &mut Words<'_>) -> Result<Option<Form>> {
+    match words.take("form") {
+        None => Ok(None),
+        Some("1") => Ok(Some(Form::One)),
+        Some("2") => Ok(Some(Form::Two)),
+        Some("3") => Ok(Some(Form::Three)),
+        Some("4") => Ok(Some(Form::Four)),
+        Some(form) => bail!("no form {form}"),
+    }
+}
+
+/// Takes what is read: `section`, in the forms 3 and 4 or in that of `form=1`, `whole`, a file, `header`, or
+/// `end PLACE`. Returns it twice where it is one.
+fn readings_of(kind: &str, words: &mut Words<'_>) -> Result<[Reading; 2]> {
+    match kind {
+        "section" => match form_of(words)? {
+            Some(form) => Ok([Reading::Section(form); 2]),
+            None => Ok([Reading::Section(Form::Three), Reading::Section(Form::Four)]),
+        },
+        "whole" => Ok([Reading::File; 2]),
+        "header" => Ok([Reading::Header; 2]),
+        "end" => Ok([Reading::End(number_of(words.next()?)?); 2]),
+        _ => bail!("nothing that is read is called {kind}"),
+    }
+}
+
+/// Takes the bytes that the words say: all units, those with one changed, `unit 3 = 0002`, or the
+/// words' own.
+fn bytes_said(context: &Context<'_>, words: &mut Words<'_>) -> Result<Vec<u8>> {
+    let mut changed = usize::MAX;
+    if words.take_word("unit") {
+        changed = number_of(words.next()?)?;
+        ensure!(words.take_word("="), "= is missing");
+        ensure!(changed < context.units.len(), "no such unit");
+    } else if !words.take_word("units") {
+        return pieces_of(context, words);
+    }
+    let other = pieces_of(context, words)?;
+    let mut bytes = Vec::new(context.rt.alloc());
+    for (number, unit) in context.units.iter().enumerate() {
+        bytes.extend_from_slice(if number == changed { &other } else { unit })?;
+    }
+    Ok(bytes)
+}
+
+/// `section BYTES`, `whole BYTES`, `header BYTES`, `end PLACE BYTES`: what reading tells, where the
+/// call after `calls=0` others fails.
+pub(crate) fn told(context: &Context<'_>, kind: &str, words: &mut Words<'_>) -> Result<String> {
+    let alloc = context.rt.alloc();
+    let calls = words.number("calls", ALL)?;
+    let [reading, other] = readings_of(kind, words)?;
+    let bytes = bytes_said(context, words)?;
+    let told = told_alike(alloc, reading, &bytes, calls)?;
+    let told_otherwise = told_alike(alloc, other, &bytes, calls)?;
+    if told.as_str() == told_otherwise.as_str() {
+        return Ok(told);
+    }
+    Ok(format!(in alloc; "{told} in form 3, {told_otherwise} in form 4")?)
+}
+
+/// `cuts section BYTES` and the like: whether each beginning of the bytes tells that it is cut
+/// short, at its end.
+pub(crate) fn cuts(context: &Context<'_>, words: &mut Words<'_>) -> Result<String> {
+    let alloc = context.rt.alloc();
+    let readings = readings_of(words.next()?, words)?;
+    let bytes = bytes_said(context, words)?;
+    for length in 0..bytes.len() {
+        let want = format!(in alloc; "43 at {length}")?;
+        for reading in readings {
+            let told = told_alike(alloc, reading, &bytes[..length], ALL)?;
+            if told.as_str() != want.as_str() {
+                return Ok(format!(in alloc; "{told} after {length}")?);
+            }
+        }
+    }
+    Ok(format!(in alloc; "43 at the end of each of {}", bytes.len())?)
+}
+
+/// Reads the section that the words say.
+fn section_of(context: &Context<'_>, words: &mut Words<'_>, start: u64) -> Result<(Section, Told)> {
+    let form = form_of(words)?.unwrap_or(Form::Four);
+    let bytes = bytes_said(context, words)?;
+    let steps = Steps {
+        bytes: &bytes,
+        step: ALL,
+        calls: ALL,
+    };
+    let (section, told) = decoded(context.rt.alloc(), steps, start, form);
+    Ok((section.context("no section")?, told))
+}
+
+/// Adds a line for each context and each state of a section.
+fn show_content(alloc: Global, text: &mut String, section: &Section) -> Result<()> {
+    let family = &section.certificate;
+    for number in 1..family.contexts() {
+        if let Some((parent, frame)) = family.context(number) {
+            write!(text, "\n| call {parent}:{}", frame_text(alloc, &frame)?)?;
+        }
+    }
+    let before = usual(alloc)?;
+    let mut states = family.states();
+    for _ in 0..family.points() {
+        if let Some((context, offset, state)) = states.take_first() {
+            let state = state_text(alloc, state, &before)?;
+            write!(text, "\n| {context}:{offset} {state}")?;
+        }
+    }
+    Ok(())
+}
+
+/// `content BYTES`: whose section it is, how long, what is left, and its contexts and states.
+pub(crate) fn content(context: &Context<'_>, words: &mut Words<'_>) -> Result<String> {
+    let alloc = context.rt.alloc();
+    let (section, told) = section_of(context, words, 100)?;
+    let told = told_text(alloc, &told, 100)?;
+    let mut text = format!(in alloc; "{} {told}", section.name)?;
+    show_content(alloc, &mut text, &section)?;
+    Ok(text)
+}
+
+/// `written BYTES as BYTES`: whether the section is written as these bytes.
+pub(crate) fn written(context: &Context<'_>, words: &mut Words<'_>) -> Result<String> {
+    let alloc = context.rt.alloc();
+    let (section, _) = section_of(context, words, 0)?;
+    ensure!(words.take_word("as"), "as is missing");
+    let want = bytes_said(context, words)?;
+    for step in [ALL, 1] {
+        let (told, bytes) = encoded(alloc, &section, Taker::new(alloc, step, ALL));
+        if told != Told::Done || bytes.as_slice() != want.as_slice() {
+            return Ok(format!(in alloc; "other bytes by {step}")?);
+        }
+    }
+    Ok(String::from_str(alloc, "same")?)
+}
+
+/// `head SECTIONS`: the header that is written.
+pub(crate) fn head(context: &Context<'_>, words: &mut Words<'_>) -> Result<String> {
+    let alloc = context.rt.alloc();
+    let sections = number_of(words.next()?)?;
+    let (told, bytes) = written_header(sections, Taker::new(alloc, 4, ALL));
+    ensure!(told == Told::Done, "no header is written");
+    Ok(hex::encode_upper(alloc, &bytes)?)
+}

@@ -1,0 +1,84 @@
+//! Cases of stacks: what changes leave of one, and what two share.
+
+use crate::context::Context;
+use crate::states::Shown;
+use crate::words::{Words, bytes_of, number_of};
+use anyhow::{Result, bail, ensure};
+use std::alloc::Global;
+use tt_abs::Stack;
+
+/// Makes the next change: `push [..]`, a cell at a time, `cells [..]`, at once, `bytes HEX` and
+/// `words HEX`, `remove N`, the cell under N others, `cut N`, from the top, or `clear`.
+fn change(alloc: Global, stack: &mut Stack, words: &mut Words<'_>) -> Result<()> {
+    match words.next()? {
+        "push" => {
+            for cell in &words.stack(alloc)? {
+                stack.push(*cell)?;
+            }
+        }
+        "cells" => stack.push_cells(&words.stack(alloc)?)?,
+        "bytes" => stack.push_bytes(&bytes_of(alloc, words.next()?)?)?,
+        "words" => stack.push_words(&bytes_of(alloc, words.next()?)?)?,
+        "remove" => {
+            let place: usize = number_of(words.next()?)?;
+            ensure!(place < stack.len(), "no such cell");
+            stack.remove(place);
+        }
+        "cut" => stack.cut(number_of(words.next()?)?),
+        "clear" => stack.clear(),
+        word => bail!("no change of a stack is called {word}"),
+    }
+    Ok(())
+}
+
+/// Returns what an empty stack becomes by the changes up to `|`.
+fn stack_of(alloc: Global, words: &mut Words<'_>) -> Result<Stack> {
+    let mut stack = Stack::new(alloc);
+    for _ in 0..words.len() {
+        if words.is_empty() || words.take_word("|") {
+            break;
+        }
+        change(alloc, &mut stack, words)?;
+    }
+    Ok(stack)
+}
+
+/// `stack CHANGES`: the cells that an empty stack has then, counted from below and from above.
+pub(crate) fn stack(context: &Context<'_>, words: &mut Words<'_>) -> Result<String> {
+    let alloc = context.rt.alloc();
+    let stack = stack_of(alloc, words)?;
+    let depth = stack.len();
+    let mut text = String::from_str(alloc, "[")?;
+    for place in 0..depth {
+        let (Some(cell), divider) = (stack.above(place), if place > 0 { " " } else { "" }) else {
+            bail!("no cell at {place}");
+        };
+        write!(text, "{divider}{}", Shown(cell))?;
+        let others = depth.saturating_sub(place).saturating_sub(1);
+        ensure!(
+            stack.under(others) == Some(cell),
+            "another cell under {others}"
+        );
+    }
+    ensure!(
+        stack.above(depth).is_none() && stack.under(depth).is_none(),
+        "a cell too many"
+    );
+    text.push(']')?;
+    Ok(text)
+}
+
+/// `share COUNT CHANGES | CHANGES`: whether two stacks have that many cells at the bottom, and the
+/// same ones.
+pub(crate) fn share(context: &Context<'_>, words: &mut Words<'_>) -> Result<String> {
+    let alloc = context.rt.alloc();
+    let count = number_of(words.next()?)?;
+    let one = stack_of(alloc, words)?;
+    let other = stack_of(alloc, words)?;
+    let answer = if one.shares_bottom(&other, count) {
+        "yes"
+    } else {
+        "no"
+    };
+    Ok(String::from_str(alloc, answer)?)
+}

@@ -1,0 +1,118 @@
+//! Cases of instructions: where they lead, and what they make of what is known.
+
+ghost use Rattle.std.specs.Prelude.{◌≡◌, IfOk, false};
+ghost use Rattle.tt_abs.specs.Covers.{has_body_twice};
+ghost use Rattle.tt_abs.specs.Settings.{frames_of};
+ghost use Rattle.tt_abs.specs.States.{state_order};
+
+use crate::context::Context;
+use crate::places::{frame_of, frame_text, refusal_text};
+use crate::programs::cut;
+use crate::states::{state_of, state_text};
+use crate::words::{Words, body_of, bytes_of};
+use anyhow::{Result, ensure};
+use std::alloc::Global;
+use tt_abs::{Move, Point, Setting, State, Successor, Successors, transfer};
+use tt_code::Frame;
+
+/// Returns where a move leads.
+fn way_text(alloc: Global, way: &Move) -> Result<String> {
+    let text = match way {
+        Move::To(offset) => format!(in alloc; "to {offset}")?,
+        Move::Enter(frame) => format!(in alloc; "enter {}", frame_text(alloc, frame)?)?,
+        Move::NextTurn => String::from_str(alloc, "next turn")?,
+        Move::Return => String::from_str(alloc, "return")?,
+    };
+    Ok(text)
+}
+
+/// Returns where a successor leads, and what has changed there.
+fn successor_text(alloc: Global, next: &Successor, before: &State) -> Result<String> {
+    let way = way_text(alloc, &next.way)?;
+    let state = state_text(alloc, &next.state, before)?;
+    Ok(format!(in alloc; "{way} {state}")?)
+}
+
+/// Returns what an instruction tells at a point, if one starts there.
+fn told(alloc: Global, setting: &Setting<'_>, point: &Point<'_>, state: &State) -> Result<String>
+    requires in_range { state_order.InRange state.now }
+    requires once { has_body_twice (frames_of point.now) ≡ false }
+{
+    ensure!(setting.starts(point, point.offset), "no instruction there");
+    match transfer(setting, point, state) {
+        Ok(Successors::One(next)) => successor_text(alloc, &next, state),
+        Ok(Successors::Two(next, other)) => {
+            let one = successor_text(alloc, &next, state)?;
+            let other = successor_text(alloc, &other, state)?;
+            Ok(format!(in alloc; "{one} or {other}")?)
+        }
+        Err(refusal) => refusal_text(alloc, &refusal),
+    }
+}
+
+/// Returns the same where an instruction belongs to a call, or to the main program.
+fn told_in(
+    alloc: Global,
+    setting: &Setting<'_>,
+    call: Option<Frame>,
+    offset: u32,
+    state: &State,
+) -> Result<String>
+    requires { state_order.InRange state.now }
+{
+    match call {
+        Some(frame) => {
+            let frames = [frame];
+            let point = Point {
+                frames: &frames,
+                offset,
+            };
+            told(alloc, setting, &point, state)
+        }
+        None => {
+            let point = Point {
+                frames: &[],
+                offset,
+            };
+            told(alloc, setting, &point, state)
+        }
+    }
+}
+
+/// Returns the state that the words say, with function 0 where that has a body.
+fn state_with(alloc: Global, words: &mut Words<'_>, function: Option<&str>) -> Result<State>
+    ensures { IfOk result (λ state. state_order.InRange state) }
+{
+    let mut state = state_of(alloc, words)?;
+    if let Some(body) = function {
+        state.define(0, body_of(body)?)?;
+    }
+    Ok(state)
+}
+
+/// `step PROGRAM STATE`, with `at=OFFSET`, `in=CALL`, `f=FONT_PROGRAM`, `start=BODY`: where the
+/// instruction leads, the stack there, and what else has changed; or why it is refused.
+pub(crate) fn step(context: &Context<'_>, words: &mut Words<'_>) -> Result<String> {
+    let alloc = context.rt.alloc();
+    let font = words.bytes(alloc, "f")?;
+    let offset = words.number("at", 0)?;
+    let call = match words.take("in") {
+        Some(call) => Some(frame_of(call)?),
+        None => None,
+    };
+    let function = words.take("start");
+    let main = bytes_of(alloc, words.next()?)?;
+    let state = state_with(alloc, words, function)?;
+    let font = cut(alloc, &font)?;
+    let main = cut(alloc, &main)?;
+    let setting = Setting {
+        limits: context.limits,
+        cvt: u32::from(context.cvt),
+        kind: context.glyph(),
+        main: &main,
+        font: &font,
+        prep: &font,
+        start: &[],
+    };
+    told_in(alloc, &setting, call, offset, &state)
+}
