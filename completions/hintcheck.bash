@@ -1,30 +1,37 @@
 # Completion of hintcheck's words for bash.
 _hintcheck() {
     local word=${COMP_WORDS[COMP_CWORD]} commands='verdict scan explain find check list upgrade bare help'
-    local command=${COMP_WORDS[1]} at=$COMP_CWORD i
+    local command=${COMP_WORDS[1]} at=$COMP_CWORD i options=--help
     COMPREPLY=()
     if [ "$COMP_CWORD" -eq 1 ]; then
         mapfile -t COMPREPLY < <(compgen -W "$commands --help --version" -- "$word")
         return
     fi
     case $command in
+        verdict | scan) options='--symbolic --points --help' ;;
+        find | check) options='--points --help' ;;
+        bare) options='--symbolic --help' ;;
+    esac
+    case $command in
         verdict | scan | find | check)
             if [[ $word == -* ]]; then
-                mapfile -t COMPREPLY < <(compgen -W '--points --help' -- "$word")
+                mapfile -t COMPREPLY < <(compgen -W "$options" -- "$word")
                 return
             fi
-            # The option and its number aren't among the names. In `--points=5` bash takes `=` for a word of its own.
+            # The options and their number aren't among the names. In `--points=5` bash takes `=` for a word of its own.
             for ((i = 2; i < COMP_CWORD; i++)); do
                 if [ "${COMP_WORDS[i]}" = --points ]; then
                     [ "${COMP_WORDS[i + 1]}" = = ] && i=$((i + 1)) && at=$((at - 1))
                     i=$((i + 1)) at=$((at - 2))
                     [ "$i" -ge "$COMP_CWORD" ] && return
+                elif [ "${COMP_WORDS[i]}" = --symbolic ]; then
+                    at=$((at - 1))
                 fi
             done
             ;;
         explain | list | upgrade | bare)
             if [[ $word == -* ]]; then
-                mapfile -t COMPREPLY < <(compgen -W --help -- "$word")
+                mapfile -t COMPREPLY < <(compgen -W "$options" -- "$word")
                 return
             fi
             ;;

@@ -1,7 +1,7 @@
 -- Words in which clap finds no fault name a subcommand that asks for something, and what is given as
--- a number is one then.
+-- a number or as a flag is one then.
 use Rattle.std.proofs.Common.{◌≡◌, ◌<◌, ℕ, Bool, true, false, List, [], ◌∷◌, Option, Some, None, length, refl, sym, ap, subst, ◌∙◌, ◌⊎◌, inl, inr, arith, codes}
-use Rattle.std.specs.Prelude.{find, fold, option_map, option_and_then, is_some, not, pos, ◌&&◌, ◌||◌}
+use Rattle.std.specs.Prelude.{find, option_map, option_and_then, is_some, not, pos, ◌&&◌, ◌||◌}
 use Rattle.std.specs.List.{list_all, list_any}
 use Rattle.std.specs.Option.{option_map_or}
 use Rattle.std.specs.Str.{bytes_eq}
@@ -13,24 +13,17 @@ use Rattle.clap.specs.Simple.{App, Shape, entered, label_of, names_of, rows_at}
 use Rattle.clap.specs.Takes.{is_given}
 use Rattle.clap.specs.Values.{Accepts, read_as, reading_of}
 use Rattle.clap.specs.ValueTests.{accepts}
-use Rattle.clap.specs.Walk.{Row, Rule, Text, action_of, answers_to, arg_by_id, finished, has_row, idle, is_empty, nothing_held, one_of, option, positional, row_text, rows_after, settled, walk, walk_from, with_default}
+use Rattle.clap.specs.Walk.{Row, Rule, Text, action_of, answers_to, arg_by_id, finished, idle, is_empty, nothing_held, one_of, option, positional, row_text, rows_after, settled, walk, walk_from}
 use Rattle.clap.specs.declared.builder.value_parser.ValueParser.{ValueParser}
 use Rattle.clap.specs.declared.builder.value_parser.ValueParser.TheVariants as vp
 use Rattle.clap.proofs.ValueTestLemmas.{accepts-Accepts}
 use Rattle.clap.proofs.SimpleLemmas.{is_nil}
 use Rattle.clap.proofs.WalkLemmas.{both}
-use Rattle.hintcheck_words.specs.Requests.{HasLongNumberIfAny, HasNumber, HasNumberIfAny, request_of}
-use Rattle.hintcheck_words.proofs.Rows.{FitsRule, RowFits, RowsFit, all_found, are_distinct, both_empty, found_passes, is_not, not_any, takes_value, true_or_false}
+use Rattle.hintcheck_words.specs.Requests.{HasFlag, HasLongNumberIfAny, HasNumber, HasNumberIfAny, request_of}
+use Rattle.hintcheck_words.proofs.Rows.{FitsRule, RowFits, RowsFit, all_found, are_distinct, both_empty, defaults_fit, found_passes, is_not, not_any, own_ids, takes_value, true_or_false}
 use Rattle.hintcheck_words.proofs.Walks.{Fits, HelpsIfAbove, IsNotHelp, TakesValues, settled_fits, walk_fits}
 
 -- ---- the rows of a level without fault
-
-no_defaults : (c : List Rule) (rows : List Row) → list_all (λ a. is_empty a.defaults) c ≡ true → fold with_default rows c ≡ rows
-no_defaults [] rows e = refl
-no_defaults (a ∷ c) rows e =
-    let none : a.defaults ≡ [] = is_nil a.defaults (both _ _ e).0 in
-    let same : with_default rows a ≡ rows = elim (true_or_false (has_row a.id rows)) [ inl here ↦ rw here refl | inr absent ↦ rw (absent, none) refl ] in
-    ap (λ rs. fold with_default rs c) same ∙ no_defaults c rows (both _ _ e).1
 
 nothing_fits : (c : List Rule) → Fits c (walk_from nothing_held)
 nothing_fits c = record { rows = tt; stopped = tt }
@@ -46,23 +39,21 @@ check_last true y true e = absurd cc
 check_last false true true e = absurd cc
 check_last false false true e = absurd cc
 
--- a subcommand whose arguments take values, except for help, and have no default
+-- a subcommand whose arguments take values or are flags, except for help
 record IsLeaf (s : Shape) : Type 0 where
   values : TakesValues s.rules
-  defaults : list_all (λ a. is_empty a.defaults) s.rules ≡ true
   negates : s.subcommand_negates_reqs ≡ false
 
 -- the same as a test
 abbrev pub is_leaf : Shape → Bool
 is_leaf s = are_distinct s.rules
-    && (list_all (λ a. takes_value (action_of a) a) s.rules && (list_all (λ a. is_empty a.defaults) s.rules && not s.subcommand_negates_reqs))
+    && (list_all (λ a. takes_value (action_of a) a) s.rules && not s.subcommand_negates_reqs)
 
 leaf_of : (s : Shape) → is_leaf s ≡ true → IsLeaf s
 leaf_of s e =
     let distinct = both _ _ e in
     let takes = both _ _ distinct.1 in
-    let defaults = both _ _ takes.1 in
-    record { values = record { takes = takes.0; distinct = distinct.0 }; defaults = defaults.0; negates = is_not _ defaults.1 }
+    record { values = record { takes = takes.0; distinct = distinct.0 }; negates = is_not _ takes.1 }
 
 pub record LevelRows (s : Shape) (rows : List Row) : Type 0 where
   pub fit : RowsFit s.rules rows
@@ -76,9 +67,9 @@ level_rows s l words e =
     let end = (walk s.rules [] nothing_held words).held in
     let walked_fits = walk_fits s [] l.values (leaf_helps s) words (walk_from nothing_held) (nothing_fits s.rules) parts.0 in
     let rows = settled_fits s.rules s.args_override_self end l.values.takes after.0 walked_fits.rows in
-    let same : finished s.rules end ≡ (settled s.rules end).rows = no_defaults s.rules (settled s.rules end).rows l.defaults in
+    let fit = defaults_fit s.rules s.rules (settled s.rules end).rows (own_ids s.rules l.values.distinct) last.0 rows in
     let checked : (not (s.subcommand_negates_reqs && false) && list_any (λ a. a.required && not (is_given a.id (finished s.rules end))) s.rules) ≡ false = check_last _ _ _ last.1 in
-    record { fit = subst (RowsFit s.rules) (sym same) rows; given = rw l.negates at checked }
+    record { fit = fit; given = rw l.negates at checked }
 
 -- ---- a value among the rows
 
@@ -105,6 +96,10 @@ IsNumberRule c most id a = HasParser c (vp.Signed (pos 0) (pos most)) id a
 -- a rule of a number of 64 bits
 abbrev pub IsLongNumberRule : List Rule → Text → Rule → Type 0
 IsLongNumberRule c id a = HasParser c (vp.Unsigned 0 18446744073709551615) id a
+
+-- a rule of a flag
+abbrev pub IsFlagRule : List Rule → Text → Rule → Type 0
+IsFlagRule c id a = HasParser c vp.Bool id a
 
 -- a text that passed the parser is what an argument got
 record HasValue (p : ValueParser) (ignore_case : Bool) (got : Option Text) : Type 0 where
@@ -160,6 +155,17 @@ long_number_if_any s rows id a level n = elim (value_if_any s rows (vp.Unsigned 
   | inl none ↦ inl none
   | inr value ↦ inr (record { text = value.text; found = value.found; number = value.passed })
 ]
+
+pub flag_among : (s : Shape) (rows : List Row) (id : Text) (a : Rule) → LevelRows s rows → IsFlagRule s.rules id a → HasFlag rows id
+flag_among s rows id a level n = elim (value_if_any s rows vp.Bool id a level n) [
+  | inl none ↦ rw none tt
+  | inr value ↦ rw value.found (is_flag_text (bytes_eq value.text (codes "true")) (bytes_eq value.text (codes "false")) value.passed refl refl)
+]
+  where
+    is_flag_text : {t : Text} (x y : Bool) → (x || y) ≡ true → bytes_eq t (codes "true") ≡ x → bytes_eq t (codes "false") ≡ y → (t ≡ codes "true") ⊎ (t ≡ codes "false")
+    is_flag_text {t} true y e is_x is_y = inl ((bytes_eq-Decides t (codes "true")).0 is_x)
+    is_flag_text {t} false true e is_x is_y = inr ((bytes_eq-Decides t (codes "false")).0 is_y)
+    is_flag_text {t} false false e is_x is_y = absurd cc
 
 pub number_among : (s : Shape) (rows : List Row) (most : ℕ) (id : Text) (a : Rule) → LevelRows s rows → IsNumberRule s.rules most id a → a.required ≡ true → HasNumber most rows id
 number_among s rows most id a level n required = go (find (λ r. bytes_eq r.id id) rows) refl given

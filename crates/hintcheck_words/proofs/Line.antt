@@ -10,7 +10,7 @@ use Rattle.clap.specs.Walk.{Row, Rule, Text, arg_by_id}
 use Rattle.clap.proofs.OnLiterals.{clap_on_literals}
 use Rattle.hintcheck_words.specs.CommandLine.{hintcheck}
 use Rattle.hintcheck_words.specs.Requests.{IsReadable, met, request_of, requests}
-use Rattle.hintcheck_words.proofs.Faultless.{IsLine, IsLongNumberRule, IsNumberRule, level_at, line_names, long_number_if_any, number_among, number_if_any, subcommand_at}
+use Rattle.hintcheck_words.proofs.Faultless.{IsFlagRule, IsLine, IsLongNumberRule, IsNumberRule, flag_among, level_at, line_names, long_number_if_any, number_among, number_if_any, subcommand_at}
 use Rattle.std.specs.Prelude.{drop, true, unwrap_or}
 
 abbrev first_or : {X : Type 0} → X → List X → X
@@ -95,6 +95,18 @@ contours_required : (rule_at bare_built (codes "CONTOURS")).required ≡ true
 unfolding hintcheck bare_built rule_at clap_on_literals
 contours_required = refl
 
+bare_symbolic_rule : IsFlagRule bare_built.rules (codes "SYMBOLIC") (rule_at bare_built (codes "SYMBOLIC"))
+unfolding hintcheck bare_built rule_at clap_on_literals
+bare_symbolic_rule = record { found = refl; named = refl; parser = refl }
+
+verdict_symbolic_rule : IsFlagRule verdict_built.rules (codes "SYMBOLIC") (rule_at verdict_built (codes "SYMBOLIC"))
+unfolding hintcheck verdict_built rule_at clap_on_literals
+verdict_symbolic_rule = record { found = refl; named = refl; parser = refl }
+
+scan_symbolic_rule : IsFlagRule scan_built.rules (codes "SYMBOLIC") (rule_at scan_built (codes "SYMBOLIC"))
+unfolding hintcheck scan_built rule_at clap_on_literals
+scan_symbolic_rule = record { found = refl; named = refl; parser = refl }
+
 offset_rule : IsNumberRule explain_built.rules 4294967295 (codes "OFFSET") (rule_at explain_built (codes "OFFSET"))
 unfolding hintcheck explain_built rule_at clap_on_literals
 offset_rule = record { found = refl; named = refl; parser = refl }
@@ -148,6 +160,15 @@ meets_one words name rows e found =
       of_check = λ check.
           let at_check = level_at (built hintcheck) name (codes "check") rows check_built named check check_found in
           long_number_if_any check_built rows (codes "POINTS") (rule_at check_built (codes "POINTS")) at_check check_rule;
+      profile_of_bare = λ bare.
+          let at_bare = level_at (built hintcheck) name (codes "bare") rows bare_built named bare bare_found in
+          flag_among bare_built rows (codes "SYMBOLIC") (rule_at bare_built (codes "SYMBOLIC")) at_bare bare_symbolic_rule;
+      profile_of_verdict = λ verdict.
+          let at_verdict = level_at (built hintcheck) name (codes "verdict") rows verdict_built named verdict verdict_found in
+          flag_among verdict_built rows (codes "SYMBOLIC") (rule_at verdict_built (codes "SYMBOLIC")) at_verdict verdict_symbolic_rule;
+      profile_of_scan = λ scan.
+          let at_scan = level_at (built hintcheck) name (codes "scan") rows scan_built named scan scan_found in
+          flag_among scan_built rows (codes "SYMBOLIC") (rule_at scan_built (codes "SYMBOLIC")) at_scan scan_symbolic_rule;
     }
 
 pub fault_is : (a : App) (words : List Text) → a ≡ hintcheck → (is_simple_and_free a ≡ true → fault_of a words ≡ []) → fault_of hintcheck words ≡ []

@@ -1,16 +1,17 @@
 -- What the values of a subcommand give, by the rows of its matches.
-use Rattle.std.proofs.Common.{◌≡◌, ◌∙◌, ◌≤◌, ◌<◌, ◌^◌, inl, inr, ℕ, List, [], Option, Some, None, Result, Ok, Err, refl, sym, ap, Bor}
-use Rattle.std.specs.Prelude.{unwrap_or, option_map, find, map}
+use Rattle.std.proofs.Common.{◌≡◌, ◌∙◌, ◌≤◌, ◌<◌, ◌^◌, ◌⊎◌, inl, inr, ℕ, Bool, true, false, codes, List, [], Option, Some, None, Result, Ok, Err, refl, sym, ap, Bor}
+use Rattle.std.specs.Prelude.{IfSome, unwrap_or, option_map, find, map}
+use Rattle.std.specs.Option.{option_map_or}
 use Rattle.std.specs.Str.Parse.{ParsesUnsigned, digits_value, without_leading_plus}
 use Rattle.clap.specs.Matches.{ReadsOne}
 use Rattle.std.specs.Str.{bytes_eq}
 use Rattle.clap.specs.Facts.{Entry}
 use Rattle.clap.specs.Walk.{row_of}
-use Rattle.clap.specs.Words.{Row, Text, all_of, matched_of, one_of, raw_values, rows_of, without_minus}
+use Rattle.clap.specs.Words.{Row, Text, all_of, matched_of, one_of, one_text, raw_values, rows_of, without_minus}
 use Rattle.clap.specs.declared.parser.matches.Found.{Found}
-use Rattle.clap.proofs.WalkLemmas.{find_row}
+use Rattle.clap.proofs.WalkLemmas.{find_row, one_text-rows}
 use Rattle.clap.proofs.CallerReads.{signed_reads}
-use Rattle.hintcheck_words.specs.Requests.{HasLongNumberIfAny, HasNumber, HasNumberIfAny, number_in, optional_number_in}
+use Rattle.hintcheck_words.specs.Requests.{HasFlag, HasLongNumberIfAny, HasNumber, HasNumberIfAny, flag_in, number_in, optional_number_in}
 
 pub text_or_empty : (o : Option (Bor (List ℕ))) (empty : Bor (List ℕ)) → empty.now ≡ [] → (unwrap_or o empty).now ≡ unwrap_or (option_map (λ s. s.now) o) []
 text_or_empty None empty e = e
@@ -44,6 +45,16 @@ long_number_read {E} G rows id n (inr h) parses absent reads = go n (reads h.tex
     go : (o : Option ℕ) → ReadsOne G h.text o → o ≡ optional_number_in rows id
     go None r = absurd (parses h.text (Err r.0) r.1 (h.number.0, h.number.1))
     go (Some x) r = ap (λ (y : ℕ). Some y) (parses h.text (Ok x) r).1 ∙ rw h.found refl
+
+-- whether a flag is given
+pub flag_read : (f : Found) (id : Text) (b : Bool) → HasFlag (rows_of f) id → (one_text f id ≡ None → b ≡ false) → (one_text f id ≡ Some (codes "true") → b ≡ true) → (one_text f id ≡ Some (codes "false") → b ≡ false)
+    → b ≡ flag_in (rows_of f) id
+flag_read f id b has none given absent = go (one_of id (rows_of f)) (one_text-rows f id) has
+  where
+    go : (o : Option Text) → one_text f id ≡ o → IfSome o (λ t. (t ≡ codes "true") ⊎ (t ≡ codes "false")) → b ≡ option_map_or (λ t. bytes_eq t (codes "true")) o false
+    go None e h = none e
+    go (Some t) e (inl is) = given (e ∙ ap (λ (u : Text). Some u) is) ∙ rw is refl
+    go (Some t) e (inr is) = absent (e ∙ ap (λ (u : Text). Some u) is) ∙ rw is refl
 
 -- the texts of an argument, by the rows
 pub all_of-rows : (f : Found) (id : Text) → option_map raw_values (matched_of f id) ≡ all_of id (rows_of f)

@@ -1,5 +1,5 @@
 -- A walk over words that has no fault keeps rows that fit, and meets no `help`. For commands whose
--- arguments take values, except for help and the version.
+-- arguments take values or are flags, except for help and the version.
 use Rattle.std.proofs.Common.{◌≡◌, ℕ, zero, suc, Bool, true, false, List, [], ◌∷◌, Option, Some, None, length, refl, inl, inr, codes, drop}
 use Rattle.std.specs.Prelude.{find, fold, slice_get, is_some, not, encode_utf8, ◌&&◌, if◌then◌else◌}
 use Rattle.std.specs.List.{list_all}
@@ -13,7 +13,7 @@ use Rattle.clap.specs.Walk.{Held, Names, Outcome, Rule, Step, Text, Waiting, Wal
 use Rattle.clap.specs.declared.error.kind.ErrorKind.TheVariants as kind
 use Rattle.hintcheck_words.proofs.Rows.{RowsFit, all_found, are_distinct, both_empty, own_id, takes_value, true_or_false, used_by_id_fits, used_fits}
 
--- each argument takes values, or asks for help or the version; no two have one id
+-- each use of an argument gives it a value, or asks for help or the version; no two have one id
 pub record TakesValues (c : List Rule) : Type 0 where
   pub takes : list_all (λ a. takes_value (action_of a) a) c ≡ true
   pub distinct : are_distinct c ≡ true

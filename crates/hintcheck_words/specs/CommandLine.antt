@@ -1,17 +1,18 @@
 -- The command line, in the terms of clap's definitions:
---     hintcheck bare MAXP CVT POINTS CONTOURS [PROGRAM]
---     hintcheck verdict [--points POINTS] FONT
---     hintcheck scan [--points POINTS] FONT..
+--     hintcheck bare [--symbolic] MAXP CVT POINTS CONTOURS [PROGRAM]
+--     hintcheck verdict [--symbolic] [--points POINTS] FONT
+--     hintcheck scan [--symbolic] [--points POINTS] FONT..
 --     hintcheck explain FONT PROGRAM [OFFSET]
 --     hintcheck find [--points POINTS] FONT CERT
 --     hintcheck check [--points POINTS] FONT CERT
 --     hintcheck list FONT PROGRAM
 --     hintcheck upgrade OLD NEW
 --     hintcheck --version
--- The option `--points` may also come after the names of the files, or between them.
+-- The options may also come after the other words of a subcommand, or between them.
 use Rattle.std.specs.Prelude.{codes, fold, List, [], ◌∷◌, true, pos, Some}
 use Rattle.clap.specs.Lexer.{usize_max}
 use Rattle.clap.specs.Words.{App, Rule, Text, new_app, new_rule, with_rule, with_subcommand}
+use Rattle.clap.specs.declared.builder.action.ArgAction.TheVariants.{SetTrue}
 use Rattle.clap.specs.declared.builder.value_parser.ValueParser.TheVariants as parser
 
 -- an argument that may be left out
@@ -37,6 +38,10 @@ number_option id name = record (new_rule id) {
   parser = Some (parser.Unsigned 0 18446744073709551615);
 }
 
+-- an option of this long name, which may be left out, and takes no value
+abbrev pub flag : Text → Text → Rule
+flag id name = record (new_rule id) { long = Some name; action = Some SetTrue }
+
 -- an argument that must be given, and takes one word or more
 abbrev pub needed_list : Text → Rule
 needed_list id = record (needed id) {
@@ -51,23 +56,28 @@ of_texts name ids = fold (λ a id. with_rule a (needed id)) (new_app name) ids
 abbrev pub points : Rule
 points = number_option (codes "POINTS") (codes "points")
 
+-- the option `--symbolic`, which asks for the symbolic profile
+abbrev pub symbolic : Rule
+symbolic = flag (codes "SYMBOLIC") (codes "symbolic")
+
 -- a subcommand whose arguments are texts that must be given, and the option `--points`
 abbrev pub of_texts_and_points : Text → List Text → App
 of_texts_and_points name ids = with_rule (of_texts name ids) points
 
 -- the subcommand `bare`, which checks one glyph program
 abbrev pub bare : App
-bare = with_rule (with_rule (with_rule (with_rule (with_rule (new_app (codes "bare"))
+bare = with_rule (with_rule (with_rule (with_rule (with_rule (with_rule (new_app (codes "bare"))
     (needed (codes "MAXP"))) (needed_number (codes "CVT"))) (needed_number (codes "POINTS")))
-    (needed_number (codes "CONTOURS"))) (optional (codes "PROGRAM"))
+    (needed_number (codes "CONTOURS"))) (optional (codes "PROGRAM"))) symbolic
 
 -- the subcommand `verdict`, which checks all programs of a font file
 abbrev pub verdict : App
-verdict = of_texts_and_points (codes "verdict") (codes "FONT" ∷ [])
+verdict = with_rule (of_texts_and_points (codes "verdict") (codes "FONT" ∷ [])) symbolic
 
 -- the subcommand `scan`, which checks all programs of each of several font files
 abbrev pub scan : App
-scan = with_rule (with_rule (new_app (codes "scan")) (needed_list (codes "FONT"))) points
+scan = with_rule (with_rule (with_rule (new_app (codes "scan"))
+    (needed_list (codes "FONT"))) points) symbolic
 
 -- the subcommand `explain`, which tells how one program is checked
 abbrev pub explain : App

@@ -1,5 +1,6 @@
 -- What the words of a command line ask for, by what clap says that a simple command's words mean.
-use Rattle.std.specs.Prelude.{◌≡◌, ◌⊎◌, ℕ, Bool, true, codes, List, [], ◌∷◌, find as first_where, map, Option, Some, None, IsSomeAnd, is_some, unwrap_or, option_map, option_and_then, pos, string_bytes, Result, Ok, Err}
+use Rattle.std.specs.Prelude.{◌≡◌, ◌⊎◌, ℕ, Bool, true, false, if◌then◌else◌, codes, List, [], ◌∷◌, find as first_where, map, Option, Some, None, IfSome, IsSomeAnd, is_some, unwrap_or, option_map, option_and_then, pos, string_bytes, Result, Ok, Err}
+use Rattle.std.specs.Option.{option_map_or}
 use denote.Ref.{Bor}
 use Rattle.std.specs.Str.{bytes_eq}
 use Rattle.std.specs.Str.Parse.{digits_value, without_leading_plus}
@@ -7,6 +8,8 @@ use Rattle.clap.specs.Faults.{fault_of}
 use Rattle.clap.specs.Words.{IsAmong, IsSignedIn, IsUnsignedIn, Kinds, Row, Text, all_of, first_of, found_of, kind_of, one_of, rows_of, subcommand_of, takes, without_minus}
 use Rattle.clap.specs.declared.parser.matches.ArgMatches.{ArgMatches}
 use Rattle.hintcheck_words.specs.CommandLine.{hintcheck}
+use Rattle.hintcheck_words.specs.declared.words.Profile.{Profile}
+use Rattle.hintcheck_words.specs.declared.words.Profile.TheVariants as profile
 use Rattle.hintcheck_words.specs.declared.words.Task.{Task}
 use Rattle.hintcheck_words.specs.declared.words.Task.TheVariants as task
 use Rattle.hintcheck_words.specs.declared.words.TaskFault.{TaskFault}
@@ -22,9 +25,9 @@ rows_in values = rows_of (found_of values)
 
 -- a subcommand and its values
 pub data Request : Type 0 where
-  bare : Text → ℕ → ℕ → ℕ → Option Text → Request
-  verdict : Text → Option ℕ → Request
-  scan : List Text → Option ℕ → Request
+  bare : Text → ℕ → ℕ → ℕ → Option Text → Profile → Request
+  verdict : Text → Option ℕ → Profile → Request
+  scan : List Text → Option ℕ → Profile → Request
   explain : Text → Text → Option ℕ → Request
   find : Text → Text → Option ℕ → Request
   check : Text → Text → Option ℕ → Request
@@ -52,6 +55,10 @@ abbrev pub optional_number_in : List Row → Text → Option ℕ
 optional_number_in rows id =
     option_map (λ t. digits_value 10 (without_leading_plus t)) (one_of id rows)
 
+-- whether a flag is given, by the text `true` that it gets then
+abbrev pub flag_in : List Row → Text → Bool
+flag_in rows id = option_map_or (λ t. bytes_eq t (codes "true")) (one_of id rows) false
+
 -- an argument got the text of a number up to this one, without the minus that may be before a zero
 pub record HasNumber (most : ℕ) (rows : List Row) (id : Text) : Type 0 where
   pub text : Text
@@ -72,16 +79,24 @@ pub record HasLongNumber (rows : List Row) (id : Text) : Type 0 where
 abbrev pub HasLongNumberIfAny : List Row → Text → Type 0
 HasLongNumberIfAny rows id = (one_of id rows ≡ None) ⊎ HasLongNumber rows id
 
+-- a flag got no text, or one that says whether it is given
+abbrev pub HasFlag : List Row → Text → Type 0
+HasFlag rows id = IfSome (one_of id rows) (λ t. (t ≡ codes "true") ⊎ (t ≡ codes "false"))
+
 -- how many points may be made at most, if that is limited
 abbrev pub points_in : List Row → Option ℕ
 points_in rows = optional_number_in rows (codes "POINTS")
+
+-- the profile that is asked for
+abbrev pub profile_in : List Row → Profile
+profile_in rows = if flag_in rows (codes "SYMBOLIC") then profile.Symbolic else profile.Strict
 
 -- what `bare` asks for, by what its arguments got
 unfoldable pub bare_request : List Row → Request
 bare_request rows =
     bare (text_in rows (codes "MAXP")) (number_in rows (codes "CVT"))
     (number_in rows (codes "POINTS")) (number_in rows (codes "CONTOURS"))
-    (optional_in rows (codes "PROGRAM"))
+    (optional_in rows (codes "PROGRAM")) (profile_in rows)
 
 -- what `explain` asks for, by what its arguments got
 unfoldable pub explain_request : List Row → Request
@@ -90,11 +105,11 @@ explain_request rows = explain (text_in rows (codes "FONT")) (text_in rows (code
 
 -- what `verdict` asks for, by what its arguments got
 unfoldable pub verdict_request : List Row → Request
-verdict_request rows = verdict (text_in rows (codes "FONT")) (points_in rows)
+verdict_request rows = verdict (text_in rows (codes "FONT")) (points_in rows) (profile_in rows)
 
 -- what `scan` asks for, by what its arguments got
 unfoldable pub scan_request : List Row → Request
-scan_request rows = scan (texts_in rows (codes "FONT")) (points_in rows)
+scan_request rows = scan (texts_in rows (codes "FONT")) (points_in rows) (profile_in rows)
 
 -- what `find` asks for, by what its arguments got
 unfoldable pub find_request : List Row → Request
@@ -152,8 +167,13 @@ HasOffset rows = HasNumberIfAny 4294967295 rows (codes "OFFSET")
 abbrev pub HasPoints : List Row → Type 0
 HasPoints rows = HasLongNumberIfAny rows (codes "POINTS")
 
+-- the flag that tells the profile can be read
+abbrev pub HasProfile : List Row → Type 0
+HasProfile rows = HasFlag rows (codes "SYMBOLIC")
+
 -- a subcommand that asks for something, whose numbers are there if it is `bare`, whose offset is a
--- number if it is `explain`, and whose limit of the points is one if it has that option
+-- number if it is `explain`, whose limit of the points is one if it has that option, and whose
+-- profile can be read if it has one
 pub record IsReadable (found : Text × List Row) : Type 0 where
   pub known : is_some (request_of found) ≡ true
   pub numbers : found.0 ≡ codes "bare" → HasNumbers found.1
@@ -162,17 +182,21 @@ pub record IsReadable (found : Text × List Row) : Type 0 where
   pub of_scan : found.0 ≡ codes "scan" → HasPoints found.1
   pub of_find : found.0 ≡ codes "find" → HasPoints found.1
   pub of_check : found.0 ≡ codes "check" → HasPoints found.1
+  pub profile_of_bare : found.0 ≡ codes "bare" → HasProfile found.1
+  pub profile_of_verdict : found.0 ≡ codes "verdict" → HasProfile found.1
+  pub profile_of_scan : found.0 ≡ codes "scan" → HasProfile found.1
 
--- there is a subcommand, it asks for something, and its numbers can be read
+-- there is a subcommand, it asks for something, and its numbers and its profile can be read
 abbrev pub MeetsSubcommand : Option (Text × List Row) → Type 0
 MeetsSubcommand found = IsSomeAnd found IsReadable
 
 -- what a task asks for, wherever its texts lie in memory
 unfoldable pub asked : Task → Request
-asked (task.Bare maxp cvt points contours program) =
-    bare (string_bytes maxp) cvt points contours (option_map (λ s. string_bytes s) program)
-asked (task.Verdict font budget) = verdict (string_bytes font) budget
-asked (task.Scan fonts budget) = scan (map (λ s. string_bytes s) fonts.items) budget
+asked (task.Bare maxp cvt points contours program profile) =
+    bare (string_bytes maxp) cvt points contours (option_map (λ s. string_bytes s) program) profile
+asked (task.Verdict font budget profile) = verdict (string_bytes font) budget profile
+asked (task.Scan fonts budget profile) =
+    scan (map (λ s. string_bytes s) fonts.items) budget profile
 asked (task.Explain font program offset) =
     explain (string_bytes font) (string_bytes program) offset
 asked (task.Find font certificate budget) =

@@ -2,13 +2,22 @@
 
 ghost use Rattle.std.specs.Prelude.{◌≡◌, IfErr, IfOk, Some, codes, false, map, option_map, string_bytes};
 ghost use Rattle.clap.specs.Words.{app_of, new_app, rule_of, subcommand_rows_of};
-ghost use Rattle.hintcheck_words.specs.CommandLine.{bare, explain, hintcheck, needed as needed_rule, needed_number as number_rule, of_texts, of_texts_and_points, optional_number as optional_rule, points as points_rule, scan};
-ghost use Rattle.hintcheck_words.specs.Requests.{HasNumber, HasNumberIfAny, HasNumbers, HasOffset, HasPoints, IsReadable, IsMemoryIfTaken, MeetsSubcommand, TellsFault, asked, bare_request, check_request, explain_request, faults_in, find_request, meaning, met, number_in, optional_in, optional_number_in, points_in, request_of, rows_in, scan_request, text_in, texts_in, texts_of, verdict_request};
+ghost use Rattle.hintcheck_words.specs.CommandLine.{bare, explain, hintcheck, needed as needed_rule, needed_number as number_rule, of_texts, of_texts_and_points, optional_number as optional_rule, points as points_rule, scan, symbolic as symbolic_rule, verdict};
+ghost use Rattle.hintcheck_words.specs.Requests.{HasNumber, HasNumberIfAny, HasNumbers, HasOffset, HasPoints, HasProfile, IsReadable, IsMemoryIfTaken, MeetsSubcommand, TellsFault, asked, bare_request, check_request, explain_request, faults_in, find_request, meaning, met, number_in, optional_in, optional_number_in, points_in, profile_in, request_of, rows_in, scan_request, text_in, texts_in, texts_of, verdict_request};
 
 use clap::error::ErrorKind;
-use clap::{Arg, ArgMatches, Command, value_parser};
+use clap::{Arg, ArgAction, ArgMatches, Command, value_parser};
 use std::alloc::{AllocError, Global};
 use thiserror::Error;
+
+/// By which profile of the analysis programs are checked.
+#[derive(Clone, Copy, Debug, PartialEq, Eq)]
+pub enum Profile {
+    /// The profile without further premises, which gives up values that are computed.
+    Strict,
+    /// The profile that follows values that are computed, whose acceptances have further premises.
+    Symbolic,
+}
 
 /// What the words ask for.
 #[derive(Debug, Drop)]
@@ -25,6 +34,8 @@ pub enum Task {
         contours: u16,
         /// The word of the program; None where it is left out.
         program: Option<String>,
+        /// By which profile it is checked.
+        profile: Profile,
     },
     /// Checks all programs of a font file.
     Verdict {
@@ -32,6 +43,8 @@ pub enum Task {
         font: String,
         /// How many points may be made; None where that isn't limited.
         budget: Option<u64>,
+        /// By which profile they are checked.
+        profile: Profile,
     },
     /// Checks all programs of each of several font files.
     Scan {
@@ -39,6 +52,8 @@ pub enum Task {
         fonts: Vec<String>,
         /// How many points may be made per font; None where that isn't limited.
         budget: Option<u64>,
+        /// By which profile they are checked.
+        profile: Profile,
     },
     /// Tells how one program of a font file is checked.
     Explain {
@@ -214,6 +229,20 @@ fn plain_command<'a>(alloc: Global, command: Subcommand<'a>) -> Command<'a>
         .after_help(command.example)
 }
 
+/// Makes the option `--symbolic`.
+fn symbolic_option<'a>(alloc: Global) -> Arg<'a>
+    ensures rule { rule_of result ≡ symbolic_rule }
+    ensures local { result.global ≡ false }
+{
+    Arg::new(alloc, "SYMBOLIC")
+        .long("symbolic")
+        .action(ArgAction::SetTrue)
+        .help(
+            "Follows values that are computed; its acceptances have further premises (see the \
+            manual)",
+        )
+}
+
 /// Makes the subcommand `bare`.
 ///
 /// # Errors
@@ -226,7 +255,8 @@ fn bare_command<'a>(alloc: Global) -> Result<Command<'a>, AllocError>
         .arg(needed_number(alloc, "CVT", "How many control values there are"))?
         .arg(needed_number(alloc, "POINTS", "How many points the glyph has"))?
         .arg(needed_number(alloc, "CONTOURS", "How many contours the glyph has"))?
-        .arg(Arg::new(alloc, "PROGRAM").help("The program, in hexadecimal digits"))
+        .arg(Arg::new(alloc, "PROGRAM").help("The program, in hexadecimal digits"))?
+        .arg(symbolic_option(alloc))
 }
 
 /// Makes a subcommand whose arguments are texts that must be given.
@@ -277,6 +307,16 @@ fn limited_command<'a>(
     ))
 }
 
+/// Makes the subcommand `verdict`.
+///
+/// # Errors
+/// If memory runs out.
+fn verdict_command<'a>(alloc: Global) -> Result<Command<'a>, AllocError>
+    ensures { IfOk result (λ c. app_of c ≡ verdict) }
+{
+    limited_command(alloc, VERDICT, &[FONT])?.arg(symbolic_option(alloc))
+}
+
 /// Makes the subcommand `scan`.
 ///
 /// # Errors
@@ -289,7 +329,8 @@ fn scan_command<'a>(alloc: Global) -> Result<Command<'a>, AllocError>
         .arg(points_option(
             alloc,
             "How many points may be made per font; without it, as many as the font asks for",
-        ))
+        ))?
+        .arg(symbolic_option(alloc))
 }
 
 /// Makes the argument that is an offset, which may be left out.
@@ -330,7 +371,7 @@ fn command_line<'a>(alloc: Global) -> Result<Command<'a>, AllocError>
         .subcommand_required(true)
         .bin_name("hintcheck")?
         .subcommand(bare_command(alloc)?)?
-        .subcommand(limited_command(alloc, VERDICT, &[FONT])?)?
+        .subcommand(verdict_command(alloc)?)?
         .subcommand(scan_command(alloc)?)?
         .subcommand(explain_command(alloc)?)?
         .subcommand(limited_command(alloc, FIND, &[FONT, CERTIFICATE])?)?
@@ -406,12 +447,25 @@ fn points(values: &ArgMatches<'_>) -> Option<u64>
     values.get_one::<u64>("POINTS")
 }
 
+/// Returns the profile that the words ask for.
+fn asked_profile(values: &ArgMatches<'_>) -> Profile
+    requires { HasProfile (rows_in values.now) }
+    ensures { result ≡ profile_in (rows_in values.now) }
+{
+    if values.get_flag("SYMBOLIC") {
+        Profile::Symbolic
+    } else {
+        Profile::Strict
+    }
+}
+
 /// Returns the task of the subcommand `bare`.
 ///
 /// # Errors
 /// If memory runs out.
 fn bare_task(alloc: Global, values: &ArgMatches<'_>) -> Result<Task, AllocError>
-    requires { HasNumbers (rows_in values.now) }
+    requires numbers { HasNumbers (rows_in values.now) }
+    requires profile { HasProfile (rows_in values.now) }
     ensures { IfOk result (λ t. asked t ≡ bare_request (rows_in values.now)) }
 {
     Ok(Task::Bare {
@@ -420,6 +474,7 @@ fn bare_task(alloc: Global, values: &ArgMatches<'_>) -> Result<Task, AllocError>
         points: number(values, "POINTS"),
         contours: number(values, "CONTOURS"),
         program: optional_text(alloc, values, "PROGRAM")?,
+        profile: asked_profile(values),
     })
 }
 
@@ -443,12 +498,14 @@ fn explain_task(alloc: Global, values: &ArgMatches<'_>) -> Result<Task, AllocErr
 /// # Errors
 /// If memory runs out.
 fn verdict_task(alloc: Global, values: &ArgMatches<'_>) -> Result<Task, AllocError>
-    requires { HasPoints (rows_in values.now) }
+    requires points { HasPoints (rows_in values.now) }
+    requires profile { HasProfile (rows_in values.now) }
     ensures { IfOk result (λ t. asked t ≡ verdict_request (rows_in values.now)) }
 {
     Ok(Task::Verdict {
         font: text(alloc, values, "FONT")?,
         budget: points(values),
+        profile: asked_profile(values),
     })
 }
 
@@ -457,12 +514,14 @@ fn verdict_task(alloc: Global, values: &ArgMatches<'_>) -> Result<Task, AllocErr
 /// # Errors
 /// If memory runs out.
 fn scan_task(alloc: Global, values: &ArgMatches<'_>) -> Result<Task, AllocError>
-    requires { HasPoints (rows_in values.now) }
+    requires points { HasPoints (rows_in values.now) }
+    requires profile { HasProfile (rows_in values.now) }
     ensures { IfOk result (λ t. asked t ≡ scan_request (rows_in values.now)) }
 {
     Ok(Task::Scan {
         fonts: all_texts(alloc, values, "FONT")?,
         budget: points(values),
+        profile: asked_profile(values),
     })
 }
 

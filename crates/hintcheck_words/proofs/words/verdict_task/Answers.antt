@@ -4,4 +4,4 @@ use Rattle.hintcheck_words.proofs.words.verdict_task.Goals as goal
 
 pub returns : goal.returns
 unfolding asked verdict_request
-returns c = rw (c.in_ok-text.ensures, c.points.ensures) refl
+returns c = rw (c.in_ok-text.ensures, c.points.ensures, c.asked_profile.ensures) refl
