@@ -7,6 +7,9 @@
  * (crates/hintcheck_c/src/lib.rt, the clauses `accepted`), and so is the rest of the answer, except that `points` is how many were made
  * (the clauses `verdict` and `fault`).
  *
+ * hintcheck_verdict_symbolic follows values that are computed, and accepts far more fonts. What it says is as much a theorem, but of a machine
+ * that does more as interpreters do: it keeps control values, and computes exactly. docs/EMBEDDING.md says which premises that adds.
+ *
  * Units: lengths, offsets and places are in bytes. Ownership: everything that is handed in stays the caller's, is only read (except for
  * `refusals` and `answer`, which are written), and isn't kept: there is no state between calls. What is handed in is aligned as C asks,
  * and `refusals` and `answer` overlap neither each other nor the bytes of the font or of the certificate. Memory is taken with malloc
@@ -89,9 +92,11 @@ typedef char hintcheck_layout_is_right[
 /* The version of the library: a byte each for its three numbers, as HINTCHECK_VERSION. */
 uint32_t hintcheck_version(void);
 
-/* The library's own functions, which take no null pointer, also where a length is 0. Use the two below, which do. */
+/* The library's own functions, which take no null pointer, also where a length is 0. Use the three below, which do. */
 uint32_t hintcheck_verdict_of_bytes(const uint8_t *font, size_t font_length, uint64_t points, hintcheck_refusal *refusals, size_t room,
                                     hintcheck_answer *answer);
+uint32_t hintcheck_verdict_symbolic_of_bytes(const uint8_t *font, size_t font_length, hintcheck_refusal *refusals, size_t room,
+                                             hintcheck_answer *answer);
 uint32_t hintcheck_check_of_bytes(const uint8_t *font, size_t font_length, const uint8_t *certificate, size_t certificate_length,
                                   uint64_t points, hintcheck_refusal *refusals, size_t room, hintcheck_answer *answer);
 
@@ -123,6 +128,20 @@ static inline uint32_t hintcheck_verdict(const uint8_t *font, size_t font_length
         return hintcheck_usage(answer);
     }
     return hintcheck_verdict_of_bytes(font ? font : no_bytes, font_length, points, refusals ? refusals : &no_room, room, answer);
+}
+
+/* Checks the programs of the font in `font_length` bytes at `font` by the symbolic profile, and returns the status. Time and memory have bounds
+ * of their own, a number of steps a program: no points are counted, answer->points is 0, and the status is never HINTCHECK_BUDGET. A program
+ * is refused where this search found no way to accept it, which says no more. All else is as for hintcheck_verdict. */
+static inline uint32_t hintcheck_verdict_symbolic(const uint8_t *font, size_t font_length, hintcheck_refusal *refusals, size_t room,
+                                                  hintcheck_answer *answer)
+{
+    static const uint8_t no_bytes[1] = {0};
+    hintcheck_refusal no_room;
+    if (!answer || (!font && font_length) || (!refusals && room)) {
+        return hintcheck_usage(answer);
+    }
+    return hintcheck_verdict_symbolic_of_bytes(font ? font : no_bytes, font_length, refusals ? refusals : &no_room, room, answer);
 }
 
 /* Checks the programs of the font in `font_length` bytes at `font` by the certificate in `certificate_length` bytes at `certificate`,

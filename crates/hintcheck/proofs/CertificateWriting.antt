@@ -1,6 +1,6 @@
 -- The text of a font's certificate, as it is written section by section while a session finds the programs.
 use Rattle.std.proofs.Common.{◌≡◌, true, false, ℕ, ◌+◌, ◌^◌, ◌<◌, arith, List, [], ◌++◌, length, drop, Option, Some, None, refl, sym, ◌∙◌, ap, subst, append_assoc, append-nil}
-use Rattle.std.specs.Prelude.{◌==◌, Err}
+use Rattle.std.specs.Prelude.{◌==◌, Err, is_some, option_map}
 use Rattle.std.specs.Io.KnownBytes.{Appends}
 use Rattle.std.proofs.lemmas.List.{nil_from_length}
 use Rattle.std.proofs.lemmas.Option.{slice_get_within}
@@ -20,19 +20,23 @@ use Rattle.tt_font.specs.Reading.{FontData, GlyphData}
 use Rattle.tt_stream.specs.Streams.{AppendsBeginning}
 use Rattle.hintcheck.specs.CertificateFaults.{CountsFind, IsFindFaultOutsideFontAndBudget, fault_of_encoding}
 use Rattle.hintcheck.specs.CertificateTexts.{AreGlyphTexts, IsCertificate, IsEndedText, IsPassingCertificate, IsReadableListing, IsTextOf, WritesBeginning, WritesText, no_glyphs, one_more}
-use Rattle.hintcheck.specs.FindingSessions.{AreFirstSections, IsCertificateBegun, IsForFinding, IsFoundAnswer, IsFoundFor, IsFoundToEnd, IsOutcomeByFinding, cvt_found, cvt_refused, font_found, font_refused, glyph_found, glyph_refused, none_yet, one_program_more}
+use Rattle.hintcheck.specs.FindingSessions.{AreFirstSections, IsCertificateBegun, IsFoundFor, IsFoundToEnd, IsOutcomeByFinding, cvt_found, font_found, glyph_found, none_yet, one_program_more}
 use Rattle.hintcheck.specs.Representation.FontVerdicts.{AreAllRefused}
 use Rattle.hintcheck.specs.FontPrograms.{RefusesNone, cvt_subject, font_of, font_subject, glyph_subject, judgement_on}
+use Rattle.hintcheck.specs.ProgramVerdicts.{IsForCertificate}
 use Rattle.hintcheck.specs.Programs.{Subject}
-use Rattle.hintcheck.specs.Representation.SessionStages.{AreSectionsFrom, AreSomeSections, all_there, cvt_next, font_first, glyph_next}
-use Rattle.hintcheck.specs.Sessions.{IsLast, Stage, Standing, after_font, at_glyph, at_start, last_glyph, new_standing, none_is_left, over}
+use Rattle.hintcheck.specs.Representation.Judges.{AnswersFinding, IsOutcomeOf}
+use Rattle.hintcheck.specs.Representation.SessionStages.{AreSectionsFrom, AreSomeSections, KeepsKnown, all_there, cvt_next, font_first, glyph_next}
+use Rattle.hintcheck.specs.Sessions.{IsLast, Stage, after_font, at_glyph, at_start, last_glyph, none_is_left, over}
+use Rattle.hintcheck.specs.declared.finding.Finding.{Finding}
 use Rattle.hintcheck.specs.declared.report.Refused.{Refused}
 use Rattle.hintcheck.specs.declared.session.Outcome.{Outcome}
 use Rattle.hintcheck.proofs.CheckedSections.{all_dropped, dropped}
 use Rattle.hintcheck.proofs.CheckedTexts.{is_passing}
 use Rattle.hintcheck.proofs.ProgramVerdictLemmas.{calls_in_turn}
-use Rattle.hintcheck.proofs.SecondFindings.{AreLeastFrom, none_refused_at_start, none_refused_next}
-use Rattle.hintcheck.proofs.SessionRuns.{calls_left}
+use Rattle.hintcheck.proofs.FindingSteps.{found_outcome, good_of_known, stays_known, unfound_outcome}
+use Rattle.hintcheck.proofs.ProgramSteps.{is_last, mapped_from}
+use Rattle.hintcheck.proofs.SecondFindings.{AreLeastFrom, least_on, none_refused_at_start}
 use Rattle.hintcheck.proofs.TextBeginnings.{begins_on, begins_whole}
 
 -- an empty list is told to be empty
@@ -165,85 +169,77 @@ goes_on d s t o found (font_found f functions x ends) e = cc
 goes_on d s t o found (cvt_found f p functions known x ends) e = cc
 goes_on d s t o found (glyph_found f p known id g is x there is_found) e = cc
 
-fewer_left : (d : FontData) (s t : Stage) (o : Outcome) (found : Option Found) → IsOutcomeByFinding d s o found t → calls_left d t < calls_left d s
-unfolding calls_left
-fewer_left d s t o found (font_found f functions x ends) = omega arith
-fewer_left d s t o found (font_refused r is) = omega arith
-fewer_left d s t o found (cvt_found f p functions known x ends) = omega arith
-fewer_left d s t o found (cvt_refused f functions r is) = omega arith
-fewer_left d s t o found (glyph_found f p known id g is x there is_found) = let lt = slice_get_within d.glyphs id g there in omega arith
-fewer_left d s t o found (glyph_refused f p known id g r there is) = let lt = slice_get_within d.glyphs id g there in omega arith
+-- The programs before a stage are found, none of which is refused, and their sections are written.
+pub record IsWrittenSoFar (d : FontData) (first : Option (List ℕ)) (s : Stage) (now : Option (List ℕ)) : Type 0 where
+  pub known : KeepsKnown d s
+  pub going : s ≡ over → ⊥
+  pub written : WritesText first now (TextsBefore d s)
+  pub first_ones : WritesText first now (AreFirstSections d s)
+  pub least : AreLeastFrom d s
 
--- A session has found the programs before its stage, none of which is refused, and their sections are written.
-pub record IsWrittenSoFar (d : FontData) (first : Option (List ℕ)) (s : Standing) (now : Option (List ℕ)) : Type 0 where
-  pub font : s.font ≡ d
-  pub none : s.fault ≡ None
-  pub finding : IsForFinding s
-  pub going : s.stage ≡ over → ⊥
-  pub written : WritesText first now (TextsBefore s.font s.stage)
-  pub first_ones : WritesText first now (AreFirstSections s.font s.stage)
-  pub least : AreLeastFrom s.font s.stage
-
-pub nothing_found : (d : FontData) (w : Option (List ℕ)) (s : Standing) → AreAllRefused d [] → s ≡ new_standing d → IsWrittenSoFar d w s w
+pub nothing_found : (d : FontData) (w : Option (List ℕ)) (s : Stage) → AreAllRefused d [] → s ≡ at_start → IsWrittenSoFar d w s w
 nothing_found d w s all is =
-    let S : Standing → Type 0 = λ t. IsWrittenSoFar d w t w in
+    let S : Stage → Type 0 = λ t. IsWrittenSoFar d w t w in
     subst S (sym is) (record {
-      font = refl;
-      none = refl;
-      finding = record { unread = refl; run_out = tt };
+      known = tt;
       going = λ e. cc;
       written = ([], (λ rest more. more), appends_nothing w);
       first_ones = ([], none_yet, appends_nothing w);
       least = none_refused_at_start d all;
     })
 
-pub found_next : (d : FontData) (first old new : Option (List ℕ)) (s t : Standing) (answer : Option (Outcome × Option Found)) (o : Outcome) (found : Option Found) (x : Found)
-    → answer ≡ Some (o, found) → found ≡ Some x → IsWrittenSoFar d first s old → IsFoundAnswer s.font s.stage answer t.stage → t.font ≡ s.font → t.fault ≡ None → IsForFinding t
-    → IsFinished x.certificate → (AreCallsInTurn x.certificate.contexts → Fits Four (section_of o.program x.certificate))
-    → Appends old new (section_text Four (section_of o.program x.certificate)) → IsWrittenSoFar d first t new
-found_next d first old new s t answer o found x is is_found so_far answers font none finding finished fits appends =
-    let A : Option (Outcome × Option Found) → Type 0 = λ a. IsFoundAnswer s.font s.stage a t.stage in
-    let F : Option Found → Type 0 = λ y. IsOutcomeByFinding s.font s.stage o y t.stage in
-    let outcome : IsOutcomeByFinding s.font s.stage o (Some x) t.stage = subst F is_found (subst A is answers) in
-    let W : FontData → Type 0 = λ y. WritesText first new (TextsBefore y t.stage) in
-    let F1 : FontData → Type 0 = λ y. WritesText first new (AreFirstSections y t.stage) in
-    let L : FontData → Type 0 = λ y. AreLeastFrom y t.stage in
-    record {
-      font = font ∙ so_far.font;
-      none = none;
-      finding = finding;
-      going = goes_on s.font s.stage t.stage o x outcome;
-      written = subst W (sym font) (texts_next s.font s.stage t.stage o x first old new so_far.written outcome (record { finished = finished; fits = fits }) appends);
-      first_ones = subst F1 (sym font) (first_next s.font s.stage t.stage o x first old new so_far.first_ones outcome appends);
-      least = subst L (sym font) (none_refused_next s.font s.stage t.stage answer o found is answers so_far.least).1;
-    }
+-- no program is refused as it is found once more
+pub found_once_more : (d : FontData) (j : Finding) (s t : Stage) (answer : Option Outcome) (o : Outcome) → answer ≡ Some o → IsForCertificate j.search → AnswersFinding d j s answer t
+    → AreLeastFrom d s → IsOutcomeByFinding d s o j.found t × (is_some j.found ≡ true)
+found_once_more d j s t answer o is certificate answers least =
+    let A : Option Outcome → Type 0 = λ a. AnswersFinding d j s a t in
+    let outcome = subst A is answers in
+    go o.refused refl outcome
+  where
+    go : (r : Option Refused) → o.refused ≡ r → IsOutcomeOf d j s o t → IsOutcomeByFinding d s o j.found t × (is_some j.found ≡ true)
+    go None none outcome = let found = found_outcome d j s t o certificate outcome none in (found, (least_on d s t o j.found found least).0)
+    go (Some r) some outcome =
+        let lost = least_on d s t o None (unfound_outcome d j s t o outcome (λ none. let no : None ≡ Some r = sym none ∙ some in cc)) least in
+        absurd (let no : false ≡ true = lost.0 in cc)
 
-pub fewer_after : (s t : Standing) (answer : Option (Outcome × Option Found)) (o : Outcome) (found : Option Found) → answer ≡ Some (o, found) → t.font ≡ s.font
-    → IsFoundAnswer s.font s.stage answer t.stage → calls_left t.font t.stage < calls_left s.font s.stage
-fewer_after s t answer o found is font answers =
-    let A : Option (Outcome × Option Found) → Type 0 = λ a. IsFoundAnswer s.font s.stage a t.stage in
-    let L : FontData → Type 0 = λ d. calls_left d t.stage < calls_left s.font s.stage in
-    subst L (sym font) (fewer_left s.font s.stage t.stage o found (subst A is answers))
+pub found_next : (d : FontData) (first old new : Option (List ℕ)) (j : Finding) (s t : Stage) (answer : Option Outcome) (o : Outcome) (v : Contents)
+    → answer ≡ Some o → option_map (λ (y : Found). y.certificate) j.found ≡ Some v → IsForCertificate j.search → IsWrittenSoFar d first s old → AnswersFinding d j s answer t
+    → IsFinished v → (AreCallsInTurn v.contexts → Fits Four (section_of o.program v)) → Appends old new (section_text Four (section_of o.program v)) → IsWrittenSoFar d first t new
+found_next d first old new j s t answer o v is kept certificate so_far answers finished fits appends =
+    let (x, is_found, same) = mapped_from (λ (y : Found). y.certificate) j.found v kept in
+    let written : IsSectionWritten o.program x.certificate = subst (λ (w : Contents). IsSectionWritten o.program w) (sym same) (record { finished = finished; fits = fits }) in
+    let text : Appends old new (section_text Four (section_of o.program x.certificate)) =
+    subst (λ (w : Contents). Appends old new (section_text Four (section_of o.program w))) (sym same) appends in
+    let found = (found_once_more d j s t answer o is certificate answers so_far.least).0 in
+    let F : Option Found → Type 0 = λ y. IsOutcomeByFinding d s o y t in
+    let outcome : IsOutcomeByFinding d s o (Some x) t = subst F is_found found in
+    record {
+      known = stays_known d j s t answer answers so_far.known;
+      going = goes_on d s t o x outcome;
+      written = texts_next d s t o x first old new so_far.written outcome written text;
+      first_ones = first_next d s t o x first old new so_far.first_ones outcome text;
+      least = (least_on d s t o (Some x) outcome so_far.least).1;
+    }
 
 -- what is written where it goes no further: the sections so far, and perhaps a beginning of the next one
 
-pub stopped : (d : FontData) (first now : Option (List ℕ)) (s : Standing) → IsWrittenSoFar d first s now → WritesBeginning first now (AreSomeSections d)
+pub stopped : (d : FontData) (first now : Option (List ℕ)) (s : Stage) → IsWrittenSoFar d first s now → WritesBeginning first now (AreSomeSections d)
 stopped d first now s so_far =
     let (text, are, appended) = so_far.first_ones in
-    let S : FontData → Type 0 = λ y. AreSomeSections y text in
-    (text, subst S so_far.font (s.stage, are), begins_whole first now text appended)
+    (text, (s, are), begins_whole first now text appended)
 
-pub stopped_within : (d : FontData) (first old new : Option (List ℕ)) (s t : Standing) (answer : Option (Outcome × Option Found)) (o : Outcome) (found : Option Found) (x : Found)
-    → answer ≡ Some (o, found) → found ≡ Some x → IsWrittenSoFar d first s old → IsFoundAnswer s.font s.stage answer t.stage
-    → AppendsBeginning old new (section_text Four (section_of o.program x.certificate)) → WritesBeginning first new (AreSomeSections d)
-stopped_within d first old new s t answer o found x is is_found so_far answers part =
+pub stopped_within : (d : FontData) (first old new : Option (List ℕ)) (j : Finding) (s t : Stage) (answer : Option Outcome) (o : Outcome) (v : Contents)
+    → answer ≡ Some o → option_map (λ (y : Found). y.certificate) j.found ≡ Some v → IsForCertificate j.search → IsWrittenSoFar d first s old → AnswersFinding d j s answer t
+    → AppendsBeginning old new (section_text Four (section_of o.program v)) → WritesBeginning first new (AreSomeSections d)
+stopped_within d first old new j s t answer o v is kept certificate so_far answers begun =
+    let (x, is_found, same) = mapped_from (λ (y : Found). y.certificate) j.found v kept in
+    let part : AppendsBeginning old new (section_text Four (section_of o.program x.certificate)) =
+    subst (λ (w : Contents). AppendsBeginning old new (section_text Four (section_of o.program w))) (sym same) begun in
     let (text, are, appended) = so_far.first_ones in
-    let A : Option (Outcome × Option Found) → Type 0 = λ a. IsFoundAnswer s.font s.stage a t.stage in
-    let F : Option Found → Type 0 = λ y. IsOutcomeByFinding s.font s.stage o y t.stage in
-    let outcome : IsOutcomeByFinding s.font s.stage o (Some x) t.stage = subst F is_found (subst A is answers) in
+    let F : Option Found → Type 0 = λ y. IsOutcomeByFinding d s o y t in
+    let outcome : IsOutcomeByFinding d s o (Some x) t = subst F is_found (found_once_more d j s t answer o is certificate answers so_far.least).0 in
     let one : List ℕ = section_text Four (section_of o.program x.certificate) in
-    let S : FontData → Type 0 = λ y. AreSomeSections y (text ++ one) in
-    (text ++ one, subst S so_far.font (t.stage, one_program_more s.stage t.stage o x text are outcome), begins_on first old new text one appended part)
+    (text ++ one, (t, one_program_more s t o x text are outcome), begins_on first old new text one appended part)
 
 pub header_begun : (d : FontData) (n : ℕ) (old new : Option (List ℕ)) → n ≡ length d.glyphs + 2 → AppendsBeginning old new (header_text Four n) → WritesBeginning old new (IsCertificateBegun d)
 header_begun d n old new sections part =
@@ -264,15 +260,14 @@ last_section : (d : FontData) (s : Stage) → IsLast d s → (s ≡ over → ⊥
 last_section d s none_is_left going = absurd (going refl)
 last_section d s (last_glyph f p known id last) going = all_there f p known id last
 
-pub sections_written : (d : FontData) (first now : Option (List ℕ)) (s t : Standing) (answer : Option (Outcome × Option Found)) → answer ≡ None
-    → IsWrittenSoFar d first s now → IsFoundAnswer s.font s.stage answer t.stage → WritesText first now (AreSectionsFrom d at_start)
-sections_written d first now s t answer is so_far answers =
-    let A : Option (Outcome × Option Found) → Type 0 = λ a. IsFoundAnswer s.font s.stage a t.stage in
-    let last = (subst A is answers).0 in
+pub sections_written : (d : FontData) (first now : Option (List ℕ)) (j : Finding) (s t : Stage) (answer : Option Outcome) → answer ≡ None
+    → IsWrittenSoFar d first s now → AnswersFinding d j s answer t → WritesText first now (AreSectionsFrom d at_start)
+sections_written d first now j s t answer is so_far answers =
+    let A : Option Outcome → Type 0 = λ a. AnswersFinding d j s a t in
+    let last = is_last d s (subst A is answers).0 (good_of_known d s so_far.known) in
     let (text, below, appended) = so_far.written in
-    let B : List ℕ → Type 0 = λ x. AreSectionsFrom s.font at_start x in
-    let S : FontData → Type 0 = λ y. AreSectionsFrom y at_start text in
-    (text, subst S so_far.font (subst B (append-nil text) (below [] (last_section s.font s.stage last so_far.going))), appended)
+    let B : List ℕ → Type 0 = λ x. AreSectionsFrom d at_start x in
+    (text, subst B (append-nil text) (below [] (last_section d s last so_far.going)), appended)
 
 pub certificate_written : (d : FontData) (n : ℕ) (start first now : Option (List ℕ)) → Appends start first (header_text Four n) → n ≡ length d.glyphs + 2 → n < 2 ^ 32
     → WritesText first now (AreSectionsFrom d at_start) → WritesText start now (IsPassingCertificate d)

@@ -18,10 +18,13 @@ use Rattle.tt_abs.specs.declared.refusal.Refusal.TheVariants as fault
 use Rattle.tt_abs.specs.declared.spot.Spot.{Spot}
 use Rattle.tt_cert.specs.declared.form.Form.{Form}
 use Rattle.tt_cert.specs.declared.form.Form.TheVariants.{Two, Three, Four}
-use Rattle.hintcheck.specs.Certificates.{IsBreak, IsCheckRefusal, IsGoodListing, IsListingBrokenFirst, Passes, PassesToEnd, not_good}
+use Rattle.hintcheck.specs.Certificates.{IsBreak, IsCheckRefusal, IsGoodListing, IsListingBrokenFirst, Passes, not_good}
 use Rattle.hintcheck.specs.CheckedFonts.{IsRefusedBy}
 use Rattle.hintcheck.specs.ProgramVerdicts.{IsSubjectOf, reported_at}
 use Rattle.hintcheck.specs.Programs.{Subject, program_at}
+use Rattle.hintcheck.specs.Representation.Judges.{IsPassedBy, IsPassedToEnd}
+use Rattle.tt_abs.specs.Entries.{Ascends}
+use Rattle.hintcheck.proofs.FontEnds.{functions_rise}
 use Rattle.hintcheck.proofs.ProgramVerdictLemmas.{known_cut, of_subject}
 
 pub check_refusal : (form : Form) (x : Subject) (family : Contents) (at : Place) (spot : Spot) (offset : ℕ) (r : Reason) → spot ≡ spot_of at.0
@@ -67,25 +70,22 @@ pub broken_result : {T : Type 0} (form : Form) (x : Subject) (s : Setting) (fami
 broken_result form x s family (Ok y) subject names exact = tt
 broken_result form x s family (Err f) subject names exact = broken_listing form x s family f subject names exact
 
--- a program whose family is good passes
-pub passes : (form : Form) (x : Subject) (s : Setting) (family : Contents) → IsSubjectOf x s → IsGoodListing form (setting_of s) s.start.now family → Passes form x s.main.now family
-passes form x s family subject good =
-    let G : MachineSetting → List (ℕ × ℕ) → Type 0 = λ t fs. IsGoodListing form t fs family in
-    record { cut = subject.cut; good = of_subject G x s.main.now (setting_of s) s.start.now subject.setting subject.functions good }
-
--- and what is known where it ends
-pub passes_to_end : (form : Form) (x : Subject) (s : Setting) (family : Contents) (n : ℕ) (found : Option (Bor (List (ℕ × ℕ)))) (functions : Bor (List (ℕ × ℕ))) (copy : List (ℕ × ℕ))
-    → IsSubjectOf x s → IsGoodListing form (setting_of s) s.start.now family → n ≡ size s.main.now
-    → IfSome found (λ fs. (end : State) × (family_of family ([], n) ≡ Some end) × (fs.now ≡ end.functions)) → found ≡ Some functions → copy ≡ functions.now
-    → PassesToEnd form x s.main.now family copy
-passes_to_end form x s family n found functions copy subject good size_is some e copied =
+-- what is known at the end of a program that passes
+pub passed_to_end : (form : Form) (x : Subject) (is : List Instruction) (family : Contents) (n : ℕ) (found : Option (Bor (List (ℕ × ℕ)))) (functions : Bor (List (ℕ × ℕ))) (copy : List (ℕ × ℕ))
+    → IsPassedBy form x is family → n ≡ size is → IfSome found (λ fs. (end : State) × (family_of family ([], n) ≡ Some end) × (fs.now ≡ end.functions)) → found ≡ Some functions
+    → copy ≡ functions.now → IsPassedToEnd form x is family copy
+passed_to_end form x is family n found functions copy passed size_is some e copied =
     let S : Option (Bor (List (ℕ × ℕ))) → Type 0 = λ o. IfSome o (λ fs. (end : State) × (family_of family ([], n) ≡ Some end) × (fs.now ≡ end.functions)) in
     let (end, at, same) = subst S e some in
+    let there : family_of family ([], size is) ≡ Some end = ap (λ (k : ℕ). family_of family ([], k)) (sym size_is) ∙ at in
+    let (filling, fills, good) = passed.filled in
+    let kept : filling ([], size is) ≡ Some end = fills.keeps ([], size is) end there in
     record {
-      passes = passes form x s family subject good;
-      end = end;
-      at_end = ap (λ (k : ℕ). family_of family ([], k)) (sym size_is) ∙ at;
-      functions_are = sym (copied ∙ same);
+      passes = record { passes = passed.passes; end = end; at_end = there; functions_are = sym (copied ∙ same) };
+      known = record {
+        ends = record { cut = passed.passes.cut; family = filling; good = good; end = end; at_end = kept; functions_are = sym (copied ∙ same) };
+        ascends = subst (λ (fs : List (ℕ × ℕ)). Ascends fs) (sym (copied ∙ same)) (functions_rise (x.setting is) x.functions filling ([], size is) end good kept);
+      };
     }
 
 -- what holds of each form except the first holds of such a form

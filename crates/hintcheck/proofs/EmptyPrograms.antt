@@ -1,7 +1,13 @@
 -- The least family of a glyph program without instructions: only the start.
-use Rattle.std.proofs.Common.{◌≡◌, ℕ, zero, suc, List, [], ◌∷◌, Option, Some, None, true, false, refl, sym, subst, arith}
+use Rattle.std.proofs.Common.{◌≡◌, ℕ, zero, suc, List, [], ◌∷◌, Option, Some, None, true, false, length, refl, sym, ◌∙◌, ap, subst, arith}
 use Rattle.tt_code.specs.Fonts.{Font, glyph_setting}
-use Rattle.tt_code.specs.Grammar.{none}
+use Rattle.tt_code.specs.Cut.{size}
+use Rattle.tt_code.specs.Grammar.{none as empty}
+use Rattle.tt_code.specs.Settings.{CvtProgram, FontProgram, GlyphProgram, Kind, Setting as MachineSetting}
+use Rattle.tt_code.proofs.CutLemmas.{one_cut, size_is}
+use Rattle.tt_abs.specs.Settings.{programs_of, setting_of}
+use Rattle.tt_abs.specs.declared.setting.Setting.{Setting}
+use Rattle.std.proofs.lemmas.List.{nil_from_length}
 use Rattle.tt_abs.specs.declared.state.State.{State}
 use Rattle.tt_abs.specs.Entries.{Ascends}
 use Rattle.tt_abs.specs.Families.{CoversAt, started}
@@ -11,9 +17,8 @@ use Rattle.tt_abs.proofs.FlowOfStates.{start_range}
 use Rattle.tt_family.specs.Contents.{HasContext}
 use Rattle.tt_family.specs.GoodFamilies.{IsGoodFamily, IsStoredWithin}
 use Rattle.tt_find.specs.Found.{IsDerived, IsLeast}
-use Rattle.tt_font.specs.Reading.{GlyphData}
-use Rattle.hintcheck.specs.FontPrograms.{glyph_subject}
-use Rattle.hintcheck.specs.Programs.{HasLeastFamily}
+use Rattle.hintcheck.specs.Programs.{HasLeastFamily, IsCutInto, Subject}
+use Rattle.hintcheck.specs.Representation.FontVerdicts.{ComesToEnd}
 
 -- the start at its place, and nothing elsewhere
 abbrev start_alone : List (ℕ × ℕ) → Place → Option State
@@ -54,11 +59,26 @@ module _ (font : Font) (points contours : ℕ) (functions : List (ℕ × ℕ)) w
   }
 
 -- so a glyph program without instructions has its least family
-pub least_without_instructions : (font : Font) (functions : List (ℕ × ℕ)) (id : ℕ) (g : GlyphData) → Ascends functions → g.program ≡ [] → HasLeastFamily (glyph_subject font functions id g)
-least_without_instructions font functions id g ascends empty = record {
-  instructions = [];
-  cut = record { is_cut = record { joined = sym empty; each = tt }; structured = none };
-  family = start_alone functions;
-  good = start_is_good font g.points g.contours functions ascends;
-  least = start_is_least font g.points g.contours functions;
-}
+pub least_without_instructions : (x : Subject) (s : Setting) → IsCutInto x s.main.now → x.setting s.main.now ≡ setting_of s → Ascends x.functions → size s.main.now ≡ 0
+    → (ComesToEnd (setting_of s).kind → ⊥) → HasLeastFamily x
+least_without_instructions x s cut is ascends none glyph =
+    let bytes : x.bytes ≡ [] = nil_from_length x.bytes (ap length (sym cut.is_cut.joined) ∙ sym (size_is s.main.now) ∙ none) in
+    let here : IsCutInto x [] = record { is_cut = record { joined = sym bytes; each = tt }; structured = empty } in
+    let main : s.main.now ≡ [] = one_cut x.bytes s.main.now [] cut.is_cut here.is_cut in
+    let (points, contours, kind) = glyph_kind (setting_of s).kind glyph in
+    let same : x.setting [] ≡ glyph_setting (programs_of s) points contours [] =
+    sym (ap x.setting main) ∙ is ∙ (λ i. record { limits = s.limits; cvt = s.cvt; kind = kind i; main = main i; font = s.font.now; prep = s.prep.now }) in
+    let G : MachineSetting → Type 0 = λ t. IsGoodFamily t x.functions (start_alone x.functions) in
+    let L : MachineSetting → Type 0 = λ t. IsLeast t x.functions (start_alone x.functions) in
+    record {
+      instructions = [];
+      cut = here;
+      family = start_alone x.functions;
+      good = subst G (sym same) (start_is_good (programs_of s) points contours x.functions ascends);
+      least = subst L (sym same) (start_is_least (programs_of s) points contours x.functions);
+    }
+  where
+    glyph_kind : (k : Kind) → (ComesToEnd k → ⊥) → (points : ℕ) × (contours : ℕ) × (k ≡ GlyphProgram points contours)
+    glyph_kind FontProgram never = absurd (never tt)
+    glyph_kind CvtProgram never = absurd (never tt)
+    glyph_kind (GlyphProgram points contours) never = (points, contours, refl)

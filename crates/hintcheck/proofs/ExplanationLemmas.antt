@@ -1,24 +1,33 @@
 -- What is told of a program that is explained, and of the faults.
-use Rattle.std.proofs.Common.{◌≡◌, ◌≢◌, ℕ, Bool, true, false, IfErr, IfOk, IsErrAnd, List, OnOk, Some, Result, Ok, Err, refl}
+use Rattle.std.proofs.Common.{◌≡◌, ◌≢◌, ◌∙◌, ℕ, Bool, true, false, IfErr, IsErrAnd, List, [], Option, None, Some, Result, Ok, Err, refl, sym, ap, subst}
 use Rattle.std.specs.Prelude.{slice_get}
 use Rattle.tt_code.specs.Cut.{Instruction}
 use Rattle.tt_font.specs.Reading.{FontData, GlyphData}
 use Rattle.tt_cert.specs.declared.name.Name.{Name}
 use Rattle.tt_cert.specs.declared.name.Name.TheVariants as name
-use Rattle.tt_abs.specs.declared.refusal.Refusal.{Refusal}
-use Rattle.tt_abs.specs.declared.refusal.Refusal.TheVariants.{OutOfMemory as NoMemory, Refused as RefusedAt}
 use Rattle.hintcheck_explain.specs.Faults.{TellsFailure as TellsExplained}
 use Rattle.hintcheck_explain.specs.declared.asked.ExplainFault.{ExplainFault}
 use Rattle.hintcheck_explain.specs.declared.asked.ExplainFault.TheVariants as explaining
 use Rattle.tt_stream.specs.declared.text.PrintFailed.TheVariants as failed
 use Rattle.hintcheck.specs.Commands.{TellsFailure, fault_of_explain}
 use Rattle.hintcheck.specs.CommandFaults.{IsFaultOfLines}
-use Rattle.hintcheck.specs.Explanations.{IsAnswered, RefusesProgram, TellsProgram, cvt_accepted, cvt_refused, font_accepted, font_refused, glyph_accepted, glyph_refused}
+use Rattle.hintcheck.specs.Explanations.{IsAnswered, TellsProgram, cvt_accepted, cvt_refused, font_accepted, font_refused, glyph_accepted, glyph_refused}
 use Rattle.hintcheck.specs.FontPrograms.{cvt_subject, font_of, font_subject, glyph_subject}
-use Rattle.hintcheck.specs.ProgramVerdicts.{IsFaultOfProgram, reported_at}
+use Rattle.tt_abs.specs.declared.refusal.Refusal.{Refusal}
+use Rattle.tt_abs.specs.declared.refusal.Refusal.TheVariants.{Refused as RefusedAt}
+use Rattle.tt_abs.specs.declared.spot.Spot.{Spot}
+use Rattle.tt_code.specs.declared.reason.Reason.{Reason}
+use Rattle.hintcheck.specs.ProgramVerdicts.{IfRefused, reported_at}
 use Rattle.hintcheck.specs.Programs.{EndsWith, HasLeastFamily, IsRefusal, Subject}
-use Rattle.hintcheck.specs.declared.commands.faults.CommandFault.{CommandFault}
+use Rattle.hintcheck.specs.Representation.Judges.{IsFoundIn, IsFoundToEndIn, IsRefusedFor}
+use Rattle.hintcheck.specs.Representation.ProgramOrder.{IsAcceptedTo, next_program, start_at, with_start}
+use Rattle.hintcheck.specs.declared.finding.Finding.{Finding}
+use Rattle.hintcheck.specs.declared.programs.Ended.{Ended}
 use Rattle.hintcheck.specs.declared.report.Refused.{Refused}
+use Rattle.hintcheck.specs.Representation.SessionStages.{KeepsKnown}
+use Rattle.hintcheck.specs.Sessions.{Stage, after_font, at_glyph, at_start, over}
+use Rattle.hintcheck.proofs.ProgramSteps.{glyph_of}
+use Rattle.hintcheck.specs.declared.commands.faults.CommandFault.{CommandFault}
 
 -- a failed write of an explanation
 pub failed_text : (S : Type 0) {T : Type 0} (e : ExplainFault) (r : Result T CommandFault) (old new : ℕ) → TellsExplained {T = S} (Err e) old new → IsErrAnd r (λ told. told ≡ fault_of_explain e) → TellsFailure r old new
@@ -35,17 +44,28 @@ fault_of_text (explaining.Write failed.Format) (Err told) other is = rw is tt
 fault_of_text explaining.NoInstruction (Err told) other is = absurd (other refl)
 fault_of_text (explaining.OutOfMemory error) (Err told) other is = rw is tt
 
--- a program that a fault refuses
-pub refusal_of : (x : Subject) (fault : Refusal) → IsFaultOfProgram x fault → RefusesProgram fault → (r : Refused) × IsRefusal x r
-refusal_of x (RefusedAt spot offset reason) is refuses = (reported_at x.name spot offset reason, is)
-refusal_of x (NoMemory e) is refuses = absurd refuses
-
-pub judged_refused : (x : Subject) (fault : Refusal) (accepted : Bool) → IsFaultOfProgram x fault → (accepted ≡ false) × RefusesProgram fault → IsAnswered x accepted
-judged_refused x fault accepted is refuses = rw refuses.0 (refusal_of x fault is refuses.1)
-
 -- a program whose end is known has its least family
 pub least_at_end : (x : Subject) (instructions : List Instruction) (functions : List (ℕ × ℕ)) → EndsWith x instructions functions → HasLeastFamily x
 least_at_end x instructions functions ends = record { instructions = instructions; cut = ends.cut; family = ends.family; good = ends.good; least = ends.least }
+
+-- a program that is judged has its least family, or is refused
+
+pub least_of_judged : (j : Finding) (s : Stage) (x : Subject) (e : Option (Ended (ℕ × ℕ)))
+    → IsAcceptedTo (λ is. IsFoundIn j (with_start x (start_at s)) is) (λ is known. IsFoundToEndIn j (with_start x (start_at s)) is known) s e → HasLeastFamily (with_start x (start_at s))
+least_of_judged j at_start x (Some e) is = least_at_end (with_start x []) e.program e.known.items is.known.ends
+least_of_judged j at_start x None is = absurd is
+least_of_judged j (after_font f known) x (Some e) is = least_at_end (with_start x known) e.program e.known.items is.known.ends
+least_of_judged j (after_font f known) x None is = absurd is
+least_of_judged j (at_glyph f p known id) x None is = is.1.least
+least_of_judged j (at_glyph f p known id) x (Some e) is = absurd is
+least_of_judged j over x (Some e) is = absurd is
+least_of_judged j over x None is = absurd is
+
+pub refusal_of : (x : Subject) (f : Refusal) (spot : Spot) (offset : ℕ) (r : Reason) → f ≡ RefusedAt spot offset r → IfRefused x.name f (IsRefusedFor x) → (q : Refused) × IsRefusal x q
+refusal_of x f spot offset r is refused =
+    let R : Refusal → Type 0 = λ g. IfRefused x.name g (IsRefusedFor x) in
+    let there = subst R is refused in
+    (reported_at x.name spot offset r, there.refusal)
 
 -- what the exit status of a program tells that was judged
 pub font_told : (d : FontData) (accepted : Bool) (status : ℕ) → IsAnswered (font_subject d) accepted → (accepted ≡ true → status ≡ 0) → (accepted ≡ false → status ≡ 1) → TellsProgram d name.Font status
@@ -72,19 +92,22 @@ glyph_told d f p functions known id g false status ends cvt_ends there judged ze
   refused = λ is. glyph_refused f p functions known id g judged.0 ends cvt_ends there judged.1;
 }
 
--- what the exit status of a program tells before which one is refused
-pub font_before : (d : FontData) (called : Name) (fault : Refusal) (status : ℕ) → IsFaultOfProgram (font_subject d) fault → RefusesProgram fault → status ≡ 1 → TellsProgram d called status
-font_before d called fault status is refuses one =
-    let r = refusal_of (font_subject d) fault is refuses in
-    record { accepted = λ zero. absurd (let bad = one in cc); refused = λ same. font_refused called r.0 r.1 }
-
-pub cvt_before : (d : FontData) (f : List Instruction) (functions : List (ℕ × ℕ)) (id : ℕ) (fault : Refusal) (status : ℕ) → EndsWith (font_subject d) f functions
-    → IsFaultOfProgram (cvt_subject d f functions) fault → RefusesProgram fault → status ≡ 1 → TellsProgram d (name.Glyph id) status
-cvt_before d f functions id fault status ends is refuses one =
-    let r = refusal_of (cvt_subject d f functions) fault is refuses in
-    record { accepted = λ zero. absurd (let bad = one in cc); refused = λ same. cvt_refused (name.Glyph id) f functions r.0 (λ bad. cc) ends r.1 }
-
--- a status that was told of
-pub told_of : {S : Type 0} (r : Result ℕ S) (P Q : ℕ → Type 0) (X : Type 0) → OnOk r X → IfOk r P → (X → (s : ℕ) → P s → Q s) → IfOk r Q
-told_of (Ok s) P Q X x p both = both x s p
-told_of (Err e) P Q X x p both = tt
+-- the same of the program that is next
+pub next_told : (d : FontData) (called : Name) (s : Stage) (x : Subject) (accepted : Bool) (status : ℕ) → next_program d s ≡ Some x → x.name ≡ called → KeepsKnown d s
+    → IsAnswered (with_start x (start_at s)) accepted → (accepted ≡ true → status ≡ 0) → (accepted ≡ false → status ≡ 1) → TellsProgram d called status
+next_told d called at_start x accepted status next name kept judged zero one =
+    let same : x ≡ font_subject d = cc in
+    let J : Subject → Type 0 = λ y. IsAnswered (with_start y []) accepted in
+    let T : Name → Type 0 = λ n. TellsProgram d n status in
+    subst T (sym (ap (λ (y : Subject). y.name) same) ∙ name) (font_told d accepted status (subst J same judged) zero one)
+next_told d called (after_font f functions) x accepted status next name kept judged zero one =
+    let same : x ≡ cvt_subject d f [] = cc in
+    let J : Subject → Type 0 = λ y. IsAnswered (with_start y functions) accepted in
+    let T : Name → Type 0 = λ n. TellsProgram d n status in
+    subst T (sym (ap (λ (y : Subject). y.name) same) ∙ name) (cvt_told d f functions accepted status kept.ends (subst J same judged) zero one)
+next_told d called (at_glyph f p known id) x accepted status next name ((functions, font, cvt), le) judged zero one =
+    let (g, there, same) = glyph_of (λ g. glyph_subject (font_of d f p) [] id g) (slice_get d.glyphs id) x next in
+    let J : Subject → Type 0 = λ y. IsAnswered (with_start y known) accepted in
+    let T : Name → Type 0 = λ n. TellsProgram d n status in
+    subst T (ap (λ (y : Subject). y.name) same ∙ name) (glyph_told d f p functions known id g accepted status font.ends cvt.ends there (subst J (sym same) judged) zero one)
+next_told d called over x accepted status next name kept judged zero one = absurd cc

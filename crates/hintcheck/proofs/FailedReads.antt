@@ -25,7 +25,7 @@ use Rattle.hintcheck.specs.CertificateFaults.{fault_of_decoding}
 use Rattle.hintcheck.specs.Certificates.{HasNoSection, IsSectionOf, not_read}
 use Rattle.hintcheck.specs.CheckedFonts.{IsTold}
 use Rattle.hintcheck.specs.FailedReads.{EndsInCall, EndsInSection, HasRead, IsCutHeader, after_all, in_header, in_section, in_sections}
-use Rattle.hintcheck.specs.Representation.SessionStages.{TellsRefusal, read_of}
+use Rattle.hintcheck.specs.Representation.SessionStages.{read_of}
 use Rattle.hintcheck.specs.Sessions.{AnswersNext, IsFaultAt, IsLast, IsOutcomeBySection, ReadsOn, Stage, Standing, at_header, cvt_fails, cvt_passes, font_fails, font_passes, glyph_fails, glyph_passes, standing_at, where_it_was}
 use Rattle.hintcheck.specs.declared.font_check.CheckFontFault.{CheckFontFault}
 use Rattle.hintcheck.specs.declared.font_check.CheckFontFault.TheVariants as check
@@ -292,12 +292,6 @@ cut_short_after s form place old mid new check.Read reads has = λ told.
       Consumes-trans old mid new r.front front (known_front old mid r.front 0 place told told' r.parts) consumed,
       in_sections form (input_at place (Some front)) (r.again front) ends,
     )
-
--- what is reported of a refused program is no failed read
-pub tells_no_read : (called : Name) (fault : Refusal) (r : Result Outcome CheckFontFault) (old new : Option (List ℕ)) (Is : List ℕ → Type 0) → TellsRefusal called fault r
-    → IfErr r (HasRead old new Is)
-tells_no_read called (program.Refused spot offset reason) r old new Is told = rw told tt
-tells_no_read called (program.OutOfMemory e) r old new Is told = rw told tt
 
 -- a header that isn't read is what is next
 pub header_cut_short_in : {T : Type 0} (d : FontData) (stage : Stage) (known : Option Progress) → known ≡ None → (r : Result T CheckFontFault) (old new : Option (List ℕ))

@@ -3,7 +3,7 @@ pub mod BareProgramLemmas
 pub mod FontEnds
 pub mod FontRuns
 pub mod FontSafety
-pub mod FontLists
+pub mod VerdictSteps
 pub mod EmptyPrograms
 pub mod NameLemmas
 pub mod ListingLemmas
@@ -19,6 +19,8 @@ pub mod UnreadBytes
 pub mod UpgradeChecks
 pub mod TextBeginnings
 pub mod UpgradeSteps
+pub mod JudgeLaws
+pub mod ProgramSteps
 pub mod SessionSteps
 pub mod SessionRuns
 pub mod FindingSteps
@@ -30,3 +32,5 @@ pub mod ScannedLines
 pub mod ScanFaults
 pub mod PlaceLemmas
 pub mod ExplanationLemmas
+pub mod SymbolicStarts
+pub mod SymbolicSteps

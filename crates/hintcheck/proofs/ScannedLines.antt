@@ -9,9 +9,11 @@ use Rattle.std.specs.Prelude.{codes, slice_get}
 use Rattle.tt_code.specs.declared.reason.ReasonClass.TheVariants.{LeftOut, PossibleFault, Undecided}
 use Rattle.tt_stream.specs.Streams.{AppendsText}
 use Rattle.tt_cert.specs.declared.name.Name.TheVariants.{Glyph}
+use Rattle.hintcheck_words.specs.declared.words.Profile.{Profile}
 use Rattle.hintcheck.specs.CommandFaults.{IsFaultOfFontFile}
 use Rattle.hintcheck.specs.FaultTexts.{command_fault_text}
 use Rattle.hintcheck.specs.Scans.{Answer, IsAnswer, PrintsScan, Scanned, counts_text, greatest_status, judged, left_out_text, line_of, number_of_class, status_of_answer, status_of_refused, summary, unread}
+use Rattle.hintcheck.specs.Texts.{profile_text}
 use Rattle.hintcheck.specs.Verdicts.{Judgement}
 use Rattle.hintcheck.specs.declared.commands.faults.CommandFault.{CommandFault}
 use Rattle.hintcheck.specs.declared.commands.faults.CommandFault.TheVariants as fault
@@ -43,60 +45,60 @@ greatest-append : (xs ys : List Scanned) → greatest_status (xs ++ ys) ≡ max 
 greatest-append [] ys = omega arith
 greatest-append (x ∷ xs) ys = omega (arith, greatest-append xs ys)
 
-abbrev Answered : Option ℕ → Scanned → Type 0
-Answered budget s = IsAnswer budget s.answer
+abbrev Answered : Profile → Option ℕ → Scanned → Type 0
+Answered profile budget s = IsAnswer profile budget s.answer
 
 -- no font file
-pub scans_none : (budget : Option ℕ) (old : Option (List ℕ)) → PrintsScan budget [] 0 old old
-scans_none budget old = record { scanned = []; names_are = refl; answers = All-nil (Answered budget); greatest = refl; written = appends_nothing old }
+pub scans_none : (profile : Profile) (budget : Option ℕ) (old : Option (List ℕ)) → PrintsScan profile budget [] 0 old old
+scans_none profile budget old = record { scanned = []; names_are = refl; answers = All-nil (Answered profile budget); greatest = refl; written = appends_nothing old }
 
 -- one font file
-pub scans_one : (budget : Option ℕ) (name : List ℕ) (answer : Answer) (status : ℕ) (old new : Option (List ℕ)) → IsAnswer budget answer → status ≡ status_of_answer answer
-    → Appends old new (line_of (record { name = name; answer = answer })) → PrintsScan budget (name ∷ []) status old new
-scans_one budget name answer status old new is same written =
+pub scans_one : (profile : Profile) (budget : Option ℕ) (name : List ℕ) (answer : Answer) (status : ℕ) (old new : Option (List ℕ)) → IsAnswer profile budget answer → status ≡ status_of_answer answer
+    → Appends old new (line_of profile (record { name = name; answer = answer })) → PrintsScan profile budget (name ∷ []) status old new
+scans_one profile budget name answer status old new is same written =
     let s : Scanned = record { name = name; answer = answer } in
     record {
       scanned = s ∷ [];
       names_are = refl;
-      answers = All-cons (Answered budget) s [] is (All-nil (Answered budget));
+      answers = All-cons (Answered profile budget) s [] is (All-nil (Answered profile budget));
       greatest = omega arith;
-      written = subst (Appends old new) (sym (append-nil (line_of s))) written;
+      written = subst (Appends old new) (sym (append-nil (line_of profile s))) written;
     }
 
 -- font files, and then others
-pub scans_both : (budget : Option ℕ) (a b : List (List ℕ)) (s t : ℕ) (old mid new : Option (List ℕ)) → PrintsScan budget a s old mid → PrintsScan budget b t mid new → PrintsScan budget (a ++ b) (max s t) old new
-scans_both budget a b s t old mid new first second =
+pub scans_both : (profile : Profile) (budget : Option ℕ) (a b : List (List ℕ)) (s t : ℕ) (old mid new : Option (List ℕ)) → PrintsScan profile budget a s old mid → PrintsScan profile budget b t mid new → PrintsScan profile budget (a ++ b) (max s t) old new
+scans_both profile budget a b s t old mid new first second =
     record {
       scanned = first.scanned ++ second.scanned;
       names_are = map-append (λ s. s.name) first.scanned second.scanned ∙ ap (λ x. x ++ map (λ s. s.name) second.scanned) first.names_are ∙ ap (λ y. a ++ y) second.names_are;
-      answers = All-append (Answered budget) first.scanned second.scanned first.answers second.answers;
+      answers = All-append (Answered profile budget) first.scanned second.scanned first.answers second.answers;
       greatest = omega (arith, greatest-append first.scanned second.scanned, first.greatest, second.greatest);
-      written = subst (Appends old new) (sym (flat_map-append line_of first.scanned second.scanned)) (appends_both old mid new _ _ first.written second.written);
+      written = subst (Appends old new) (sym (flat_map-append (line_of profile) first.scanned second.scanned)) (appends_both old mid new _ _ first.written second.written);
     }
 
 -- the font files so far, and the next one
-pub scans_more : {X : Type 0} (budget : Option ℕ) (text : X → List ℕ) (xs : List X) (i : ℕ) (x : X) (name : List ℕ) (s t m : ℕ) (old mid new : Option (List ℕ)) → i < length xs → x ≡ get_or xs i x → name ≡ text x
-    → PrintsScan budget (map text (take i xs)) s old mid → PrintsScan budget (name ∷ []) t mid new → m ≡ max s t → PrintsScan budget (map text (take (i + 1) xs)) m old new
-scans_more budget text xs i x name s t m old mid new within is called so_far one greatest =
+pub scans_more : {X : Type 0} (profile : Profile) (budget : Option ℕ) (text : X → List ℕ) (xs : List X) (i : ℕ) (x : X) (name : List ℕ) (s t m : ℕ) (old mid new : Option (List ℕ)) → i < length xs → x ≡ get_or xs i x → name ≡ text x
+    → PrintsScan profile budget (map text (take i xs)) s old mid → PrintsScan profile budget (name ∷ []) t mid new → m ≡ max s t → PrintsScan profile budget (map text (take (i + 1) xs)) m old new
+scans_more profile budget text xs i x name s t m old mid new within is called so_far one greatest =
     let more : map text (take (i + 1) xs) ≡ map text (take i xs) ++ text x ∷ [] =
     ap (map text) (take_more xs i x within) ∙ map-append text (take i xs) (get_or xs i x ∷ []) ∙ ap (λ y. map text (take i xs) ++ text y ∷ []) (sym is) in
-    rw (more, greatest, ← called) (scans_both budget (map text (take i xs)) (name ∷ []) s t old mid new so_far one)
+    rw (more, greatest, ← called) (scans_both profile budget (map text (take i xs)) (name ∷ []) s t old mid new so_far one)
 
 -- all font files
-pub scans_all : {X : Type 0} (budget : Option ℕ) (text : X → List ℕ) (xs : List X) (i s t : ℕ) (old new : Option (List ℕ)) → length xs ≤ i → s ≡ t → PrintsScan budget (map text (take i xs)) s old new
-    → PrintsScan budget (map text xs) t old new
-scans_all budget text xs i s t old new within same printed = subst (λ ys. PrintsScan budget (map text ys) t old new) (take_all i xs within) (subst (λ n. PrintsScan budget (map text (take i xs)) n old new) same printed)
+pub scans_all : {X : Type 0} (profile : Profile) (budget : Option ℕ) (text : X → List ℕ) (xs : List X) (i s t : ℕ) (old new : Option (List ℕ)) → length xs ≤ i → s ≡ t → PrintsScan profile budget (map text (take i xs)) s old new
+    → PrintsScan profile budget (map text xs) t old new
+scans_all profile budget text xs i s t old new within same printed = subst (λ ys. PrintsScan profile budget (map text ys) t old new) (take_all i xs within) (subst (λ n. PrintsScan profile budget (map text (take i xs)) n old new) same printed)
 
 -- the line of a font of which glyph programs are refused, by its parts
-pub counts_written : (name : List ℕ) (programs possible undecided left : ℕ) (rs : List Refused) (o p q r s : Option (List ℕ)) → possible ≡ number_of_class PossibleFault rs
+pub counts_written : (profile : Profile) (name : List ℕ) (programs possible undecided left : ℕ) (rs : List Refused) (o p q r s : Option (List ℕ)) → possible ≡ number_of_class PossibleFault rs
     → undecided ≡ number_of_class Undecided rs → left ≡ number_of_class LeftOut rs
     → Appends o p (name ++ (codes ": refused: " ++ (decimal (length rs) ++ (codes " of " ++ (decimal programs ++ codes " programs ")))))
-    → Appends p q (codes "(" ++ (decimal possible ++ (codes " possible faults, " ++ (decimal undecided ++ codes " undecided")))) → Appends q r (left_out_text left) → Appends r s (codes ")\n")
-    → Appends o s (name ++ (codes ": refused: " ++ (counts_text programs rs ++ codes "\n")))
-counts_written name programs possible undecided left rs o p q r s some_possible some_undecided some_left first second third fourth =
+    → Appends p q (codes "(" ++ (decimal possible ++ (codes " possible faults, " ++ (decimal undecided ++ codes " undecided")))) → Appends q r (left_out_text left) → Appends r s (codes ")" ++ (profile_text profile ++ codes "\n"))
+    → Appends o s (name ++ (codes ": refused: " ++ ((counts_text programs rs ++ profile_text profile) ++ codes "\n")))
+counts_written profile name programs possible undecided left rs o p q r s some_possible some_undecided some_left first second third fourth =
     let a : List ℕ = name ++ (codes ": refused: " ++ (decimal (length rs) ++ (codes " of " ++ (decimal programs ++ codes " programs ")))) in
     let b : List ℕ = codes "(" ++ (decimal possible ++ (codes " possible faults, " ++ (decimal undecided ++ codes " undecided"))) in
-    let text : ((a ++ b) ++ left_out_text left) ++ codes ")\n" ≡ name ++ (codes ": refused: " ++ (counts_text programs rs ++ codes "\n")) = rw (some_possible, some_undecided, some_left) (simp append_assoc) in
+    let text : ((a ++ b) ++ left_out_text left) ++ (codes ")" ++ (profile_text profile ++ codes "\n")) ≡ name ++ (codes ": refused: " ++ ((counts_text programs rs ++ profile_text profile) ++ codes "\n")) = rw (some_possible, some_undecided, some_left) (simp append_assoc) in
     subst (Appends o s) text (appends_both o r s _ _ (appends_both o q r _ _ (appends_both o p q a b first second) third) fourth)
 
 glyph_summary : (programs : ℕ) (rs : List Refused) (r : Refused) (id : ℕ) → Some r ≡ slice_get rs 0 → r.program ≡ Glyph id → summary programs rs ≡ codes "refused: " ++ counts_text programs rs
@@ -107,34 +109,34 @@ glyph_summary programs (x ∷ xs) r id first is =
     rw e refl
 
 -- the line of a font of which glyph programs are refused, by the first of them
-pub glyph_line : (name : List ℕ) (programs : ℕ) (v : Judgement) (rs shown : List Refused) (r : Refused) (id : ℕ) (old new : Option (List ℕ)) → Some r ≡ slice_get rs 0 → rs ≡ v.refused
-    → shown ≡ v.refused → programs ≡ v.programs → r.program ≡ Glyph id → Appends old new (name ++ (codes ": refused: " ++ (counts_text programs shown ++ codes "\n")))
-    → Appends old new (line_of (record { name = name; answer = judged v }))
-glyph_line name programs v rs shown r id old new first rs_are shown_are programs_are is written =
+pub glyph_line : (profile : Profile) (name : List ℕ) (programs : ℕ) (v : Judgement) (rs shown : List Refused) (r : Refused) (id : ℕ) (old new : Option (List ℕ)) → Some r ≡ slice_get rs 0 → rs ≡ v.refused
+    → shown ≡ v.refused → programs ≡ v.programs → r.program ≡ Glyph id → Appends old new (name ++ (codes ": refused: " ++ ((counts_text programs shown ++ profile_text profile) ++ codes "\n")))
+    → Appends old new (line_of profile (record { name = name; answer = judged v }))
+glyph_line profile name programs v rs shown r id old new first rs_are shown_are programs_are is written =
     let e : summary v.programs v.refused ≡ codes "refused: " ++ counts_text v.programs v.refused =
     glyph_summary v.programs v.refused r id (subst (λ xs. Some r ≡ slice_get xs 0) rs_are first) is in
-    let all : Appends old new (name ++ (codes ": refused: " ++ (counts_text programs v.refused ++ codes "\n"))) =
-    subst (λ xs. Appends old new (name ++ (codes ": refused: " ++ (counts_text programs xs ++ codes "\n")))) shown_are written in
-    let w : Appends old new (name ++ (codes ": refused: " ++ (counts_text v.programs v.refused ++ codes "\n"))) =
-    subst (λ n. Appends old new (name ++ (codes ": refused: " ++ (counts_text n v.refused ++ codes "\n")))) programs_are all in
-    subst (λ text. Appends old new (name ++ (codes ": " ++ (text ++ codes "\n")))) (sym e) w
+    let all : Appends old new (name ++ (codes ": refused: " ++ ((counts_text programs v.refused ++ profile_text profile) ++ codes "\n"))) =
+    subst (λ xs. Appends old new (name ++ (codes ": refused: " ++ ((counts_text programs xs ++ profile_text profile) ++ codes "\n")))) shown_are written in
+    let w : Appends old new (name ++ (codes ": refused: " ++ ((counts_text v.programs v.refused ++ profile_text profile) ++ codes "\n"))) =
+    subst (λ n. Appends old new (name ++ (codes ": refused: " ++ ((counts_text n v.refused ++ profile_text profile) ++ codes "\n")))) programs_are all in
+    subst (λ text. Appends old new (name ++ (codes ": " ++ ((text ++ profile_text profile) ++ codes "\n")))) (sym e) w
 
 -- the line of a font file with a fault
-pub fault_line : (name : List ℕ) (f : CommandFault) (old new : Option (List ℕ)) → IsFaultOfFontFile f
-    → AppendsText (Some name ++? (Some (codes ": fault: ") ++? (command_fault_text f ++? Some (codes "\n")))) old new → Appends old new (line_of (record { name = name; answer = unread f }))
-fault_line name (fault.Font numbered) old new is written = written
-fault_line name fault.Read old new is written = written
-fault_line name fault.OutOfMemory old new is written = written
-fault_line name fault.Budget old new is written = written
-fault_line name (fault.Usage text) old new is written = absurd is
-fault_line name fault.MaxpWord old new is written = absurd is
-fault_line name fault.ProgramWord old new is written = absurd is
-fault_line name fault.OffsetWord old new is written = absurd is
-fault_line name fault.CertificateWord old new is written = absurd is
-fault_line name fault.NewWord old new is written = absurd is
-fault_line name (fault.Form place) old new is written = absurd is
-fault_line name fault.ScanFault old new is written = absurd is
-fault_line name fault.ScanUnfinished old new is written = absurd is
-fault_line name fault.Write old new is written = absurd is
-fault_line name fault.File old new is written = absurd is
-fault_line name fault.Text old new is written = absurd is
+pub fault_line : (profile : Profile) (name : List ℕ) (f : CommandFault) (old new : Option (List ℕ)) → IsFaultOfFontFile f
+    → AppendsText (Some name ++? (Some (codes ": fault: ") ++? (command_fault_text f ++? Some (codes "\n")))) old new → Appends old new (line_of profile (record { name = name; answer = unread f }))
+fault_line profile name (fault.Font numbered) old new is written = written
+fault_line profile name fault.Read old new is written = written
+fault_line profile name fault.OutOfMemory old new is written = written
+fault_line profile name fault.Budget old new is written = written
+fault_line profile name (fault.Usage text) old new is written = absurd is
+fault_line profile name fault.MaxpWord old new is written = absurd is
+fault_line profile name fault.ProgramWord old new is written = absurd is
+fault_line profile name fault.OffsetWord old new is written = absurd is
+fault_line profile name fault.CertificateWord old new is written = absurd is
+fault_line profile name fault.NewWord old new is written = absurd is
+fault_line profile name (fault.Form place) old new is written = absurd is
+fault_line profile name fault.ScanFault old new is written = absurd is
+fault_line profile name fault.ScanUnfinished old new is written = absurd is
+fault_line profile name fault.Write old new is written = absurd is
+fault_line profile name fault.File old new is written = absurd is
+fault_line profile name fault.Text old new is written = absurd is

@@ -8,7 +8,7 @@ use Rattle.tt_abs.specs.States.{state_laws, state_order}
 use Rattle.tt_abs.specs.StateFlow.{Place}
 use Rattle.tt_find.specs.declared.finder.Found.{Found}
 use Rattle.tt_font.specs.Reading.{FontData, GlyphData}
-use Rattle.hintcheck.specs.FindingSessions.{IsFoundAnswer, IsOutcomeByFinding, cvt_found, cvt_refused, font_found, font_refused, glyph_found, glyph_refused}
+use Rattle.hintcheck.specs.FindingSessions.{IsOutcomeByFinding, cvt_found, cvt_refused, font_found, font_refused, glyph_found, glyph_refused}
 use Rattle.hintcheck.specs.Representation.FontVerdicts.{AreAllRefused}
 use Rattle.hintcheck.specs.FontPrograms.{AreRefused, IsVerdict, accepted, no_glyph_left, cvt_subject, font_of, font_subject, glyph_subject, judgement_on, none_ended, refused}
 use Rattle.hintcheck.specs.FontPrograms as verdict
@@ -97,7 +97,7 @@ none_refused_at_start d all = least_from_start d (judgement_on d []) all refl
 
 -- and stays so
 
-least_on : (d : FontData) (s t : Stage) (o : Outcome) (found : Option Found) → IsOutcomeByFinding d s o found t → AreLeastFrom d s → (is_some found ≡ true) × AreLeastFrom d t
+pub least_on : (d : FontData) (s t : Stage) (o : Outcome) (found : Option Found) → IsOutcomeByFinding d s o found t → AreLeastFrom d s → (is_some found ≡ true) × AreLeastFrom d t
 least_on d s t o found (font_found f functions x ends) (f', functions', font, after) =
     let (cut, same) = end_alike (font_subject d) f' f functions' functions font (known_of_found (font_subject d) f x functions ends).ends in
     let A : List Instruction → Type 0 = λ i. AreLeastAfter d i functions' in
@@ -112,9 +112,3 @@ least_on d s t o found (cvt_found f p functions known x ends) (p', known', cvt, 
 least_on d s t o found (cvt_refused f functions r is) (p', known', cvt, glyphs) = absurd (is.no_least (least_of_end (cvt_subject d f functions) p' known' cvt))
 least_on d s t o found (glyph_found f p known id g instructions x there is_found) glyphs = (refl, glyphs)
 least_on d s t o found (glyph_refused f p known id g r there is) glyphs = absurd (is.no_least (glyphs id g there))
-
-pub none_refused_next : (d : FontData) (s t : Stage) (answer : Option (Outcome × Option Found)) (o : Outcome) (found : Option Found) → answer ≡ Some (o, found)
-    → IsFoundAnswer d s answer t → AreLeastFrom d s → (is_some found ≡ true) × AreLeastFrom d t
-none_refused_next d s t answer o found is answers least =
-    let A : Option (Outcome × Option Found) → Type 0 = λ a. IsFoundAnswer d s a t in
-    least_on d s t o found (subst A is answers) least

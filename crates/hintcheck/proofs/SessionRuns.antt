@@ -27,6 +27,7 @@ use Rattle.hintcheck.specs.declared.report.Refused.{Refused}
 use Rattle.hintcheck.specs.declared.session.Outcome.{Outcome}
 use Rattle.hintcheck.proofs.CheckedSections.{all_dropped, dropped, one_more}
 use Rattle.hintcheck.proofs.FailedReads.{ends_there, next_always, place_so_far}
+use Rattle.hintcheck.proofs.ProgramSteps.{calls_left}
 
 -- the finding after a program is refused, or none is
 abbrev pub before : Option Refused → Finding → Finding
@@ -130,13 +131,6 @@ refused_so_far rs rs' None finding same = ap (λ (l : List Refused). all_refused
 refused_so_far rs rs' (Some r) finding same = one_more rs r finding ∙ ap (λ (l : List Refused). all_refused l finding) (sym same)
 
 -- good families
-
--- this many calls answer at most
-unfoldable pub calls_left : FontData → Stage → ℕ
-calls_left d at_start = length d.glyphs + 3
-calls_left d (after_font f functions) = length d.glyphs + 2
-calls_left d (at_glyph f p known id) = length d.glyphs + 1 - id
-calls_left d over = 0
 
 fewer_left : (d : FontData) (s t : Stage) (o : Outcome) → IsSoundOutcome d s o t → calls_left d t < calls_left d s
 unfolding calls_left

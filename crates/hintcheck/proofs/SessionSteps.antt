@@ -1,36 +1,35 @@
 -- The outcomes of a session's programs, one by one.
-use Rattle.std.proofs.Common.{◌≡◌, ◌≢◌, ℕ, ◌+◌, List, [], ◌∷◌, length, Option, Some, None, Result, Ok, Err, refl, sym, ◌∙◌, subst, arith}
-use Rattle.std.specs.Prelude.{IfOk, slice_get}
+use Rattle.std.proofs.Common.{◌≡◌, ◌≢◌, ℕ, ◌+◌, List, [], ◌∷◌, length, Option, Some, None, Result, Ok, Err, refl, sym, ◌∙◌, ap, subst, arith}
+use Rattle.std.specs.Prelude.{option_map, slice_get}
 use Rattle.std.specs.Io.KnownBytes.{IsAtEnd}
 use Rattle.std.proofs.lemmas.Option.{slice_get_within}
 use Rattle.tt_code.specs.Cut.{Instruction}
-use Rattle.tt_code.specs.Fonts.{Font}
 use Rattle.tt_family.specs.Contents.{Contents}
-use Rattle.tt_abs.specs.declared.refusal.Refusal.{Refusal}
-use Rattle.tt_abs.specs.declared.refusal.Refusal.TheVariants as program
 use Rattle.tt_cert.specs.Answers.{GivesHeader, IsMore, input_at}
 use Rattle.tt_cert.specs.declared.fault.DecodeFault.{DecodeFault}
 use Rattle.tt_cert.specs.declared.fault.DecodeFault.TheVariants as decode
 use Rattle.tt_cert.specs.declared.form.Form.{Form}
 use Rattle.tt_cert.specs.declared.name.Name.{Name}
-use Rattle.tt_cert.specs.declared.name.Name.TheVariants as name
 use Rattle.tt_cert.specs.Readers.{Input}
 use Rattle.tt_cert.specs.Reading.{header_at}
 use Rattle.tt_font.specs.Reading.{FontData, GlyphData}
 use Rattle.tt_stream.specs.Reads.{ConsumesBeginning}
 use Rattle.hintcheck.specs.CertificateFaults.{fault_of_decoding}
-use Rattle.hintcheck.specs.Certificates.{IsCheckRefusal, IsSectionOf, Passes, PassesToEnd}
-use Rattle.hintcheck.specs.CheckedFonts.{Finds, IsGoodAtEnd, IsRefusedBy, IsTold}
+use Rattle.hintcheck.specs.Certificates.{IsSectionOf}
+use Rattle.hintcheck.specs.CheckedFonts.{Finds, IsTold}
 use Rattle.hintcheck.specs.FontPrograms.{cvt_subject, font_of, font_subject, glyph_subject}
-use Rattle.hintcheck.specs.ProgramVerdicts.{IfRefused, reported_at}
-use Rattle.hintcheck.specs.Programs.{HasGoodFamily}
-use Rattle.hintcheck.specs.Representation.SessionStages.{HasHeader, KeepsGood, TellsRefusal, read_of}
-use Rattle.hintcheck.specs.Sessions.{AnswersNext, IsFaultAt, IsHeaderFault, IsLast, IsNextFault, IsNothingLeft, IsOutcomeBySection, IsSoundAnswer, IsSoundOutcome, ReadsOn, Stage, Standing, accepted_as, after_font, all_read, already_over, another_number, at_glyph, at_header, at_start, cvt_ends, cvt_fails, cvt_passes, font_ends, font_fails, font_passes, glyph_fails, glyph_goes_on, glyph_passes, good_cvt, good_font, good_glyph, in_header, more_follows, no_header_read, none_is_left, over, refused_as, standing_at, where_it_was}
+use Rattle.hintcheck.specs.Programs.{Subject}
+use Rattle.hintcheck.specs.Representation.Judges.{AnswersSection, IsOutcomeOfSection}
+use Rattle.hintcheck.specs.Representation.ProgramOrder.{IsNext, cvt_done, cvt_stops, font_done, font_stops, glyph_done, glyph_stops, next_program}
+use Rattle.hintcheck.specs.Representation.SessionStages.{HasHeader, KeepsGood, read_of}
+use Rattle.hintcheck.specs.Sessions.{AnswersAt, AnswersNext, IsFaultAt, IsHeaderFault, IsLast, IsNextFault, IsNothingLeft, IsOutcomeBySection, IsSoundAnswer, IsSoundOutcome, ReadsOn, Stage, Standing, after_font, all_read, already_over, another_number, at_glyph, at_header, at_start, cvt_ends, cvt_fails, cvt_passes, font_ends, font_fails, font_passes, glyph_fails, glyph_goes_on, glyph_passes, good_cvt, good_font, good_glyph, in_header, more_follows, no_header_read, none_is_left, over, standing_at, where_it_was}
 use Rattle.hintcheck.specs.declared.font_check.CheckFontFault.{CheckFontFault}
 use Rattle.hintcheck.specs.declared.font_check.CheckFontFault.TheVariants as check
+use Rattle.hintcheck.specs.declared.programs.Next.{Next}
+use Rattle.hintcheck.specs.declared.section_check.SectionCheck.{SectionCheck}
 use Rattle.hintcheck.specs.declared.sections.Progress.{Progress}
-use Rattle.hintcheck.specs.declared.report.Refused.{Refused}
 use Rattle.hintcheck.specs.declared.session.Outcome.{Outcome}
+use Rattle.hintcheck.proofs.ProgramSteps.{is_last, last_there}
 
 -- the header
 
@@ -46,141 +45,60 @@ other_number_read d old new form sections gives differs told =
     let read = gives told in
     another_number form sections (input_at read.1.0 new) read.1.1 differs
 
--- what is reported of a refused program
-tells : (called : Name) (fault : Refusal) (o : Outcome) (Is : Refused → Type 0) → TellsRefusal called fault (Ok o) → IfRefused called fault Is
-    → (r : Refused) × Is r × (o ≡ refused_as called r)
-tells called (program.Refused spot offset reason) o Is told is = (reported_at called spot offset reason, is, one o (refused_as called (reported_at called spot offset reason)) told)
-  where
-    one : (a b : Outcome) → ◌≡◌ {A = Result Outcome CheckFontFault} (Ok a) (Ok b) → a ≡ b
-    one a b e = cc
-tells called (program.OutOfMemory e) o Is told is = absurd (no o (check.OutOfMemory e) told)
-  where
-    no : (a : Outcome) (f : CheckFontFault) → ◌≡◌ {A = Result Outcome CheckFontFault} (Ok a) (Err f) → ⊥
-    no a f e = absurd cc
+-- The outcome of the next program, which the check of its section decides.
 
-anything : (called : Name) (fault : Refusal) → IfRefused called fault (λ r. Unit {0})
-anything called (program.Refused spot offset reason) = tt
-anything called (program.OutOfMemory e) = tt
+pub sound_of_section : (d : FontData) (j : SectionCheck) (s t : Stage) (o : Outcome) → IsOutcomeOfSection d j s o t → IsSoundOutcome d s o t
+sound_of_section d j s t o (font_done f known ends) = good_font f known ends.known
+sound_of_section d j s t o (font_stops r is) = font_ends r
+sound_of_section d j s t o (cvt_done f p start known ends) = good_cvt f p start known ends.known
+sound_of_section d j s t o (cvt_stops f start r is) = cvt_ends f start r
+sound_of_section d j s t o (glyph_done f p known id g is there accepts) = good_glyph f p known id g there (record {
+  instructions = is;
+  cut = accepts.passes.cut;
+  family = accepts.filled.0;
+  good = accepts.filled.2;
+})
+sound_of_section d j s t o (glyph_stops f p known id g r there is) = glyph_goes_on f p known id r (slice_get_within d.glyphs id g there)
 
--- the font program
+-- the section of the next program is there
+abbrev pub HasNextSection : FontData → Stage → Form → Input → Input → Contents → Type 0
+HasNextSection d s form i after family = (x : Subject) → next_program d s ≡ Some x → IsSectionOf form i x.name family after
 
-pub first_good : (d : FontData) (f : List Instruction) (functions : List (ℕ × ℕ)) (o : Outcome) → o ≡ accepted_as name.Font → IsGoodAtEnd (font_subject d) f functions
-    → IsSoundOutcome d at_start o (after_font f functions)
-first_good d f functions o is good = let S : Outcome → Type 0 = λ x. IsSoundOutcome d at_start x (after_font f functions) in subst S (sym is) (good_font f functions good)
+pub next_section_read : (d : FontData) (s : Stage) (n : Next) (form : Form) (i after : Input) (family : Contents) → IsNext d s n → IsSectionOf form i n.name family after
+    → HasNextSection d s form i after family
+next_section_read d s n form i after family (y, next, told) section x is =
+    let same : y ≡ x = cc in
+    let S : Name → Type 0 = λ called. IsSectionOf form i called family after in
+    subst S (told.name ∙ ap (λ (z : Subject). z.name) same) section
 
-pub first_ends : (d : FontData) (fault : Refusal) (o : Outcome) → TellsRefusal name.Font fault (Ok o) → IsSoundOutcome d at_start o over
-first_ends d fault o told =
-    let (r, is, same) = tells name.Font fault o (λ r. Unit {0}) told (anything name.Font fault) in
-    let S : Outcome → Type 0 = λ x. IsSoundOutcome d at_start x over in subst S (sym same) (font_ends r)
+pub outcome_of_section : (d : FontData) (i after : Input) (j : SectionCheck) (s t : Stage) (o : Outcome) → HasNextSection d s j.form i after j.certificate.now
+    → IsOutcomeOfSection d j s o t → IsOutcomeBySection d j.form i after s o t
+outcome_of_section d i after j s t o section (font_done f known ends) = font_passes j.certificate.now f known (section (font_subject d) refl) ends.passes
+outcome_of_section d i after j s t o section (font_stops r is) = font_fails j.certificate.now r (section (font_subject d) refl) is
+outcome_of_section d i after j s t o section (cvt_done f p start known ends) = cvt_passes f p start known j.certificate.now (section (cvt_subject d f []) refl) ends.passes
+outcome_of_section d i after j s t o section (cvt_stops f start r is) = cvt_fails f start j.certificate.now r (section (cvt_subject d f []) refl) is
+outcome_of_section d i after j s t o section (glyph_done f p known id g is there accepts) =
+    let subject = glyph_subject (font_of d f p) [] id g in
+    glyph_passes f p known id g j.certificate.now is there (section subject (ap (option_map (λ h. glyph_subject (font_of d f p) [] id h)) there)) accepts.passes
+outcome_of_section d i after j s t o section (glyph_stops f p known id g r there is) =
+    let subject = glyph_subject (font_of d f p) [] id g in
+    glyph_fails f p known id g j.certificate.now r there (section subject (ap (option_map (λ h. glyph_subject (font_of d f p) [] id h)) there)) is
 
-pub first_passes : (d : FontData) (form form' : Form) (i after : Input) (family : Contents) (f : List Instruction) (functions : List (ℕ × ℕ)) (o : Outcome) → form' ≡ form
-    → o ≡ accepted_as name.Font → IsSectionOf form i name.Font family after → PassesToEnd form' (font_subject d) f family functions
-    → IsOutcomeBySection d form i after at_start o (after_font f functions)
-first_passes d form form' i after family f functions o same is section passes =
-    let P : Form → Type 0 = λ t. PassesToEnd t (font_subject d) f family functions in
-    let S : Outcome → Type 0 = λ x. IsOutcomeBySection d form i after at_start x (after_font f functions) in
-    subst S (sym is) (font_passes family f functions section (subst P same passes))
+-- the same of an answer
 
-pub first_fails : (d : FontData) (form form' : Form) (i after : Input) (family : Contents) (fault : Refusal) (o : Outcome) → form' ≡ form
-    → TellsRefusal name.Font fault (Ok o) → IsSectionOf form i name.Font family after → IsRefusedBy form' (font_subject d) family fault
-    → IsOutcomeBySection d form i after at_start o over
-first_fails d form form' i after family fault o same told section refused =
-    let R : Form → Type 0 = λ t. IsRefusedBy t (font_subject d) family fault in
-    let (r, is, e) = tells name.Font fault o (IsCheckRefusal form (font_subject d) family) told (subst R same refused) in
-    let S : Outcome → Type 0 = λ x. IsOutcomeBySection d form i after at_start x over in
-    subst S (sym e) (font_fails family r section is)
+pub sound_answer : (d : FontData) (j : SectionCheck) (s t : Stage) (answer : Option Outcome) → KeepsGood d s → AnswersSection d j s answer t → IsSoundAnswer d s answer t
+sound_answer d j s t (Some o) kept is = sound_of_section d j s t o is
+sound_answer d j s t None kept is = (is_last d s is.0 kept, is.1)
 
--- the CVT program
-
-module _ (d : FontData) (f : List Instruction) (functions : List (ℕ × ℕ)) where
-  pub second_good : (p : List Instruction) (known : List (ℕ × ℕ)) (o : Outcome) → o ≡ accepted_as name.Cvt → IsGoodAtEnd (cvt_subject d f functions) p known
-      → IsSoundOutcome d (after_font f functions) o (at_glyph f p known 0)
-  second_good p known o is good =
-      let S : Outcome → Type 0 = λ x. IsSoundOutcome d (after_font f functions) x (at_glyph f p known 0) in subst S (sym is) (good_cvt f p functions known good)
-
-  pub second_ends : (fault : Refusal) (o : Outcome) → TellsRefusal name.Cvt fault (Ok o) → IsSoundOutcome d (after_font f functions) o over
-  second_ends fault o told =
-      let (r, is, same) = tells name.Cvt fault o (λ r. Unit {0}) told (anything name.Cvt fault) in
-      let S : Outcome → Type 0 = λ x. IsSoundOutcome d (after_font f functions) x over in subst S (sym same) (cvt_ends f functions r)
-
-  pub second_passes : (form form' : Form) (i after : Input) (family : Contents) (p : List Instruction) (known : List (ℕ × ℕ)) (o : Outcome) → form' ≡ form
-      → o ≡ accepted_as name.Cvt → IsSectionOf form i name.Cvt family after → PassesToEnd form' (cvt_subject d f functions) p family known
-      → IsOutcomeBySection d form i after (after_font f functions) o (at_glyph f p known 0)
-  second_passes form form' i after family p known o same is section passes =
-      let P : Form → Type 0 = λ t. PassesToEnd t (cvt_subject d f functions) p family known in
-      let S : Outcome → Type 0 = λ x. IsOutcomeBySection d form i after (after_font f functions) x (at_glyph f p known 0) in
-      subst S (sym is) (cvt_passes f p functions known family section (subst P same passes))
-
-  pub second_fails : (form form' : Form) (i after : Input) (family : Contents) (fault : Refusal) (o : Outcome) → form' ≡ form
-      → TellsRefusal name.Cvt fault (Ok o) → IsSectionOf form i name.Cvt family after → IsRefusedBy form' (cvt_subject d f functions) family fault
-      → IsOutcomeBySection d form i after (after_font f functions) o over
-  second_fails form form' i after family fault o same told section refused =
-      let R : Form → Type 0 = λ t. IsRefusedBy t (cvt_subject d f functions) family fault in
-      let (r, is, e) = tells name.Cvt fault o (IsCheckRefusal form (cvt_subject d f functions) family) told (subst R same refused) in
-      let S : Outcome → Type 0 = λ x. IsOutcomeBySection d form i after (after_font f functions) x over in
-      subst S (sym e) (cvt_fails f functions family r section is)
-
--- a glyph program, whose setting is of this font and these functions
-
-module _ (d : FontData) (f p : List Instruction) (known : List (ℕ × ℕ)) (font : Font) (kept : List (ℕ × ℕ)) (font_is : font ≡ font_of d f p) (kept_is : kept ≡ known)
-    (id : ℕ) (g : GlyphData) (there : slice_get d.glyphs id ≡ Some g) where
-  pub third_good : (o : Outcome) → o ≡ accepted_as (name.Glyph id) → HasGoodFamily (glyph_subject font kept id g)
-      → IsSoundOutcome d (at_glyph f p known id) o (at_glyph f p known (id + 1))
-  third_good o is good =
-      let F : Font → Type 0 = λ t. HasGoodFamily (glyph_subject t kept id g) in
-      let K : List (ℕ × ℕ) → Type 0 = λ k. HasGoodFamily (glyph_subject (font_of d f p) k id g) in
-      let S : Outcome → Type 0 = λ x. IsSoundOutcome d (at_glyph f p known id) x (at_glyph f p known (id + 1)) in
-      subst S (sym is) (good_glyph f p known id g there (subst K kept_is (subst F font_is good)))
-
-  pub third_goes_on : (fault : Refusal) (o : Outcome) → TellsRefusal (name.Glyph id) fault (Ok o)
-      → IsSoundOutcome d (at_glyph f p known id) o (at_glyph f p known (id + 1))
-  third_goes_on fault o told =
-      let (r, is, same) = tells (name.Glyph id) fault o (λ r. Unit {0}) told (anything (name.Glyph id) fault) in
-      let S : Outcome → Type 0 = λ x. IsSoundOutcome d (at_glyph f p known id) x (at_glyph f p known (id + 1)) in
-      subst S (sym same) (glyph_goes_on f p known id r (slice_get_within d.glyphs id g there))
-
-  pub third_passes : (form form' : Form) (i after : Input) (family : Contents) (instructions : List Instruction) (o : Outcome) → form' ≡ form
-      → o ≡ accepted_as (name.Glyph id) → IsSectionOf form i (name.Glyph id) family after → Passes form' (glyph_subject font kept id g) instructions family
-      → IsOutcomeBySection d form i after (at_glyph f p known id) o (at_glyph f p known (id + 1))
-  third_passes form form' i after family instructions o same is section passes =
-      let P : Form → Type 0 = λ t. Passes t (glyph_subject font kept id g) instructions family in
-      let F : Font → Type 0 = λ t. Passes form (glyph_subject t kept id g) instructions family in
-      let K : List (ℕ × ℕ) → Type 0 = λ k. Passes form (glyph_subject (font_of d f p) k id g) instructions family in
-      let S : Outcome → Type 0 = λ x. IsOutcomeBySection d form i after (at_glyph f p known id) x (at_glyph f p known (id + 1)) in
-      subst S (sym is) (glyph_passes f p known id g family instructions there section (subst K kept_is (subst F font_is (subst P same passes))))
-
-  pub third_fails : (form form' : Form) (i after : Input) (family : Contents) (fault : Refusal) (o : Outcome) → form' ≡ form
-      → TellsRefusal (name.Glyph id) fault (Ok o) → IsSectionOf form i (name.Glyph id) family after → IsRefusedBy form' (glyph_subject font kept id g) family fault
-      → IsOutcomeBySection d form i after (at_glyph f p known id) o (at_glyph f p known (id + 1))
-  third_fails form form' i after family fault o same told section refused =
-      let R : Form → Type 0 = λ t. IsRefusedBy t (glyph_subject font kept id g) family fault in
-      let F : Font → Type 0 = λ t. IsRefusedBy form (glyph_subject t kept id g) family fault in
-      let K : List (ℕ × ℕ) → Type 0 = λ k. IsRefusedBy form (glyph_subject (font_of d f p) k id g) family fault in
-      let refusal = subst K kept_is (subst F font_is (subst R same refused)) in
-      let (r, is, e) = tells (name.Glyph id) fault o (IsCheckRefusal form (glyph_subject (font_of d f p) known id g) family) told refusal in
-      let S : Outcome → Type 0 = λ x. IsOutcomeBySection d form i after (at_glyph f p known id) x (at_glyph f p known (id + 1)) in
-      subst S (sym e) (glyph_fails f p known id g family r there section is)
-
--- what is reported of a refused glyph program, whatever it comes to
-
-pub third_sound : (d : FontData) (f p : List Instruction) (known : List (ℕ × ℕ)) (id : ℕ) (g : GlyphData) (there : slice_get d.glyphs id ≡ Some g) (fault : Refusal)
-    (r : Result Outcome CheckFontFault) → TellsRefusal (name.Glyph id) fault r → IfOk r (λ o. IsSoundOutcome d (at_glyph f p known id) o (at_glyph f p known (id + 1)))
-third_sound d f p known id g there fault (Ok o) told = third_goes_on d f p known (font_of d f p) known refl refl id g there fault o told
-third_sound d f p known id g there fault (Err x) told = tt
-
-module _ (d : FontData) (f p : List Instruction) (known : List (ℕ × ℕ)) (font : Font) (kept : List (ℕ × ℕ)) (font_is : font ≡ font_of d f p) (kept_is : kept ≡ known)
-    (id : ℕ) (g : GlyphData) (there : slice_get d.glyphs id ≡ Some g) where
-  pub third_answers : (form form' : Form) (i after : Input) (family : Contents) (Told : Type 0) (At : ℕ → Type 0) (fault : Refusal) (r : Result Outcome CheckFontFault) → form' ≡ form
-      → TellsRefusal (name.Glyph id) fault r → IsSectionOf form i (name.Glyph id) family after → IsRefusedBy form' (glyph_subject font kept id g) family fault → Told
-      → Finds r (λ o. Told × IsOutcomeBySection d form i after (at_glyph f p known id) o (at_glyph f p known (id + 1))) At
-  third_answers form form' i after family Told At fault (Ok o) same tells section refused told =
-      (told, third_fails d f p known font kept font_is kept_is id g there form form' i after family fault o same tells section refused)
-  third_answers form form' i after family Told At (program.OutOfMemory e) (Err x) same tells section refused told =
-      let F : Result Outcome CheckFontFault → Type 0 = λ t. Finds t (λ o. Told × IsOutcomeBySection d form i after (at_glyph f p known id) o (at_glyph f p known (id + 1))) At in
-      subst F (sym tells) tt
-  third_answers form form' i after family Told At (program.Refused spot offset reason) (Err x) same tells section refused told =
-      let F : Result Outcome CheckFontFault → Type 0 = λ t. Finds t (λ o. Told × IsOutcomeBySection d form i after (at_glyph f p known id) o (at_glyph f p known (id + 1))) At in
-      absurd (cc)
+pub answer_of_section : (d : FontData) (form : Form) (i after : Input) (family : Contents) (j : SectionCheck) (s t : Stage) (n : Next) (answer : Option Outcome) → j.form ≡ form
+    → j.certificate.now ≡ family → IsNext d s n → IsSectionOf form i n.name family after → AnswersSection d j s answer t → AnswersAt d form s i answer t after
+answer_of_section d form i after family j s t n (Some o) same_form same_family next section is =
+    let F : Form → Type 0 = λ f. IsSectionOf f i n.name j.certificate.now after in
+    let C : Contents → Type 0 = λ v. IsSectionOf form i n.name v after in
+    let here : IsSectionOf j.form i n.name j.certificate.now after = subst F (sym same_form) (subst C (sym same_family) section) in
+    let O : Form → Type 0 = λ f. IsOutcomeBySection d f i after s o t in
+    subst O same_form (outcome_of_section d i after j s t o (next_section_read d s n j.form i after j.certificate.now next here) is)
+answer_of_section d form i after family j s t n None same_form same_family (x, next, told) section is = absurd (let no : Some x ≡ None = sym next ∙ is.0 in cc)
 
 -- the end of the certificate
 
@@ -204,6 +122,23 @@ fault_at_end Is (decode.Form place) d form f p known id at left named last told 
     subst F (sym both.0) (follows d form f p known id at left last told both.1)
 fault_at_end Is decode.Read d form f p known id at left named last told = tt
 fault_at_end Is (decode.OutOfMemory error) d form f p known id at left named last told = tt
+
+-- the same at a stage where no program is next
+
+pub ends_there : (d : FontData) (s : Stage) (place : ℕ) (left : Option (List ℕ)) → next_program d s ≡ None → s ≢ over → KeepsGood d s → IsTold left → IsAtEnd left
+    → IsNothingLeft d (input_at place left) s
+ends_there d at_start place left none going kept told at = absurd cc
+ends_there d (after_font f functions) place left none going kept told at = absurd cc
+ends_there d (at_glyph f p known id) place left none going kept told at = nothing_follows d f p known id place left (last_there d f p known id none kept.1) told at
+ends_there d over place left none going kept told at = absurd (going refl)
+
+pub more_there : {T : Type 0} (Is : T → Type 0) (e : DecodeFault) (d : FontData) (form : Form) (s : Stage) (at : ℕ) (left : Option (List ℕ)) → next_program d s ≡ None → s ≢ over → KeepsGood d s
+    → ((place : ℕ) → e ≡ decode.Form place → (place ≡ at) × IsMore left) → IsTold left → Finds {T = T} (Err (fault_of_decoding e)) Is (IsFaultAt d form (input_at at left) s)
+more_there Is e d form at_start at left none going kept named told = absurd cc
+more_there Is e d form (after_font f functions) at left none going kept named told = absurd cc
+more_there Is e d form (at_glyph f p known id) at left none going kept named told =
+    fault_at_end Is e d form f p known id at left named (last_there d f p known id none kept.1) told
+more_there Is e d form over at left none going kept named told = absurd (going refl)
 
 -- what a call comes to after the header, from before it
 
@@ -263,7 +198,7 @@ pub over_answers : (s : Standing) (bytes : Option (List ℕ)) → s.stage ≡ ov
 over_answers s bytes is starts = go s.read refl
   where
     go : (r : Option (Form × ℕ)) → s.read ≡ r → AnswersNext s bytes None s bytes
-    go None none = absurd (let no : over ≡ at_start = sym is ∙ starts none in cc)
+    go None none = absurd (let no : ◌≡◌ {A = Stage} over at_start = sym is ∙ starts none in cc)
     go (Some x) read =
         let L : Stage → Type 0 = λ t. IsNothingLeft s.font (input_at x.1 bytes) t in
         record {

@@ -166,11 +166,11 @@ IsFaultOfFileExplaining word offset reported =
 
 -- Why what is asked for isn't answered.
 abbrev pub IsFaultOfRequest : Request → CommandFault → Type 0
-IsFaultOfRequest (bare maxp cvt points contours program) reported =
+IsFaultOfRequest (bare maxp cvt points contours program profile) reported =
     IsFaultOfGlyph maxp (unwrap_or program []) reported
-IsFaultOfRequest (verdict font budget) reported =
+IsFaultOfRequest (verdict font budget profile) reported =
     IsFaultOfFontFile reported × IsWithin budget reported
-IsFaultOfRequest (scan fonts budget) reported = IsFaultOfScan reported
+IsFaultOfRequest (scan fonts budget profile) reported = IsFaultOfScan reported
 IsFaultOfRequest (explain font program offset) reported =
     IsFaultOfFileExplaining program offset reported
 IsFaultOfRequest (find font certificate budget) reported =
@@ -183,9 +183,10 @@ IsFaultOfRequest (upgrade old new) reported = IsFaultOfUpgrading old new reporte
 -- The words of `bare` have no fault; those of `find` and of `upgrade` are two different ones; and
 -- those of `explain` name a program of some font, and an instruction of it by an offset, if any.
 abbrev pub HasNoFault : Request → Type 0
-HasNoFault (bare maxp cvt points contours program) = SpellNoFault maxp (unwrap_or program [])
-HasNoFault (verdict font budget) = Unit {0}
-HasNoFault (scan fonts budget) = Unit {0}
+HasNoFault (bare maxp cvt points contours program profile) =
+    SpellNoFault maxp (unwrap_or program [])
+HasNoFault (verdict font budget profile) = Unit {0}
+HasNoFault (scan fonts budget profile) = Unit {0}
 HasNoFault (explain font program offset) = (bytes : List ℕ) × HoldPlace bytes program offset
 HasNoFault (find font certificate budget) = font ≢ certificate
 HasNoFault (check font certificate budget) = Unit {0}

@@ -116,9 +116,9 @@ HasAll left bytes = IfSome left (λ known. bytes ≡ known)
 
 -- one verdict is asked for, and not a scan, an explanation, a listing or an upgrade
 abbrev pub IsForVerdict : Request → Type 0
-IsForVerdict (bare maxp cvt points contours program) = Unit {0}
-IsForVerdict (verdict font budget) = Unit {0}
-IsForVerdict (scan fonts budget) = ⊥
+IsForVerdict (bare maxp cvt points contours program profile) = Unit {0}
+IsForVerdict (verdict font budget profile) = Unit {0}
+IsForVerdict (scan fonts budget profile) = ⊥
 IsForVerdict (explain font program offset) = ⊥
 IsForVerdict (find font certificate budget) = Unit {0}
 IsForVerdict (check font certificate budget) = Unit {0}

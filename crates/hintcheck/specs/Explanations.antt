@@ -1,8 +1,6 @@
 -- One program of a font as it is explained: it is accepted, or it is refused, or one before it is.
 use Rattle.std.specs.Prelude.{◌≡◌, ◌≢◌, ℕ, Bool, true, false, List, [], Option, Some, IfSome, slice_get}
 use Rattle.tt_code.specs.Cut.{BeginsWith, Instruction, size}
-use Rattle.tt_abs.specs.declared.refusal.Refusal.{Refusal}
-use Rattle.tt_abs.specs.declared.refusal.Refusal.TheVariants.{OutOfMemory as NoMemory, Refused as RefusedAt}
 use Rattle.tt_cert.specs.Names.{text_of}
 use Rattle.tt_cert.specs.declared.name.Name.{Name}
 use Rattle.tt_cert.specs.declared.name.Name.TheVariants as name
@@ -104,8 +102,3 @@ HasPlaceIn d called offset =
 abbrev pub IsAnswered : Subject → Bool → Type 0
 IsAnswered x true = HasLeastFamily x
 IsAnswered x false = (r : Refused) × IsRefusal x r
-
--- the fault refuses a program, and isn't that memory ran out
-abbrev pub RefusesProgram : Refusal → Type 0
-RefusesProgram (RefusedAt spot offset r) = Unit {0}
-RefusesProgram (NoMemory e) = ⊥

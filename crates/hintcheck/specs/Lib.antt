@@ -7,6 +7,7 @@ pub mod BarePrograms
 pub mod Listing
 pub mod Explanations
 pub mod Commands
+pub mod SymbolicAnswers
 pub mod MeansSafe
 pub mod Printed
 pub mod CommandFaults
@@ -22,4 +23,5 @@ pub mod Sessions
 pub mod FindingSessions
 pub mod FailedReads
 pub mod BudgetAnswers
+pub mod SymbolicVerdicts
 pub mod Representation

@@ -2,6 +2,8 @@
 use Rattle.std.specs.Prelude.{◌≡◌, ◌≢◌, ◌↔◌, ◌+◌, ◌≤◌, ℕ, All, List, [], Some, length, true, unwrap_or}
 use Rattle.tt_font.specs.Reading.{FontData, GlyphData, Reads}
 use Rattle.hintcheck_words.specs.HexWords.{Spells}
+use Rattle.hintcheck_words.specs.declared.words.Profile.{Profile}
+use Rattle.hintcheck_words.specs.declared.words.Profile.TheVariants.{Strict, Symbolic}
 use Rattle.hintcheck_words.specs.Requests.{Request, bare, check, explain, find, is_taken, list, meaning, scan, upgrade, verdict}
 use Rattle.hintcheck.specs.CommandFaults.{IsFaultOfFontFile, MeansNoFault, TellsFault}
 use Rattle.hintcheck.specs.Commands.{status_of}
@@ -11,6 +13,7 @@ use Rattle.hintcheck.specs.Explanations.{HoldAcceptedProgram, HoldRefusedProgram
 use Rattle.hintcheck.specs.FontPrograms.{IsSafeFont, IsSafeGlyph, IsVerdict}
 use Rattle.hintcheck.specs.Listing.{HoldUnlistedProgram}
 use Rattle.hintcheck.specs.Programs.{HasGoodFamily, IsRefusal}
+use Rattle.hintcheck.specs.SymbolicAnswers.{HoldSymbolicRefusedFont, HoldSymbolicSafeFont, IsSymbolicVerdictOn, SpellGlyph, SpellSymbolicSafeGlyph, SpellSymbolicVerdict}
 use Rattle.hintcheck.specs.Verdicts.{Judgement}
 
 -- The words spell a `maxp` table and a glyph program, which is safe in a font of only this glyph.
@@ -38,16 +41,35 @@ pub record HoldSafeFont (bytes : List ℕ) : Type 0 where
   pub reads : Reads bytes font
   pub safe : IsSafeFont font
 
--- What is asked for is safe: the glyph program of `bare`, which has no bytes where its word is left
--- out. For `verdict`, `find` and `check`, some bytes hold a safe font: no contract of the runtime
--- tells which bytes a file has, so that these can't be named here. For `scan` this holds for each
--- of the names. For `explain`, some bytes hold a font whose program of this name is accepted. A
--- listing and an upgrade tell nothing of safety.
+-- the words spell a `maxp` table and a glyph program, which is safe by this profile
+abbrev pub SpellSafeBy : Profile → List ℕ → ℕ → ℕ → ℕ → List ℕ → Type 0
+SpellSafeBy Strict maxp cvt points contours program =
+    SpellSafeGlyph maxp cvt points contours program
+SpellSafeBy Symbolic maxp cvt points contours program =
+    SpellSymbolicSafeGlyph maxp cvt points contours program
+
+-- the bytes hold a font, whose programs are safe by this profile
+abbrev pub HoldSafeBy : Profile → List ℕ → Type 0
+HoldSafeBy Strict bytes = HoldSafeFont bytes
+HoldSafeBy Symbolic bytes = HoldSymbolicSafeFont bytes
+
+-- the verdict is that of this profile on the font that is in the bytes
+abbrev pub IsVerdictBy : Profile → List ℕ → Judgement → Type 0
+IsVerdictBy Strict bytes judgement = IsVerdictOn bytes judgement
+IsVerdictBy Symbolic bytes judgement = IsSymbolicVerdictOn bytes judgement
+
+-- What is asked for is safe, where it names a profile by that one, and otherwise by the strict one:
+-- the glyph program of `bare`, which has no bytes where its word is left out. For `verdict`, `find`
+-- and `check`, some bytes hold a safe font: no contract of the runtime tells which bytes a file
+-- has, so that these can't be named here. For `scan` this holds for each of the names. For
+-- `explain`, some bytes hold a font whose program of this name is accepted. A listing and an
+-- upgrade tell nothing of safety.
 abbrev pub IsSafeRequest : Request → Type 0
-IsSafeRequest (bare maxp cvt points contours program) =
-    SpellSafeGlyph maxp cvt points contours (unwrap_or program [])
-IsSafeRequest (verdict font budget) = (bytes : List ℕ) × HoldSafeFont bytes
-IsSafeRequest (scan fonts budget) = All (λ font. (bytes : List ℕ) × HoldSafeFont bytes) fonts
+IsSafeRequest (bare maxp cvt points contours program profile) =
+    SpellSafeBy profile maxp cvt points contours (unwrap_or program [])
+IsSafeRequest (verdict font budget profile) = (bytes : List ℕ) × HoldSafeBy profile bytes
+IsSafeRequest (scan fonts budget profile) =
+    All (λ font. (bytes : List ℕ) × HoldSafeBy profile bytes) fonts
 IsSafeRequest (explain font program offset) = (bytes : List ℕ) × HoldAcceptedProgram bytes program
 IsSafeRequest (find font certificate budget) = (bytes : List ℕ) × HoldSafeFont bytes
 IsSafeRequest (check font certificate budget) = (bytes : List ℕ) × HoldSafeFont bytes
@@ -80,6 +102,18 @@ pub record HoldRefusedFont (bytes : List ℕ) : Type 0 where
   pub given : IsVerdict font judgement
   pub some : judgement.refused ≢ []
 
+-- the words spell a `maxp` table and a program, which is refused by this profile: by the symbolic
+-- one this tells nothing of it
+abbrev pub SpellRefusedBy : Profile → List ℕ → ℕ → ℕ → ℕ → List ℕ → Type 0
+SpellRefusedBy Strict maxp cvt points contours program =
+    SpellRefusedGlyph maxp cvt points contours program
+SpellRefusedBy Symbolic maxp cvt points contours program = SpellGlyph maxp program
+
+-- the bytes hold a font, and its verdict by this profile names refused programs
+abbrev pub HoldRefusedBy : Profile → List ℕ → Type 0
+HoldRefusedBy Strict bytes = HoldRefusedFont bytes
+HoldRefusedBy Symbolic bytes = HoldSymbolicRefusedFont bytes
+
 -- The bytes hold a font.
 pub record HoldFont (bytes : List ℕ) : Type 0 where
   pub font : FontData
@@ -101,6 +135,13 @@ pub record SpellVerdict (maxp : List ℕ) (cvt points contours : ℕ) (program :
   pub exact : judgement.refused ≡ [] ↔ HasGoodFamily (bare_subject table cvt glyph)
   pub refused : All (IsRefusal (bare_subject table cvt glyph)) judgement.refused
 
+-- the verdict is that of this profile on the glyph program that the words spell
+abbrev pub SpellVerdictBy : Profile → List ℕ → ℕ → ℕ → ℕ → List ℕ → Judgement → Type 0
+SpellVerdictBy Strict maxp cvt points contours program judgement =
+    SpellVerdict maxp cvt points contours program judgement
+SpellVerdictBy Symbolic maxp cvt points contours program judgement =
+    SpellSymbolicVerdict maxp cvt points contours program judgement
+
 -- The verdict counts the programs of the font that is in the bytes; where it names no refused one,
 -- the font is safe. Which ones a check by a certificate refuses isn't said: no contract of the
 -- runtime tells the certificate's bytes.
@@ -113,14 +154,15 @@ pub record IsCheckOn (bytes : List ℕ) (judgement : Judgement) : Type 0 where
 -- The verdict is the one that is asked for: on the glyph program of `bare`; and for `verdict`,
 -- `find` and `check` on a font that some bytes hold. The others ask for no verdict of this kind.
 abbrev pub IsVerdictAsked : Request → Judgement → Type 0
-IsVerdictAsked (bare maxp cvt points contours program) judgement =
-    SpellVerdict maxp cvt points contours (unwrap_or program []) judgement
-IsVerdictAsked (verdict font budget) judgement = (bytes : List ℕ) × IsVerdictOn bytes judgement
+IsVerdictAsked (bare maxp cvt points contours program profile) judgement =
+    SpellVerdictBy profile maxp cvt points contours (unwrap_or program []) judgement
+IsVerdictAsked (verdict font budget profile) judgement =
+    (bytes : List ℕ) × IsVerdictBy profile bytes judgement
 IsVerdictAsked (find font certificate budget) judgement =
     (bytes : List ℕ) × IsVerdictOn bytes judgement
 IsVerdictAsked (check font certificate budget) judgement =
     (bytes : List ℕ) × IsCheckOn bytes judgement
-IsVerdictAsked (scan fonts budget) judgement = ⊥
+IsVerdictAsked (scan fonts budget profile) judgement = ⊥
 IsVerdictAsked (explain font program offset) judgement = ⊥
 IsVerdictAsked (list font program) judgement = ⊥
 IsVerdictAsked (upgrade old new) judgement = ⊥
@@ -131,10 +173,10 @@ IsVerdictAsked (upgrade old new) judgement = ⊥
 -- refused, or one before it. For `list`, some bytes hold a font whose program of this name can't be
 -- cut or isn't structured. An upgrade is never refused.
 abbrev pub IsRefusedRequest : Request → Type 0
-IsRefusedRequest (bare maxp cvt points contours program) =
-    SpellRefusedGlyph maxp cvt points contours (unwrap_or program [])
-IsRefusedRequest (verdict font budget) = (bytes : List ℕ) × HoldRefusedFont bytes
-IsRefusedRequest (scan fonts budget) = (bytes : List ℕ) × HoldRefusedFont bytes
+IsRefusedRequest (bare maxp cvt points contours program profile) =
+    SpellRefusedBy profile maxp cvt points contours (unwrap_or program [])
+IsRefusedRequest (verdict font budget profile) = (bytes : List ℕ) × HoldRefusedBy profile bytes
+IsRefusedRequest (scan fonts budget profile) = (bytes : List ℕ) × HoldRefusedBy profile bytes
 IsRefusedRequest (explain font program offset) = (bytes : List ℕ) × HoldRefusedProgram bytes program
 IsRefusedRequest (find font certificate budget) = (bytes : List ℕ) × HoldRefusedFont bytes
 IsRefusedRequest (check font certificate budget) = (bytes : List ℕ) × HoldFont bytes
@@ -147,12 +189,13 @@ pub record MeansRefused (words : List (List ℕ)) : Type 0 where
   pub meant : meaning words ≡ Some request
   pub refused : IsRefusedRequest request
 
--- What the greatest of the exit statuses of font files tells: where it is 0, each of the files is
--- safe; where it is 1, one is refused; where it is more, one has a fault of this status.
-pub record TellsFonts (fonts : List (List ℕ)) (status : ℕ) : Type 0 where
+-- What the greatest of the exit statuses of font files tells, by this profile: where it is 0, each
+-- of the files is safe; where it is 1, one is refused; where it is more, one has a fault of this
+-- status.
+pub record TellsFonts (profile : Profile) (fonts : List (List ℕ)) (status : ℕ) : Type 0 where
   pub few : status ≤ 3
-  pub safe : status ≡ 0 → All (λ font. (bytes : List ℕ) × HoldSafeFont bytes) fonts
-  pub refused : status ≡ 1 → (bytes : List ℕ) × HoldRefusedFont bytes
+  pub safe : status ≡ 0 → All (λ font. (bytes : List ℕ) × HoldSafeBy profile bytes) fonts
+  pub refused : status ≡ 1 → (bytes : List ℕ) × HoldRefusedBy profile bytes
   pub fault : 2 ≤ status
       → (reported : CommandFault) × IsFaultOfFontFile reported × (status_of reported ≡ status)
 

@@ -2,6 +2,8 @@
 use Rattle.std.specs.Prelude.{◌≡◌, ◌≢◌, ℕ, List, [], Option, Some}
 use Rattle.std.specs.Io.KnownBytes.{Appends}
 use Rattle.hintcheck_words.specs.Requests.{Request, bare, check, explain, find, list, meaning, scan, upgrade, verdict}
+use Rattle.hintcheck_words.specs.declared.words.Profile.{Profile}
+use Rattle.hintcheck_words.specs.declared.words.Profile.TheVariants.{Strict}
 use Rattle.hintcheck.specs.Commands.{status_of}
 use Rattle.hintcheck.specs.CommandFaults.{IsFaultOfWords}
 use Rattle.hintcheck.specs.Listing.{HoldListedProgram, HoldToldProgram}
@@ -12,6 +14,13 @@ use Rattle.hintcheck.specs.Upgrades.{IsNumberOfPrograms}
 use Rattle.hintcheck.specs.Verdicts.{Judgement}
 use Rattle.hintcheck.specs.declared.commands.faults.CommandFault.{CommandFault}
 
+-- the profile by which what is asked for is checked
+abbrev pub profile_of : Request → Profile
+profile_of (bare maxp cvt points contours program profile) = profile
+profile_of (verdict font budget profile) = profile
+profile_of (scan fonts budget profile) = profile
+profile_of other = Strict
+
 -- The lines of the verdict that is asked for were written, where the written bytes are known: of
 -- one that refuses no program where the status is 0, and of one that refuses some where it is 1.
 pub record PrintsVerdict (request : Request) (status : ℕ) (old new : Option (List ℕ)) : Type 0 where
@@ -19,7 +28,7 @@ pub record PrintsVerdict (request : Request) (status : ℕ) (old new : Option (L
   pub given : IsVerdictAsked request judgement
   pub accepted : status ≡ 0 → judgement.refused ≡ []
   pub refused : status ≡ 1 → judgement.refused ≢ []
-  pub written : Appends old new (verdict_text judgement)
+  pub written : Appends old new (verdict_text (profile_of request) judgement)
 
 -- Some bytes hold a font, and the word is the name of a program of it: its lines were written where
 -- the status is 0, and where it is 1 the line that tells why it isn't listed.
@@ -35,10 +44,11 @@ PrintsUpgrade old new =
 
 -- What was asked for is answered in these lines; those of `explain` are left unspecified.
 abbrev pub Prints : Request → ℕ → Option (List ℕ) → Option (List ℕ) → Type 0
-Prints (bare maxp cvt points contours program) status old new =
-    PrintsVerdict (bare maxp cvt points contours program) status old new
-Prints (verdict font budget) status old new = PrintsVerdict (verdict font budget) status old new
-Prints (scan fonts budget) status old new = PrintsScan budget fonts status old new
+Prints (bare maxp cvt points contours program profile) status old new =
+    PrintsVerdict (bare maxp cvt points contours program profile) status old new
+Prints (verdict font budget profile) status old new =
+    PrintsVerdict (verdict font budget profile) status old new
+Prints (scan fonts budget profile) status old new = PrintsScan profile budget fonts status old new
 Prints (explain font program offset) status old new = Unit {0}
 Prints (find font certificate budget) status old new =
     PrintsVerdict (find font certificate budget) status old new

@@ -1,6 +1,8 @@
 -- How the code keeps what the definitions speak of: private contracts cite these, and no public one
 -- does.
 pub mod FontVerdicts
-pub mod ProgramEnds
+pub mod Judges
+pub mod ProgramOrder
 pub mod ReadProgress
 pub mod SessionStages
+pub mod SymbolicChecks

@@ -8,10 +8,12 @@ use Rattle.tt_code.specs.declared.reason.ReasonClass.{ReasonClass}
 use Rattle.tt_code.specs.declared.reason.ReasonClass.TheVariants.{PossibleFault, Undecided, LeftOut, Certificate}
 use Rattle.tt_cert.specs.declared.name.Name.{Name}
 use Rattle.tt_cert.specs.declared.name.Name.TheVariants as name
+use Rattle.hintcheck_words.specs.declared.words.Profile.{Profile}
 use Rattle.hintcheck.specs.Commands.{status_of}
 use Rattle.hintcheck.specs.CommandFaults.{IsFaultOfFontFile, IsWithin}
 use Rattle.hintcheck.specs.FaultTexts.{command_fault_text}
-use Rattle.hintcheck.specs.MeansSafe.{IsVerdictOn}
+use Rattle.hintcheck.specs.MeansSafe.{IsVerdictBy}
+use Rattle.hintcheck.specs.Texts.{profile_text}
 use Rattle.hintcheck.specs.Verdicts.{Judgement}
 use Rattle.hintcheck.specs.declared.commands.faults.CommandFault.{CommandFault}
 use Rattle.hintcheck.specs.declared.commands.faults.CommandFault.TheVariants as fault
@@ -22,11 +24,13 @@ pub data Answer : Type 0 where
   judged : Judgement → Answer
   unread : CommandFault → Answer
 
--- The verdict is that on the font in some bytes, since no contract of the runtime tells which bytes
--- a file has; or the fault is one of a font file, and a budget's only where there is a budget.
-abbrev pub IsAnswer : Option ℕ → Answer → Type 0
-IsAnswer budget (judged judgement) = (bytes : List ℕ) × IsVerdictOn bytes judgement
-IsAnswer budget (unread reported) = IsFaultOfFontFile reported × IsWithin budget reported
+-- The verdict is that of this profile on the font in some bytes, since no contract of the runtime
+-- tells which bytes a file has; or the fault is one of a font file, and a budget's only where there
+-- is a budget.
+abbrev pub IsAnswer : Profile → Option ℕ → Answer → Type 0
+IsAnswer profile budget (judged judgement) =
+    (bytes : List ℕ) × IsVerdictBy profile bytes judgement
+IsAnswer profile budget (unread reported) = IsFaultOfFontFile reported × IsWithin budget reported
 
 -- 0 where no program is refused, and 1 where some are
 abbrev pub status_of_refused : List Refused → ℕ
@@ -86,10 +90,12 @@ summary programs [] = codes "accepted: " ++ (decimal programs ++ codes " program
 summary programs (r ∷ rs) =
     codes "refused: " ++ refusal_text programs (r ∷ rs) (class_of r.reason) r.program
 
--- an answer in one line
-abbrev pub answer_text : Answer → List ℕ
-answer_text (judged judgement) = summary judgement.programs judgement.refused
-answer_text (unread reported) = codes "fault: " ++ unwrap_or (command_fault_text reported) []
+-- an answer in one line, which names the profile of a verdict
+abbrev pub answer_text : Profile → Answer → List ℕ
+answer_text profile (judged judgement) =
+    summary judgement.programs judgement.refused ++ profile_text profile
+answer_text profile (unread reported) =
+    codes "fault: " ++ unwrap_or (command_fault_text reported) []
 
 -- A font file that was scanned: its name, and what came of it.
 pub record Scanned : Type 0 where
@@ -97,24 +103,24 @@ pub record Scanned : Type 0 where
   pub answer : Answer
 
 -- its line
-abbrev pub line_of : Scanned → List ℕ
-line_of s = s.name ++ (codes ": " ++ (answer_text s.answer ++ codes "\n"))
+abbrev pub line_of : Profile → Scanned → List ℕ
+line_of profile s = s.name ++ (codes ": " ++ (answer_text profile s.answer ++ codes "\n"))
 
 -- the greatest exit status of font files, 0 of none
 abbrev pub greatest_status : List Scanned → ℕ
 greatest_status [] = 0
 greatest_status (s ∷ others) = max (status_of_answer s.answer) (greatest_status others)
 
--- The files with these names were scanned, each within this budget, this is the greatest exit
--- status of them, and their lines were written in the order of the names, where the written bytes
--- are known.
-pub record PrintsScan (budget : Option ℕ) (names : List (List ℕ)) (status : ℕ)
+-- The files with these names were scanned by this profile, each within this budget, this is the
+-- greatest exit status of them, and their lines were written in the order of the names, where the
+-- written bytes are known.
+pub record PrintsScan (profile : Profile) (budget : Option ℕ) (names : List (List ℕ)) (status : ℕ)
     (old new : Option (List ℕ)) : Type 0 where
   pub scanned : List Scanned
   pub names_are : map (λ s. s.name) scanned ≡ names
-  pub answers : All (λ s. IsAnswer budget s.answer) scanned
+  pub answers : All (λ s. IsAnswer profile budget s.answer) scanned
   pub greatest : status ≡ greatest_status scanned
-  pub written : Appends old new (flat_map line_of scanned)
+  pub written : Appends old new (flat_map (line_of profile) scanned)
 
 -- the fault is a scan's, which comes after the last line
 abbrev pub IsOfScan : CommandFault → Type 0

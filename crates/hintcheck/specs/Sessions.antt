@@ -18,14 +18,18 @@ use Rattle.hintcheck.specs.declared.report.Refused.{Refused}
 use Rattle.hintcheck.specs.declared.session.Outcome.{Outcome}
 
 -- Which program of the font is next: the font program; the CVT program, after a font program with
--- these instructions, where these functions are known at its end; the glyph program of this number,
--- if the font has one, after a font program and a CVT program with these instructions, where these
--- functions are known at the end of the CVT program; or none.
-pub data Stage : Type 0 where
-  at_start : Stage
-  after_font : List Instruction → List (ℕ × ℕ) → Stage
-  at_glyph : List Instruction → List Instruction → List (ℕ × ℕ) → ℕ → Stage
-  over : Stage
+-- these instructions, where this is known at its end; the glyph program of this number, if the font
+-- has one, after a font program and a CVT program with these instructions, where this is known at
+-- the end of the CVT program; or none. What is known is a list of parts of a type.
+pub data StageOf (K : Type 0) : Type 0 where
+  at_start : StageOf K
+  after_font : List Instruction → List K → StageOf K
+  at_glyph : List Instruction → List Instruction → List K → ℕ → StageOf K
+  over : StageOf K
+
+-- the same where functions are known, each by its number with its body
+abbrev pub Stage : Type 0
+Stage = StageOf (ℕ × ℕ)
 
 -- What a session keeps from one call to the next, as contracts see it: its font, which program is
 -- next, how far a certificate was read, and a fault.

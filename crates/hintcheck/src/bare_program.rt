@@ -3,19 +3,24 @@
 ghost use Rattle.std.specs.Prelude.{◌≡◌, ◌≤◌, ◌<◌, ◌^◌, ◌⊎◌, ◌↔◌, [], All, IfErr, IfOk, None, OnOk, length};
 ghost use Rattle.hintcheck.specs.FontPrograms.{IsSafeGlyph, glyph_subject};
 ghost use Rattle.hintcheck.specs.BarePrograms.{IsJudged, IsMemory, bare_font, bare_subject, font_around, glyph_with};
-ghost use Rattle.hintcheck.specs.Programs.{HasGoodFamily, IsRefusal};
+ghost use Rattle.hintcheck.specs.ProgramVerdicts.{IfRefused};
+ghost use Rattle.hintcheck.specs.Programs.{HasGoodFamily, HasLeastFamily, IsRefusal};
+ghost use Rattle.hintcheck.specs.Representation.Judges.{IsRefusedFor};
+ghost use Rattle.tt_cert.specs.declared.name.Name.TheVariants as name;
 ghost use Rattle.tt_code.specs.Faults.{IsMemory as IsMemoryAlone};
 ghost use Rattle.tt_font.specs.Reading.{GlyphData, glyph_data};
 ghost use Rattle.tt_font.specs.Conditions.{maxp_fault};
 
-use crate::font::{Common, judge_glyph};
-use crate::program::list_refused;
+use crate::finding::Finding;
+use crate::font::list_outcome;
+use crate::judge::Judge;
+use crate::program::{Search, cut};
+use crate::programs::refused as refused_outcome;
 use crate::report::{Name, Refused, Verdict};
 use std::alloc::{AllocError, Global};
-use tt_abs::Setting;
+use tt_abs::{Kind, Refusal, Setting};
 use tt_code::{CodeFault, Limits, Program};
 use tt_family::Budget;
-use tt_find::Finder;
 use tt_font::{FontFault, GlyphPart, read_maxp};
 
 /// Returns the error of a fault that is out of memory.
@@ -30,7 +35,7 @@ fn memory_error(fault: CodeFault) -> AllocError
 }
 
 /// Returns the program without instructions.
-fn empty_program(alloc: Global) -> Result<Program<'static>, AllocError>
+pub(crate) fn empty_program(alloc: Global) -> Result<Program<'static>, AllocError>
     ensures { IfOk result (λ program. program ≡ []) }
 {
     match Program::cut(alloc, &[]) {
@@ -38,6 +43,36 @@ fn empty_program(alloc: Global) -> Result<Program<'static>, AllocError>
         // No instruction passes the end of an empty program, and its structure is right.
         Err(fault) => Err(memory_error(fault)),
     }
+}
+
+/// Judges a program, which is that of a glyph of a font whose font program and CVT program are
+/// empty.
+///
+/// # Errors
+/// `Refused`; `OutOfMemory`.
+fn judge_bare(alloc: Global, limits: Limits, cvt: u16, glyph: &GlyphPart<'_>) -> Result<(), Refusal>
+    requires { length glyph.now.program.now < 2 ^ 31 }
+    ensures least { IfOk result (λ _. HasLeastFamily
+        (glyph_subject (font_around limits cvt) [] 0 (glyph_data glyph.now))) }
+    ensures refused { IfErr result (λ fault. IfRefused (name.Glyph 0) fault (IsRefusedFor
+        (glyph_subject (font_around limits cvt) [] 0 (glyph_data glyph.now)))) }
+{
+    let empty = empty_program(alloc)?;
+    let program = cut(alloc, glyph.program)?;
+    let setting = Setting {
+        limits,
+        cvt: u32::from(cvt),
+        kind: Kind::Glyph {
+            points: glyph.points,
+            contours: glyph.contours,
+        },
+        main: &program,
+        font: &empty,
+        prep: &empty,
+        start: &[],
+    };
+    let mut judge = Finding::new(alloc, Search::Verdict);
+    judge.judge(alloc, &setting, &[], &mut Budget::unlimited())
 }
 
 /// Returns the only program, `g0`, if it is refused: that of the glyph of a font whose font program
@@ -52,20 +87,15 @@ fn refused_programs(
     ensures { IfOk result (λ refused. IsJudged
         (glyph_subject (font_around limits cvt) [] 0 (glyph_data glyph.now)) refused.items) }
 {
-    let empty = empty_program(alloc)?;
-    let font_setting = Setting::for_font_program(limits, u32::from(cvt), &empty);
-    let common = Common {
-        setting: font_setting.for_cvt_program(&empty, &[]),
-        functions: &[],
-    };
-    let mut finder = Finder::new(alloc);
-    let mut refused = Vec::new(alloc);
-    let mut budget = Budget::unlimited();
-    match judge_glyph(alloc, &mut finder, &common, glyph, &mut budget) {
-        Ok(()) => {}
-        Err(fault) => list_refused(&mut refused, Name::Glyph(0), fault)?,
+    match judge_bare(alloc, limits, cvt, glyph) {
+        Ok(()) => Ok(Vec::new(alloc)),
+        Err(fault) => {
+            let outcome = refused_outcome(Name::Glyph(0), fault)?;
+            let mut refused = Vec::new(alloc);
+            list_outcome(&mut refused, outcome)?;
+            Ok(refused)
+        }
     }
-    Ok(refused)
 }
 
 /// Returns the verdict on one glyph program, `g0`, of at most 65,535 bytes, in a font whose font

@@ -13,15 +13,15 @@ ghost use Rattle.hintcheck.specs.FontPrograms.{IsFontInRange, IsSafeFont, IsVerd
 ghost use Rattle.hintcheck.specs.Representation.SessionStages.{AreSectionsFrom, AreSomeSections};
 ghost use Rattle.hintcheck.specs.Sessions.{at_start};
 
+use crate::finding::Finding;
 use crate::font::{read_font, refused_programs};
 use crate::program::Search;
+use crate::programs::Programs;
 use crate::report::Verdict;
-use crate::session::Session;
 use std::alloc::{AllocError, Global};
 use thiserror::Error;
 use tt_cert::{EncodeFault, Encoder, NEWEST_FORM, write_header};
 use tt_family::Budget;
-use tt_find::Finder;
 use tt_font::{Font, FontFault};
 use tt_stream::Sink;
 
@@ -96,20 +96,14 @@ fn write_sections<W: Sink>(
     ensures font { IfErr result IsFindFaultOutsideFontAndBudget }
     ensures spends { Spends budget.old budget.new }
 {
-    let mut session = Session::new(font);
-    let mut finder = Finder::new(alloc);
+    let mut programs = Programs::new(font);
+    let mut judge = Finding::new(alloc, Search::Writing);
     let mut encoder = Encoder::new(alloc);
-    while let Some((outcome, found)) = session.search_next(
-        alloc,
-        &mut finder,
-        Search::Writing,
-        budget,
-    )? {
+    while let Some(outcome) = programs.judge_next(alloc, &mut judge, budget)? {
         // The verdict refuses no program, so none is refused as it is found once more.
-        let found = found.unwrap();
-        found.certificate.order_facts();
-        encoder.encode(outcome.program, &found.certificate, sink)?;
-        finder.take_back(found.certificate);
+        let certificate = judge.certificate().unwrap();
+        certificate.order_facts();
+        encoder.encode(outcome.program, certificate, sink)?;
     }
     Ok(())
 }

@@ -6,7 +6,7 @@ ghost use Rattle.hintcheck_words.specs.Requests.{asked, is_taken};
 ghost use Rattle.hintcheck.specs.Commands.{IsForVerdict, IsNoWriteFault, TellsFailure, status_of};
 ghost use Rattle.hintcheck.specs.CommandFaults.{HasNoFault, IsFaultOfRequest, IsFaultOfTask, IsFaultOfWords, MeansNoFault, TellsFault};
 ghost use Rattle.hintcheck.specs.MeansSafe.{IsRefusedRequest, IsSafeRequest, IsVerdictAsked, MeansRefused, MeansSafe};
-ghost use Rattle.hintcheck.specs.Printed.{MeansPrinted, Prints, TellsScanned};
+ghost use Rattle.hintcheck.specs.Printed.{MeansPrinted, Prints, TellsScanned, profile_of};
 ghost use Rattle.hintcheck.specs.Scans.{IsOfScan};
 
 mod bare_task;
@@ -27,7 +27,7 @@ use check_task::check_verdict;
 use explain_task::explain_of_file;
 use faults::CommandFault;
 use find_task::find_verdict;
-use hintcheck_words::{Task, TaskFault, read_words};
+use hintcheck_words::{Profile, Task, TaskFault, read_words};
 use list_task::list_of_file;
 use scan_task::scan_fonts;
 use std::alloc::AllocError;
@@ -44,6 +44,22 @@ const ACCEPTED: u8 = 0;
 
 /// The exit status where a program is refused.
 const REFUSED: u8 = 1;
+
+/// Returns the profile by which what the task asks for is checked.
+#[tactic(auto, unfolding(hintcheck_words::specs::Requests::asked))]
+fn profile_of_task(task: &Task) -> Profile
+    ensures { result ≡ profile_of (asked task.now) }
+{
+    match task {
+        Task::Bare { profile, .. } | Task::Verdict { profile, .. } | Task::Scan { profile, .. } =>
+            *profile,
+        Task::Find { .. }
+        | Task::Check { .. }
+        | Task::Explain { .. }
+        | Task::List { .. }
+        | Task::Upgrade { .. } => Profile::Strict,
+    }
+}
 
 /// Returns the verdict that the task asks for.
 fn verdict_on<R: Files + AllocGlobal>(rt: &R, task: &Task) -> Result<Verdict, CommandFault>
@@ -63,6 +79,7 @@ fn verdict_on<R: Files + AllocGlobal>(rt: &R, task: &Task) -> Result<Verdict, Co
             points,
             contours,
             program,
+            profile,
         } => bare_verdict(
             rt.alloc(),
             maxp,
@@ -70,8 +87,13 @@ fn verdict_on<R: Files + AllocGlobal>(rt: &R, task: &Task) -> Result<Verdict, Co
             *points,
             *contours,
             word_or_empty(program),
+            *profile,
         ),
-        Task::Verdict { font, budget } => file_verdict(rt, font, *budget),
+        Task::Verdict {
+            font,
+            budget,
+            profile,
+        } => file_verdict(rt, font, *budget, *profile),
         Task::Find {
             font,
             certificate,
@@ -106,7 +128,11 @@ fn do_task<R: Files + AllocGlobal, O: Sink>(
     ensures none { OnOk result (HasNoFault (asked task.now)) }
 {
     match task {
-        Task::Scan { fonts, budget } => scan_fonts(rt, fonts, *budget, out),
+        Task::Scan {
+            fonts,
+            budget,
+            profile,
+        } => scan_fonts(rt, fonts, *budget, *profile, out),
         Task::Explain {
             font,
             program,
@@ -114,7 +140,7 @@ fn do_task<R: Files + AllocGlobal, O: Sink>(
         } => explain_of_file(rt, font, program, *offset, out),
         Task::List { font, program } => list_of_file(rt, font, program, out),
         Task::Upgrade { old, new } => tell_upgrade(rt, old, new, out),
-        task => tell_verdict(out, verdict_on(rt, task)?),
+        task => tell_verdict(out, verdict_on(rt, task)?, profile_of_task(task)),
     }
 }
 

@@ -1,34 +1,35 @@
 //! One program of a font, explained.
 
-ghost use Rattle.std.specs.Prelude.{◌≡◌, ℕ, ◌+◌, ◌≤◌, ◌<◌, ◌^◌, IfErr, IfOk, OnOk, false, is_some, length, true};
+ghost use Rattle.std.specs.Prelude.{◌≡◌, ◌≤◌, IfErr, IfOk, IfSome, None, OnOk, Some, false, is_some, true};
 ghost use Rattle.tt_abs.specs.Entries.{Ascends};
 ghost use Rattle.tt_abs.specs.Settings.{setting_of};
 ghost use Rattle.tt_abs.specs.StateFlow.{FunctionsFit};
-ghost use Rattle.tt_code.specs.Fonts.{font_setting};
-ghost use Rattle.tt_cert.specs.declared.name.Name.TheVariants as name;
 ghost use Rattle.hintcheck_explain.specs.Faults.{AsksForInstruction};
 ghost use Rattle.hintcheck.specs.Commands.{TellsFailure};
 ghost use Rattle.hintcheck.specs.CommandFaults.{IsFaultOfExplaining, IsFaultOfLines};
-ghost use Rattle.hintcheck.specs.Explanations.{HasPlace, HasPlaceIn, HoldAcceptedProgram, HoldPlace, HoldRefusedProgram, IsAnswered, RefusesProgram, TellsProgram};
-ghost use Rattle.hintcheck.specs.FontPrograms.{IsFontInRange, font_subject};
+ghost use Rattle.hintcheck.specs.Explanations.{HasPlace, HasPlaceIn, HoldAcceptedProgram, HoldPlace, HoldRefusedProgram, IsAnswered, IsRefusedIn, TellsProgram};
+ghost use Rattle.hintcheck.specs.FontPrograms.{IsFontInRange};
 ghost use Rattle.hintcheck.specs.Listing.{program_in};
-ghost use Rattle.hintcheck.specs.Representation.FontVerdicts.{font_in, glyph_in};
-ghost use Rattle.hintcheck.specs.Representation.ProgramEnds.{IsKnownEnd, cvt_after};
+ghost use Rattle.hintcheck.specs.Programs.{Subject};
+ghost use Rattle.hintcheck.specs.Sessions.{Stage, at_start};
+ghost use Rattle.hintcheck.specs.declared.session.Outcome.{Outcome as AnyOutcome};
+ghost use Rattle.hintcheck.specs.Representation.ProgramOrder.{IsNext, next_program, stage_of, start_at, with_start};
+ghost use Rattle.hintcheck.specs.Representation.SessionStages.{IsAt, KeepsKnown};
 
 use crate::asked_offset::check_offset;
 use crate::commands::faults::CommandFault;
-use crate::font::{
-    Common, Ended, cvt_setting, find_cvt_program, find_font_program, judge_glyph, read_font,
-};
+use crate::finding::Finding;
+use crate::font::read_font;
 use crate::instruction_list::named_program;
-use crate::program::{Search, cut, reported};
-use crate::report::Name;
+use crate::program::{Search, cut};
+use crate::programs::{FontPrograms, Next, Programs};
+use crate::report::{Name, Refused};
+use crate::session::Outcome;
 use hintcheck_explain::{Asked, explain, explain_unread};
 use std::alloc::{AllocError, Global};
 use tt_abs::{Refusal, Setting};
 use tt_family::Budget;
-use tt_find::Finder;
-use tt_font::{Font, GlyphPart};
+use tt_font::Font;
 use tt_stream::Sink;
 
 /// The exit status where the program is accepted.
@@ -73,160 +74,57 @@ fn explain_uncut<O: Sink>(
     }
 }
 
-/// Prints the explanation of the font program.
-fn tell_font_program<O: Sink>(
+/// Prints the explanation of the program that is next.
+fn tell_next<O: Sink>(
     alloc: Global,
-    font: &Font<'_>,
+    programs: &FontPrograms<'_>,
+    next: Next<'_>,
     offset: Option<u32>,
     out: &mut O,
 ) -> Result<(), CommandFault>
-    requires range { IsFontInRange font.now }
-    requires place { HasPlaceIn font.now name.Font offset }
+    requires next { IsNext programs.now.font.now (stage_of programs.now) next }
+    requires known { KeepsKnown programs.now.font.now (stage_of programs.now) }
+    requires place { HasPlace next.bytes.now offset }
     ensures failures { TellsFailure result (O.failures out.old) (O.failures out.new) }
     ensures faults { IfErr result IsFaultOfLines }
 {
     let asked = Asked {
-        program: Name::Font,
+        program: next.name,
         offset,
     };
-    match cut(alloc, font.fpgm()) {
+    match cut(alloc, next.bytes) {
         Ok(program) => {
-            let setting = Setting::for_font_program(font.limits(), font.cvt_count(), &program);
+            let setting = Setting {
+                start: programs.start(),
+                ..programs.setting(next.kind, &program)
+            };
             explain_in(alloc, &setting, asked, out)
         }
-        Err(fault) => explain_uncut(asked, font.fpgm(), fault, out),
+        Err(fault) => explain_uncut(asked, next.bytes, fault, out),
     }
 }
 
-/// Prints the explanation of the CVT program, in a font with this font program.
-fn tell_cvt_program<O: Sink>(
-    alloc: Global,
-    font: &Font<'_>,
-    fpgm: &Ended<'_>,
-    offset: Option<u32>,
-    out: &mut O,
-) -> Result<(), CommandFault>
-    requires range { IsFontInRange font.now }
-    requires ended { IsKnownEnd (font_subject font.now) fpgm.now }
-    requires place { HasPlaceIn font.now name.Cvt offset }
-    ensures failures { TellsFailure result (O.failures out.old) (O.failures out.new) }
-    ensures faults { IfErr result IsFaultOfLines }
-{
-    let asked = Asked {
-        program: Name::Cvt,
-        offset,
-    };
-    match cut(alloc, font.prep()) {
-        Ok(program) => explain_in(alloc, &cvt_setting(font, fpgm, &program), asked, out),
-        Err(fault) => explain_uncut(asked, font.prep(), fault, out),
-    }
-}
-
-/// Prints the explanation of a glyph program.
-fn tell_glyph_program<O: Sink>(
-    alloc: Global,
-    common: &Common<'_>,
-    glyph: &GlyphPart<'_>,
-    asked: Asked,
-    out: &mut O,
-) -> Result<(), CommandFault>
-    requires few { length glyph.now.program.now < 2 ^ 31 }
-    requires ascends { Ascends common.now.functions.now }
-    requires fits { FunctionsFit (font_setting (font_in common.now)) common.now.functions.now }
-    requires place { HasPlace glyph.now.program.now asked.offset }
-    ensures failures { TellsFailure result (O.failures out.old) (O.failures out.new) }
-    ensures faults { IfErr result IsFaultOfLines }
-{
-    match cut(alloc, glyph.program) {
-        Ok(program) => {
-            let setting = common
-                .setting
-                .for_glyph_program(glyph.points, glyph.contours, &program, common.functions);
-            explain_in(alloc, &setting, asked, out)
-        }
-        Err(fault) => explain_uncut(asked, glyph.program, fault, out),
-    }
-}
-
-/// Returns that a program isn't accepted, since the fault refuses it.
-///
-/// # Errors
-/// `OutOfMemory` where the fault is out of memory, which refuses nothing.
-fn refused_by(fault: Refusal) -> Result<bool, CommandFault>
-    ensures refused { IfOk result (λ accepted. (accepted ≡ false) × RefusesProgram fault) }
-    ensures faults { IfErr result (λ fault. fault ≡ CommandFault.OutOfMemory) }
-{
-    match fault {
-        Refusal::Refused { .. } => Ok(false),
-        Refusal::OutOfMemory(AllocError) => Err(CommandFault::OutOfMemory),
-    }
-}
-
-/// Whether the font program is accepted.
+/// Whether the program that is next is accepted.
 ///
 /// # Errors
 /// `OutOfMemory`.
-fn judge_font_program(alloc: Global, font: &Font<'_>) -> Result<bool, CommandFault>
-    requires { IsFontInRange font.now }
-    ensures judged { IfOk result (IsAnswered (font_subject font.now)) }
-    ensures faults { IfErr result (λ fault. fault ≡ CommandFault.OutOfMemory) }
-{
-    let mut finder = Finder::new(alloc);
-    let mut budget = Budget::unlimited();
-    match find_font_program(alloc, &mut finder, font, Search::Verdict, &mut budget) {
-        Ok((_fpgm, found)) => {
-            finder.take_back(found.certificate);
-            Ok(true)
-        }
-        Err(fault) => refused_by(fault),
-    }
-}
-
-/// Whether the CVT program is accepted, in a font with this font program.
-///
-/// # Errors
-/// `OutOfMemory`.
-fn judge_cvt_program(
+fn is_accepted<'a>(
     alloc: Global,
-    finder: &mut Finder,
-    font: &Font<'_>,
-    fpgm: &Ended<'_>,
+    programs: &FontPrograms<'a>,
+    next: Next<'a>,
+    judge: &mut Finding,
 ) -> Result<bool, CommandFault>
-    requires range { IsFontInRange font.now }
-    requires ended { IsKnownEnd (font_subject font.now) fpgm.now }
-    ensures judged { IfOk result (IsAnswered (cvt_after font.now fpgm.now)) }
+    requires next { IsNext programs.now.font.now (stage_of programs.now) next }
+    requires known { KeepsKnown programs.now.font.now (stage_of programs.now) }
+    ensures judged { (x : Subject)
+        → next_program programs.now.font.now (stage_of programs.now) ≡ Some x → IfOk result
+        (IsAnswered (with_start x (start_at (stage_of programs.now)))) }
     ensures faults { IfErr result (λ fault. fault ≡ CommandFault.OutOfMemory) }
 {
-    let mut budget = Budget::unlimited();
-    match find_cvt_program(alloc, finder, font, fpgm, Search::Verdict, &mut budget) {
-        Ok((_prep, found)) => {
-            finder.take_back(found.certificate);
-            Ok(true)
-        }
-        Err(fault) => refused_by(fault),
-    }
-}
-
-/// Whether a glyph program is accepted.
-///
-/// # Errors
-/// `OutOfMemory`.
-fn judge_glyph_program(
-    alloc: Global,
-    finder: &mut Finder,
-    common: &Common<'_>,
-    glyph: &GlyphPart<'_>,
-) -> Result<bool, CommandFault>
-    requires few { length glyph.now.program.now < 2 ^ 31 }
-    requires ascends { Ascends common.now.functions.now }
-    requires fits { FunctionsFit (font_setting (font_in common.now)) common.now.functions.now }
-    ensures judged { (id : ℕ) → IfOk result (IsAnswered (glyph_in common.now id glyph.now)) }
-    ensures faults { IfErr result (λ fault. fault ≡ CommandFault.OutOfMemory) }
-{
-    let mut budget = Budget::unlimited();
-    match judge_glyph(alloc, finder, common, glyph, &mut budget) {
-        Ok(()) => Ok(true),
-        Err(fault) => refused_by(fault),
+    match programs.judge(alloc, next, judge, &mut Budget::unlimited()) {
+        Ok(_ended) => Ok(true),
+        Err(Refusal::Refused { .. }) => Ok(false),
+        Err(Refusal::OutOfMemory(AllocError)) => Err(CommandFault::OutOfMemory),
     }
 }
 
@@ -249,189 +147,59 @@ fn called(program: Name) -> &'static str {
 
 /// Prints that a program isn't checked, since this one before it is refused, and returns the exit
 /// status.
+fn tell_unchecked<O: Sink>(refused: Refused, out: &mut O) -> Result<u8, CommandFault>
+    ensures status { IfOk result (λ status. status ≡ 1) }
+    ensures failures { TellsFailure result (O.failures out.old) (O.failures out.new) }
+    ensures faults { IfErr result IsFaultOfLines }
+{
+    let program = called(refused.program);
+    writeln!(out, "not checked: the {program} is refused\n{refused}")?;
+    Ok(REFUSED)
+}
+
+/// Returns how an outcome refuses its program, if there is one and it does.
+fn refused_by(outcome: Option<Outcome>) -> Option<Refused>
+    ensures some { (o : AnyOutcome) → outcome ≡ Some o → result ≡ o.refused }
+    ensures none { outcome ≡ None → result ≡ None }
+{
+    match outcome {
+        Some(one) => one.refused,
+        None => None,
+    }
+}
+
+/// Judges the programs on which the one of this name depends, which is then the next one: returns
+/// the refused one among them, if one is.
 ///
 /// # Errors
-/// `OutOfMemory` where the fault is out of memory, which refuses nothing; `Write`.
-fn tell_unchecked<O: Sink>(before: Name, fault: Refusal, out: &mut O) -> Result<u8, CommandFault>
-    ensures status { IfOk result (λ status. status ≡ 1) }
-    ensures refused { OnOk result (RefusesProgram fault) }
-    ensures failures { TellsFailure result (O.failures out.old) (O.failures out.new) }
-    ensures faults { IfErr result IsFaultOfLines }
-{
-    match fault {
-        Refusal::Refused {
-            spot,
-            offset,
-            reason,
-        } => {
-            let refused = reported(before, spot, offset, reason);
-            let program = called(before);
-            writeln!(out, "not checked: the {program} is refused\n{refused}")?;
-            Ok(REFUSED)
-        }
-        Refusal::OutOfMemory(AllocError) => Err(CommandFault::OutOfMemory),
-    }
-}
-
-/// Explains the font program, and returns the exit status.
-fn explain_font_program<O: Sink>(
+/// `OutOfMemory`.
+fn refused_before<'a>(
     alloc: Global,
-    font: &Font<'_>,
-    offset: Option<u32>,
-    out: &mut O,
-) -> Result<u8, CommandFault>
-    requires range { IsFontInRange font.now }
-    requires place { HasPlaceIn font.now name.Font offset }
-    ensures status { IfOk result (λ status. status ≤ 1) }
-    ensures tells { IfOk result (TellsProgram font.now name.Font) }
-    ensures failures { TellsFailure result (O.failures out.old) (O.failures out.new) }
-    ensures faults { IfErr result IsFaultOfLines }
-{
-    let accepted = judge_font_program(alloc, font)?;
-    tell_font_program(alloc, font, offset, out)?;
-    Ok(exit_status(accepted))
-}
-
-/// Explains the CVT program, in a font with this font program, and returns the exit status.
-fn explain_cvt_after<O: Sink>(
-    alloc: Global,
-    finder: &mut Finder,
-    font: &Font<'_>,
-    fpgm: &Ended<'_>,
-    offset: Option<u32>,
-    out: &mut O,
-) -> Result<u8, CommandFault>
-    requires range { IsFontInRange font.now }
-    requires ended { IsKnownEnd (font_subject font.now) fpgm.now }
-    requires place { HasPlaceIn font.now name.Cvt offset }
-    ensures status { IfOk result (λ status. status ≤ 1) }
-    ensures tells { IfOk result (TellsProgram font.now name.Cvt) }
-    ensures failures { TellsFailure result (O.failures out.old) (O.failures out.new) }
-    ensures faults { IfErr result IsFaultOfLines }
-{
-    let accepted = judge_cvt_program(alloc, finder, font, fpgm)?;
-    tell_cvt_program(alloc, font, fpgm, offset, out)?;
-    Ok(exit_status(accepted))
-}
-
-/// Explains the CVT program, or tells that the font program is refused, and returns the exit
-/// status.
-fn explain_cvt_program<O: Sink>(
-    alloc: Global,
-    font: &Font<'_>,
-    offset: Option<u32>,
-    out: &mut O,
-) -> Result<u8, CommandFault>
-    requires range { IsFontInRange font.now }
-    requires place { HasPlaceIn font.now name.Cvt offset }
-    ensures status { IfOk result (λ status. status ≤ 1) }
-    ensures tells { IfOk result (TellsProgram font.now name.Cvt) }
-    ensures failures { TellsFailure result (O.failures out.old) (O.failures out.new) }
-    ensures faults { IfErr result IsFaultOfLines }
-{
-    let mut finder = Finder::new(alloc);
-    let mut budget = Budget::unlimited();
-    match find_font_program(alloc, &mut finder, font, Search::Verdict, &mut budget) {
-        Ok((fpgm, found)) => {
-            finder.take_back(found.certificate);
-            explain_cvt_after(alloc, &mut finder, font, &fpgm, offset, out)
-        }
-        Err(fault) => tell_unchecked(Name::Font, fault, out),
-    }
-}
-
-/// Explains the program of the glyph of this number, in a font with these programs, and returns the
-/// exit status.
-fn explain_glyph_after<O: Sink>(
-    alloc: Global,
-    finder: &mut Finder,
-    font: &Font<'_>,
-    fpgm: &Ended<'_>,
-    prep: &Ended<'_>,
-    id: u16,
-    offset: Option<u32>,
-    out: &mut O,
-) -> Result<u8, CommandFault>
-    requires range { IsFontInRange font.now }
-    requires ended { IsKnownEnd (font_subject font.now) fpgm.now }
-    requires cvt_ended { IsKnownEnd (cvt_after font.now fpgm.now) prep.now }
-    requires there { id < length font.now.glyphs }
-    requires place { HasPlaceIn font.now (name.Glyph id) offset }
-    ensures status { IfOk result (λ status. status ≤ 1) }
-    ensures tells { IfOk result (TellsProgram font.now (name.Glyph id)) }
-    ensures failures { TellsFailure result (O.failures out.old) (O.failures out.new) }
-    ensures faults { IfErr result IsFaultOfLines }
-{
-    let glyph = font.glyph(id).unwrap();
-    let common = Common {
-        setting: cvt_setting(font, fpgm, &prep.program),
-        functions: &prep.functions,
-    };
-    let asked = Asked {
-        program: Name::Glyph(id),
-        offset,
-    };
-    let accepted = judge_glyph_program(alloc, finder, &common, &glyph)?;
-    tell_glyph_program(alloc, &common, &glyph, asked, out)?;
-    Ok(exit_status(accepted))
-}
-
-/// Explains the program of the glyph of this number, in a font with this font program, or tells
-/// that the CVT program is refused, and returns the exit status.
-fn explain_glyph_after_font<O: Sink>(
-    alloc: Global,
-    finder: &mut Finder,
-    font: &Font<'_>,
-    fpgm: &Ended<'_>,
-    id: u16,
-    offset: Option<u32>,
-    out: &mut O,
-) -> Result<u8, CommandFault>
-    requires range { IsFontInRange font.now }
-    requires ended { IsKnownEnd (font_subject font.now) fpgm.now }
-    requires there { id < length font.now.glyphs }
-    requires place { HasPlaceIn font.now (name.Glyph id) offset }
-    ensures status { IfOk result (λ status. status ≤ 1) }
-    ensures tells { IfOk result (TellsProgram font.now (name.Glyph id)) }
-    ensures failures { TellsFailure result (O.failures out.old) (O.failures out.new) }
-    ensures faults { IfErr result IsFaultOfLines }
+    programs: &mut FontPrograms<'a>,
+    judge: &mut Finding,
+    called: Name,
+) -> Result<Option<Refused>, CommandFault>
+    requires range { IsFontInRange programs.old.font.now }
+    requires start { stage_of programs.old ≡ at_start }
+    requires there { is_some (program_in programs.old.font.now called) ≡ true }
+    ensures font { programs.new.font ≡ programs.old.font }
+    ensures refused { IfOk result
+        (λ refused. IfSome refused (λ _. IsRefusedIn programs.new.font.now called)) }
+    ensures there { IfOk result (λ refused. refused ≡ None
+        → IsAt programs.new.font.now called (stage_of programs.new)) }
+    ensures faults { IfErr result (λ fault. fault ≡ CommandFault.OutOfMemory) }
 {
     let mut budget = Budget::unlimited();
-    match find_cvt_program(alloc, finder, font, fpgm, Search::Verdict, &mut budget) {
-        Ok((prep, found)) => {
-            finder.take_back(found.certificate);
-            explain_glyph_after(alloc, finder, font, fpgm, &prep, id, offset, out)
+    while !programs.is_at(called) {
+        let Ok(outcome) = programs.judge_next(alloc, judge, &mut budget) else {
+            return Err(CommandFault::OutOfMemory);
+        };
+        if let Some(refused) = refused_by(outcome) {
+            return Ok(Some(refused));
         }
-        Err(fault) => tell_unchecked(Name::Cvt, fault, out),
     }
-}
-
-/// Explains the program of the glyph of this number, or tells that the font program or the CVT
-/// program is refused, and returns the exit status.
-fn explain_glyph_program<O: Sink>(
-    alloc: Global,
-    font: &Font<'_>,
-    id: u16,
-    offset: Option<u32>,
-    out: &mut O,
-) -> Result<u8, CommandFault>
-    requires range { IsFontInRange font.now }
-    requires there { id < length font.now.glyphs }
-    requires place { HasPlaceIn font.now (name.Glyph id) offset }
-    ensures status { IfOk result (λ status. status ≤ 1) }
-    ensures tells { IfOk result (TellsProgram font.now (name.Glyph id)) }
-    ensures failures { TellsFailure result (O.failures out.old) (O.failures out.new) }
-    ensures faults { IfErr result IsFaultOfLines }
-{
-    let mut finder = Finder::new(alloc);
-    let mut budget = Budget::unlimited();
-    match find_font_program(alloc, &mut finder, font, Search::Verdict, &mut budget) {
-        Ok((fpgm, found)) => {
-            finder.take_back(found.certificate);
-            explain_glyph_after_font(alloc, &mut finder, font, &fpgm, id, offset, out)
-        }
-        Err(fault) => tell_unchecked(Name::Font, fault, out),
-    }
+    programs.skip_to(called);
+    Ok(None)
 }
 
 /// Explains the font's program of this name, and returns the exit status.
@@ -450,11 +218,15 @@ fn explain_named<O: Sink>(
     ensures failures { TellsFailure result (O.failures out.old) (O.failures out.new) }
     ensures faults { IfErr result IsFaultOfLines }
 {
-    match called {
-        Name::Font => explain_font_program(alloc, font, offset, out),
-        Name::Cvt => explain_cvt_program(alloc, font, offset, out),
-        Name::Glyph(id) => explain_glyph_program(alloc, font, id, offset, out),
+    let mut programs = Programs::new(font);
+    let mut judge = Finding::new(alloc, Search::Verdict);
+    if let Some(refused) = refused_before(alloc, &mut programs, &mut judge, called)? {
+        return tell_unchecked(refused, out);
     }
+    let next = programs.next().unwrap();
+    let accepted = is_accepted(alloc, &programs, next, &mut judge)?;
+    tell_next(alloc, &programs, next, offset, out)?;
+    Ok(exit_status(accepted))
 }
 
 /// Explains one program of the font in these bytes, the one that the word names, and returns the

@@ -1,37 +1,28 @@
 //! The check of a font by its certificate: each program by the family that its section lists.
 
-ghost use Rattle.std.specs.Prelude.{◌≡◌, ℕ, ◌+◌, ◌<◌, ◌^◌, [], IfErr, IfOk, Ok, Err, OnOk, length};
-ghost use Rattle.tt_abs.specs.Entries.{Ascends};
-ghost use Rattle.tt_abs.specs.Settings.{setting_of};
+ghost use Rattle.std.specs.Prelude.{◌≡◌, ◌+◌, [], IfErr, IfOk, Ok, Err, length};
 ghost use Rattle.tt_family.specs.Budgets.{Spends};
-ghost use Rattle.tt_family.specs.Checks.{IsOutOfMemory, Names};
 ghost use Rattle.tt_font.specs.FileFaults.{font_fault};
 ghost use Rattle.tt_font.specs.Reading.{FontData, Reads};
 ghost use Rattle.tt_stream.specs.Reads.{ConsumesBeginning};
 ghost use Rattle.hintcheck.specs.BudgetAnswers.{CheckTellsBudget, CheckWithinTellsFontFault, IsCheckFaultOutsideFont};
 ghost use Rattle.hintcheck.specs.CertificateFaults.{CheckTellsFontFault, CountsCheck, IsCheckFaultOutsideFontAndBudget};
-ghost use Rattle.hintcheck.specs.Certificates.{IsChecked, IsListingBrokenFirst, PassesToEnd};
-ghost use Rattle.hintcheck.specs.CheckedFonts.{AnswersFinding, Finds, HasGoodFamilies, IsGoodAtEnd, IsLeftBy, IsPassed, IsRefusedBy, IsTold, bytes_in};
+ghost use Rattle.hintcheck.specs.Certificates.{IsChecked};
+ghost use Rattle.hintcheck.specs.CheckedFonts.{AnswersFinding, Finds, HasGoodFamilies, IsLeftBy, IsTold, bytes_in};
 ghost use Rattle.hintcheck.specs.FailedReads.{HasRead, IsCutHeader, IsUnbroken, IsUnbrokenFor};
-ghost use Rattle.hintcheck.specs.Representation.FontVerdicts.{ComesToEnd, HasSubject, glyph_in};
-ghost use Rattle.hintcheck.specs.FontPrograms.{IsFontInRange, IsSafeFont, font_subject};
-ghost use Rattle.hintcheck.specs.ProgramVerdicts.{IsFilledIn, IsListedIn, IsSubjectOf};
-ghost use Rattle.hintcheck.specs.Programs.{HasGoodFamily, Subject};
-ghost use Rattle.hintcheck.specs.Representation.SessionStages.{HasHeader, ListsOutcome};
+ghost use Rattle.hintcheck.specs.FontPrograms.{IsFontInRange, IsSafeFont};
+ghost use Rattle.hintcheck.specs.Representation.SessionStages.{HasHeader};
 ghost use Rattle.hintcheck.specs.Sessions.{IsHeaderFault};
-ghost use Rattle.hintcheck.specs.Representation.ProgramEnds.{IsGoodEnd, IsPassedEnd, cvt_after};
 
-use crate::font::{Common, Ended, cvt_setting, read_font};
-use crate::program::cut;
+use crate::font::{list_outcome, read_font};
 use crate::report::{Refused, Verdict};
 use crate::sections::{HEADER, Progress, SECTIONS};
-use crate::session::{Outcome, Session};
+use crate::session::Session;
 use std::alloc::{AllocError, Global};
 use thiserror::Error;
-use tt_abs::{Refusal, Setting};
-use tt_cert::{DecodeFault, Form, read_form};
-use tt_family::{Budget, Certificate, check_full_within, check_within};
-use tt_font::{Font, FontFault, GlyphPart};
+use tt_cert::{DecodeFault, read_form};
+use tt_family::Budget;
+use tt_font::{Font, FontFault};
 use tt_stream::Source;
 
 /// Why a font isn't checked by its certificate.
@@ -115,148 +106,6 @@ pub(crate) fn read_start<S: Source>(
         form,
         place: HEADER,
     })
-}
-
-/// Checks a program by its section of this form. In form 1 a family lists each state, and has to be
-/// good as it is listed; in a later form it may leave states out, and has to have a good filling.
-///
-/// # Errors
-/// `Refused` where the family isn't good in form 1, or has no good filling in a later one;
-/// `OutOfMemory`.
-fn check_section(
-    alloc: Global,
-    setting: &Setting<'_>,
-    certificate: &Certificate,
-    form: Form,
-    budget: &mut Budget,
-) -> Result<(), Refusal>
-    requires { Ascends setting.now.start.now }
-    ensures good { OnOk result (IsFilledIn setting.now certificate.now) }
-    ensures listing { OnOk result (IsListedIn form setting.now certificate.now) }
-    ensures first { IfErr result (Names (IsListingBrokenFirst form (setting_of setting.now)
-        setting.now.start.now certificate.now)) }
-    ensures exact { IsListedIn form setting.now certificate.now → IfErr result IsOutOfMemory }
-    ensures spends { Spends budget.old budget.new }
-{
-    match form {
-        Form::One => check_full_within(alloc, setting, certificate, budget),
-        Form::Two | Form::Three | Form::Four => {
-            check_within(alloc, setting, certificate, budget)
-        }
-    }
-}
-
-/// Checks the font program or the CVT program of this setting by its certificate, and returns the
-/// functions that are known where the program ends.
-fn certified_functions(
-    alloc: Global,
-    setting: &Setting<'_>,
-    certificate: &Certificate,
-    form: Form,
-    budget: &mut Budget,
-) -> Result<Vec<(u16, u32)>, Refusal>
-    requires subject { HasSubject setting.now }
-    requires ends { ComesToEnd (setting_of setting.now).kind }
-    requires ascends { Ascends setting.now.start.now }
-    ensures known { (x : Subject) → IsSubjectOf x setting.now
-        → IfOk result (λ functions. IsGoodAtEnd x setting.now.main.now functions.items) }
-    ensures passed { (x : Subject) → IsSubjectOf x setting.now → IfOk result
-        (λ functions. PassesToEnd form x setting.now.main.now certificate.now functions.items) }
-    ensures refused { (x : Subject) → IsSubjectOf x setting.now
-        → IfErr result (IsRefusedBy form x certificate.now) }
-    ensures spends { Spends budget.old budget.new }
-{
-    check_section(alloc, setting, certificate, form, budget)?;
-    // A checked font program or CVT program has a state at its end.
-    let functions = certificate.end_functions(setting.main.len()).unwrap();
-    Ok(Vec::from_slice(alloc, functions)?)
-}
-
-/// Checks the font program by its certificate.
-///
-/// # Errors
-/// `Refused`; `OutOfMemory`.
-pub(crate) fn check_font_program<'a>(
-    alloc: Global,
-    font: &Font<'a>,
-    certificate: &Certificate,
-    form: Form,
-    budget: &mut Budget,
-) -> Result<Ended<'a>, Refusal>
-    requires { IsFontInRange font.now }
-    ensures known { IfOk result (IsGoodEnd (font_subject font.now)) }
-    ensures passed { IfOk result (IsPassedEnd form (font_subject font.now) certificate.now) }
-    ensures refused { IfErr result (IsRefusedBy form (font_subject font.now) certificate.now) }
-    ensures spends { Spends budget.old budget.new }
-{
-    let program = cut(alloc, font.fpgm())?;
-    let setting = Setting::for_font_program(font.limits(), font.cvt_count(), &program);
-    let functions = certified_functions(alloc, &setting, certificate, form, budget)?;
-    Ok(Ended { program, functions })
-}
-
-/// Checks the CVT program by its certificate, in a font with this font program.
-///
-/// # Errors
-/// `Refused`; `OutOfMemory`.
-pub(crate) fn check_cvt_program<'a>(
-    alloc: Global,
-    font: &Font<'a>,
-    fpgm: &Ended<'_>,
-    certificate: &Certificate,
-    form: Form,
-    budget: &mut Budget,
-) -> Result<Ended<'a>, Refusal>
-    requires range { IsFontInRange font.now }
-    requires ascends { Ascends fpgm.now.functions.items }
-    ensures known { IfOk result (IsGoodEnd (cvt_after font.now fpgm.now)) }
-    ensures passed { IfOk result (IsPassedEnd form (cvt_after font.now fpgm.now) certificate.now) }
-    ensures refused { IfErr result
-        (IsRefusedBy form (cvt_after font.now fpgm.now) certificate.now) }
-    ensures spends { Spends budget.old budget.new }
-{
-    let program = cut(alloc, font.prep())?;
-    let setting = cvt_setting(font, fpgm, &program);
-    let functions = certified_functions(alloc, &setting, certificate, form, budget)?;
-    Ok(Ended { program, functions })
-}
-
-/// Checks the program of a glyph by its certificate.
-///
-/// # Errors
-/// `Refused`; `OutOfMemory`.
-pub(crate) fn check_glyph_program(
-    alloc: Global,
-    common: &Common<'_>,
-    glyph: &GlyphPart<'_>,
-    certificate: &Certificate,
-    form: Form,
-    budget: &mut Budget,
-) -> Result<(), Refusal>
-    requires few { length glyph.now.program.now < 2 ^ 31 }
-    requires ascends { Ascends common.now.functions.now }
-    ensures good { (id : ℕ) → OnOk result (HasGoodFamily (glyph_in common.now id glyph.now)) }
-    ensures passed { (id : ℕ)
-        → OnOk result (IsPassed form (glyph_in common.now id glyph.now) certificate.now) }
-    ensures refused { (id : ℕ)
-        → IfErr result (IsRefusedBy form (glyph_in common.now id glyph.now) certificate.now) }
-    ensures spends { Spends budget.old budget.new }
-{
-    let program = cut(alloc, glyph.program)?;
-    let setting = common
-        .setting
-        .for_glyph_program(glyph.points, glyph.contours, &program, common.functions);
-    check_section(alloc, &setting, certificate, form, budget)
-}
-
-/// Adds the outcome's program to the list of the refused ones, if it is refused.
-fn list_outcome(refused: &mut Vec<Refused>, outcome: Outcome) -> Result<(), AllocError>
-    ensures { OnOk result (ListsOutcome refused.old.items outcome.refused refused.new.items) }
-{
-    if let Some(one) = outcome.refused {
-        refused.push(one)?;
-    }
-    Ok(())
 }
 
 /// Checks the programs of a font, one after the other, by the certificate that is left in the

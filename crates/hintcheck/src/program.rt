@@ -1,7 +1,7 @@
 //! The verdict on one program: it is cut, a family of abstract states is found for it, and that
 //! family is checked, except where it is found once more to be written.
 
-ghost use Rattle.std.specs.Prelude.{◌≡◌, ◌⊎◌, ℕ, ◌<◌, ◌^◌, List, IfErr, IfOk, OnOk, length};
+ghost use Rattle.std.specs.Prelude.{◌≡◌, ◌⊎◌, ℕ, ◌<◌, ◌^◌, List, IfErr, IfOk, OnOk, length, true};
 ghost use Rattle.tt_code.specs.Cut.{Instruction, IsCut};
 ghost use Rattle.tt_code.specs.Grammar.{IsStructured};
 ghost use Rattle.tt_code.specs.Settings.{GlyphProgram};
@@ -10,16 +10,16 @@ ghost use Rattle.tt_abs.specs.Settings.{setting_of};
 ghost use Rattle.tt_abs.specs.StateFlow.{FunctionsFit};
 ghost use Rattle.tt_family.specs.Budgets.{Spends};
 ghost use Rattle.tt_family.specs.Checks.{IsOutOfMemory};
-ghost use Rattle.tt_family.specs.Contents.{Contents, family_of};
-ghost use Rattle.tt_cert.specs.declared.form.Form.{Form};
+ghost use Rattle.tt_family.specs.Contents.{family_of};
+ghost use Rattle.tt_cert.specs.declared.name.Name.{Name as ProgramName};
 ghost use Rattle.tt_find.specs.Found.{AreLeastContexts, HasLeastFilling, IsJustified, IsNeverEnding, NamesPlace, NeedsAll, NoneIsGood};
-ghost use Rattle.hintcheck.specs.CheckedFonts.{IsRefusedBy};
 ghost use Rattle.hintcheck.specs.FindingSessions.{IsFoundFor};
-ghost use Rattle.hintcheck.specs.Programs.{IsCutInto, Subject, program_at as program_at_spot};
-ghost use Rattle.hintcheck.specs.ProgramVerdicts.{IsAccepted, IsAppendedRefusal, IsFaultOfProgram, IsFilledIn, IsForCertificate, IsSubjectOf, NoneIsGoodFor, reported_at};
+ghost use Rattle.hintcheck.specs.Programs.{Subject, program_at as program_at_spot};
+ghost use Rattle.hintcheck.specs.ProgramVerdicts.{IfRefused, IsAccepted, IsFaultOfProgram, IsFilledIn, IsForCertificate, IsSubjectOf, NoneIsGoodFor, reported_at};
+ghost use Rattle.hintcheck.specs.Representation.ProgramOrder.{IsUncut};
 
 use crate::report::{Name, Place, Refused};
-use std::alloc::{AllocError, Global};
+use std::alloc::Global;
 use tt_abs::{Refusal, Setting, Spot};
 use tt_code::{CodeFault, Program, Reason};
 use tt_family::{Budget, check_within};
@@ -51,30 +51,6 @@ pub(crate) fn reported(name: Name, spot: Spot, offset: u32, reason: Reason) -> R
     }
 }
 
-/// Adds the program of this name, which the fault refuses, to the list of the refused ones.
-///
-/// # Errors
-/// If the fault is out of memory, which refuses nothing; if the list doesn't grow.
-pub(crate) fn list_refused(
-    refused: &mut Vec<Refused>,
-    name: Name,
-    fault: Refusal,
-) -> Result<(), AllocError>
-    ensures { OnOk result (IsAppendedRefusal name fault refused.old.items refused.new.items) }
-{
-    match fault {
-        Refusal::Refused {
-            spot,
-            offset,
-            reason,
-        } => {
-            refused.push(reported(name, spot, offset, reason))?;
-            Ok(())
-        }
-        Refusal::OutOfMemory(error) => Err(error),
-    }
-}
-
 /// Returns the fault of a program that is refused at this offset of its own bytes.
 fn refused_at(offset: u32, reason: Reason) -> Refusal
     ensures { result ≡ Refusal.Refused Spot.Main offset reason }
@@ -92,14 +68,10 @@ fn refused_at(offset: u32, reason: Reason) -> Refusal
 /// `Refused` where they can't be cut or their structure is wrong; `OutOfMemory`.
 pub(crate) fn cut<'a>(alloc: Global, bytes: &'a [u8]) -> Result<Program<'a>, Refusal>
     requires { length bytes.now < 2 ^ 31 }
-    ensures cut { (x : Subject) → x.bytes ≡ bytes.entry.now
-        → IfOk result (λ program. IsCutInto x program) }
-    ensures refused { (x : Subject) → x.bytes ≡ bytes.entry.now
-        → IfErr result (IsFaultOfProgram x) }
-    ensures none_good { (x : Subject) → x.bytes ≡ bytes.entry.now
-        → IfErr result (NoneIsGoodFor x) }
-    ensures uncut { (x : Subject) (form : Form) (family : Contents) → x.bytes ≡ bytes.entry.now
-        → IfErr result (IsRefusedBy form x family) }
+    ensures cut { IfOk result (λ program.
+        IsCut bytes.entry.now program × IsStructured program) }
+    ensures uncut { (called : ProgramName)
+        → IfErr result (λ fault. IfRefused called fault (IsUncut called bytes.entry.now)) }
     ensures only { (instructions : List Instruction) → IsCut bytes.entry.now instructions
         → IsStructured instructions → IfErr result IsOutOfMemory }
 {
@@ -147,6 +119,18 @@ pub(crate) enum Search {
     /// after the verdict. Nothing is checked once more: that the family has a good filling is the
     /// finder's promise.
     Writing,
+}
+
+impl Search {
+    /// Whether only a verdict is wanted.
+    pub(crate) fn is_for_verdict(self) -> bool
+        ensures { result ≡ true → IsForCertificate self → ⊥ }
+    {
+        match self {
+            Search::Verdict => true,
+            Search::Certificate | Search::Writing => false,
+        }
+    }
 }
 
 /// Finds the family of abstract states of the program of this setting: one that is for a

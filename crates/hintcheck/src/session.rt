@@ -1,8 +1,7 @@
 //! The programs of a font, one a call: each is checked by its section of a certificate, or its
 //! family is found anew. A session holds one certificate at a time.
 
-ghost use Rattle.std.specs.Prelude.{◌≡◌, ◌≢◌, ◌+◌, ◌<◌, ◌↔◌, IfErr, IfOk, IsTrue, None, Ok, Err, Option, Some, length};
-ghost use Rattle.tt_abs.specs.Entries.{Ascends};
+ghost use Rattle.std.specs.Prelude.{◌≡◌, ◌≢◌, IfErr, IfOk, None, Ok, Err, Some};
 ghost use Rattle.tt_family.specs.Budgets.{Spends};
 ghost use Rattle.tt_stream.specs.Reads.{ConsumesBeginning};
 ghost use Rattle.hintcheck.specs.BudgetAnswers.{CheckTellsBudget, FindNextTellsBudget, IsCheckFaultOutsideFont};
@@ -11,31 +10,25 @@ ghost use Rattle.hintcheck.specs.CheckedFonts.{Finds, IsTold};
 ghost use Rattle.hintcheck.specs.FailedReads.{EndsInCall, HasRead};
 ghost use Rattle.hintcheck.specs.FindingSessions.{IsForFinding, IsFoundAnswer, KeepsFault, found_fault, out_of_memory, out_of_memory_here};
 ghost use Rattle.hintcheck.specs.FontPrograms.{IsFontInRange};
-ghost use Rattle.hintcheck.specs.ProgramVerdicts.{IsForCertificate};
-ghost use Rattle.hintcheck.specs.Sessions.{AnswersNext, IsForChecking, IsNextFault, IsSoundAnswer, ReadsOn, Stage, accepted_as, at_start, new_standing, over, standing_at};
-ghost use Rattle.hintcheck.specs.Representation.SessionStages.{GlyphBySection, IsSoundGlyph, IsSoundStep, KeepsFound, KeepsGood, StepsBySection, StopsInSection, TellsRefusal, fault_of, read_of, stage_of, standing_of};
+ghost use Rattle.hintcheck.specs.Sessions.{AnswersNext, IsForChecking, IsNextFault, IsSoundAnswer, ReadsOn, Stage, new_standing, over, standing_at};
+ghost use Rattle.hintcheck.specs.Representation.ProgramOrder.{stage_of};
+ghost use Rattle.hintcheck.specs.Representation.SessionStages.{KeepsFound, KeepsGood, KeepsKnown, StepsBySection, StopsInSection, fault_of, read_of, standing_of};
 ghost use Rattle.hintcheck.specs.declared.font_check.CheckFontFault.{CheckFontFault as AnyFault};
 ghost use Rattle.hintcheck.specs.Representation.ReadProgress.{input_from};
-ghost use Rattle.hintcheck.specs.Representation.ProgramEnds.{after_font_program, at_glyph_program};
-
-mod find;
 
 use crate::certificate::FindFontFault;
-use crate::font::{Common, Ended, cvt_setting};
-use crate::font_check::{
-    CheckFontFault, check_cvt_program, check_font_program, check_glyph_program, read_start,
-};
-use crate::program::{Search, reported};
+use crate::finding::Finding;
+use crate::font_check::{CheckFontFault, read_start};
+use crate::program::Search;
+use crate::programs::{FontPrograms, Programs};
 use crate::report::{Name, Refused};
+use crate::section_check::SectionCheck;
 use crate::sections::{Progress, next_section};
-use crate::session::find::find_from;
 use std::alloc::{AllocError, Global};
 use std::marker::Model;
-use std::mem;
-use tt_abs::Refusal;
 use tt_cert::{Decoder, read_end};
 use tt_family::Budget;
-use tt_find::{Finder, Found};
+use tt_find::Found;
 use tt_font::Font;
 use tt_stream::Source;
 
@@ -95,267 +88,6 @@ impl SessionFault {
     }
 }
 
-/// What a session keeps of the accepted programs, and thereby which program is next.
-#[derive(Drop)]
-enum Kept<'a> {
-    /// None yet.
-    Start,
-    /// The font program.
-    AfterFont(Ended<'a>),
-    /// The font program, the CVT program, and the number of the next glyph.
-    Glyphs(Ended<'a>, Ended<'a>, u16),
-    /// No program is left.
-    Over,
-}
-
-impl Kept<'_> {
-    /// Whether no program is left.
-    fn is_over(&self) -> bool
-        ensures { IsTrue result ↔ (stage_of self.now ≡ over) }
-    {
-        match self {
-            Kept::Over => true,
-            Kept::Start | Kept::AfterFont(_) | Kept::Glyphs(_, _, _) => false,
-        }
-    }
-}
-
-/// The answer of a call, and what the session keeps then.
-#[derive(Drop)]
-struct CheckedStep<'a> {
-    answer: Option<Outcome>,
-    kept: Kept<'a>,
-}
-
-/// Returns the outcome of an accepted program.
-fn accepted(program: Name) -> Outcome
-    ensures { result ≡ accepted_as program }
-{
-    Outcome {
-        program,
-        refused: None,
-    }
-}
-
-/// Returns the outcome of a program that the fault refuses.
-///
-/// # Errors
-/// `OutOfMemory` where the fault is out of memory, which refuses nothing.
-fn refused(program: Name, fault: Refusal) -> Result<Outcome, CheckFontFault>
-    ensures { TellsRefusal program fault result }
-{
-    match fault {
-        Refusal::Refused {
-            spot,
-            offset,
-            reason,
-        } => Ok(Outcome {
-            program,
-            refused: Some(reported(program, spot, offset, reason)),
-        }),
-        Refusal::OutOfMemory(error) => Err(CheckFontFault::OutOfMemory(error)),
-    }
-}
-
-/// Returns the font program's outcome, by the next section.
-fn check_font_stage<'a, S: Source>(
-    alloc: Global,
-    decoder: &mut Decoder,
-    font: &Font<'a>,
-    source: &mut S,
-    progress: &mut Progress,
-    budget: &mut Budget,
-) -> Result<CheckedStep<'a>, CheckFontFault>
-    requires { IsFontInRange font.now }
-    ensures sound { IfOk result (IsSoundStep font.now at_start) }
-    ensures exact { StepsBySection font.now at_start
-        progress.old (S.remaining source.old) progress.new (S.remaining source.new) result }
-    ensures form { progress.new.form ≡ progress.old.form }
-    ensures beginning { ConsumesBeginning (S.remaining source.old) (S.remaining source.new) }
-    ensures stopped { IfErr result (StopsInSection font.now at_start
-        progress.old (S.remaining source.old) (S.remaining source.new)) }
-    ensures failures { CountsCheck result (S.failures source.old) (S.failures source.new) }
-    ensures font { IfErr result IsCheckFaultOutsideFontAndBudget }
-    ensures spends { Spends budget.old budget.new }
-{
-    let certificate = next_section(alloc, decoder, source, progress, Name::Font)?;
-    match check_font_program(alloc, font, &certificate, progress.form, budget) {
-        Ok(fpgm) => Ok(CheckedStep {
-            answer: Some(accepted(Name::Font)),
-            kept: Kept::AfterFont(fpgm),
-        }),
-        Err(fault) => match refused(Name::Font, fault) {
-            Ok(outcome) => Ok(CheckedStep {
-                answer: Some(outcome),
-                kept: Kept::Over,
-            }),
-            Err(fault) => Err(fault),
-        },
-    }
-}
-
-/// Returns the CVT program's outcome, by the next section.
-fn check_cvt_stage<'a, S: Source>(
-    alloc: Global,
-    decoder: &mut Decoder,
-    font: &Font<'a>,
-    fpgm: Ended<'a>,
-    source: &mut S,
-    progress: &mut Progress,
-    budget: &mut Budget,
-) -> Result<CheckedStep<'a>, CheckFontFault>
-    requires range { IsFontInRange font.now }
-    requires ascends { Ascends fpgm.functions.items }
-    ensures sound { IfOk result (IsSoundStep font.now (after_font_program fpgm.entry)) }
-    ensures exact { StepsBySection font.now (after_font_program fpgm.entry)
-        progress.old (S.remaining source.old) progress.new (S.remaining source.new) result }
-    ensures form { progress.new.form ≡ progress.old.form }
-    ensures beginning { ConsumesBeginning (S.remaining source.old) (S.remaining source.new) }
-    ensures stopped { IfErr result (StopsInSection font.now (after_font_program fpgm.entry)
-        progress.old (S.remaining source.old) (S.remaining source.new)) }
-    ensures failures { CountsCheck result (S.failures source.old) (S.failures source.new) }
-    ensures font { IfErr result IsCheckFaultOutsideFontAndBudget }
-    ensures spends { Spends budget.old budget.new }
-{
-    let certificate = next_section(alloc, decoder, source, progress, Name::Cvt)?;
-    match check_cvt_program(alloc, font, &fpgm, &certificate, progress.form, budget) {
-        Ok(prep) => Ok(CheckedStep {
-            answer: Some(accepted(Name::Cvt)),
-            kept: Kept::Glyphs(fpgm, prep, 0),
-        }),
-        Err(fault) => match refused(Name::Cvt, fault) {
-            Ok(outcome) => Ok(CheckedStep {
-                answer: Some(outcome),
-                kept: Kept::Over,
-            }),
-            Err(fault) => Err(fault),
-        },
-    }
-}
-
-/// Returns the outcome of a glyph program, by the next section, in a font with these programs.
-fn check_glyph<S: Source>(
-    alloc: Global,
-    decoder: &mut Decoder,
-    font: &Font<'_>,
-    fpgm: &Ended<'_>,
-    prep: &Ended<'_>,
-    id: u16,
-    source: &mut S,
-    progress: &mut Progress,
-    budget: &mut Budget,
-) -> Result<Outcome, CheckFontFault>
-    requires range { IsFontInRange font.now }
-    requires ascends { Ascends prep.now.functions.items }
-    requires there { id < length font.now.glyphs }
-    ensures sound { IfOk result (IsSoundGlyph font.now fpgm.now prep.now id) }
-    ensures exact { GlyphBySection font.now fpgm.now prep.now id
-        progress.old (S.remaining source.old) progress.new (S.remaining source.new) result }
-    ensures form { progress.new.form ≡ progress.old.form }
-    ensures beginning { ConsumesBeginning (S.remaining source.old) (S.remaining source.new) }
-    ensures stopped { IfErr result (StopsInSection font.now (at_glyph_program fpgm.now prep.now id)
-        progress.old (S.remaining source.old) (S.remaining source.new)) }
-    ensures failures { CountsCheck result (S.failures source.old) (S.failures source.new) }
-    ensures font { IfErr result IsCheckFaultOutsideFontAndBudget }
-    ensures spends { Spends budget.old budget.new }
-{
-    let certificate = next_section(alloc, decoder, source, progress, Name::Glyph(id))?;
-    let glyph = font.glyph(id).unwrap();
-    let common = Common {
-        setting: cvt_setting(font, fpgm, &prep.program),
-        functions: &prep.functions,
-    };
-    let checked = check_glyph_program(alloc, &common, &glyph, &certificate, progress.form, budget);
-    decoder.take_back(certificate);
-    match checked {
-        Ok(()) => Ok(accepted(Name::Glyph(id))),
-        Err(fault) => refused(Name::Glyph(id), fault),
-    }
-}
-
-/// Returns the next glyph program's outcome, or, after the last one's section, that nothing
-/// follows.
-fn check_glyph_stage<'a, S: Source>(
-    alloc: Global,
-    decoder: &mut Decoder,
-    font: &Font<'a>,
-    fpgm: Ended<'a>,
-    prep: Ended<'a>,
-    id: u16,
-    source: &mut S,
-    progress: &mut Progress,
-    budget: &mut Budget,
-) -> Result<CheckedStep<'a>, CheckFontFault>
-    requires range { IsFontInRange font.now }
-    requires good { KeepsGood font.now (at_glyph_program fpgm prep id) }
-    ensures sound { IfOk result (IsSoundStep font.now (at_glyph_program fpgm.entry prep.entry id)) }
-    ensures exact { StepsBySection font.now (at_glyph_program fpgm.entry prep.entry id)
-        progress.old (S.remaining source.old) progress.new (S.remaining source.new) result }
-    ensures form { progress.new.form ≡ progress.old.form }
-    ensures beginning { ConsumesBeginning (S.remaining source.old) (S.remaining source.new) }
-    ensures stopped { IfErr result (StopsInSection font.now
-        (at_glyph_program fpgm.entry prep.entry id)
-        progress.old (S.remaining source.old) (S.remaining source.new)) }
-    ensures failures { CountsCheck result (S.failures source.old) (S.failures source.new) }
-    ensures font { IfErr result IsCheckFaultOutsideFontAndBudget }
-    ensures spends { Spends budget.old budget.new }
-{
-    if id == font.glyph_count() {
-        read_end(source, progress.place)?;
-        return Ok(CheckedStep {
-            answer: None,
-            kept: Kept::Over,
-        });
-    }
-    let outcome = check_glyph(
-        alloc, decoder, font, &fpgm, &prep, id, source, progress, budget,
-    )?;
-    Ok(CheckedStep {
-        answer: Some(outcome),
-        kept: Kept::Glyphs(fpgm, prep, id + 1),
-    })
-}
-
-/// Returns what a call of a session that keeps this comes to, after the header was read.
-fn check_on<'a, S: Source>(
-    alloc: Global,
-    decoder: &mut Decoder,
-    font: &Font<'a>,
-    kept: Kept<'a>,
-    source: &mut S,
-    progress: &mut Progress,
-    budget: &mut Budget,
-) -> Result<CheckedStep<'a>, CheckFontFault>
-    requires range { IsFontInRange font.now }
-    requires good { KeepsGood font.now (stage_of kept) }
-    ensures sound { IfOk result (IsSoundStep font.now (stage_of kept.entry)) }
-    ensures exact { StepsBySection font.now (stage_of kept.entry)
-        progress.old (S.remaining source.old) progress.new (S.remaining source.new) result }
-    ensures form { progress.new.form ≡ progress.old.form }
-    ensures beginning { ConsumesBeginning (S.remaining source.old) (S.remaining source.new) }
-    ensures stopped { IfErr result (StopsInSection font.now (stage_of kept.entry)
-        progress.old (S.remaining source.old) (S.remaining source.new)) }
-    ensures failures { CountsCheck result (S.failures source.old) (S.failures source.new) }
-    ensures font { IfErr result IsCheckFaultOutsideFontAndBudget }
-    ensures spends { Spends budget.old budget.new }
-{
-    match kept {
-        Kept::Start => check_font_stage(alloc, decoder, font, source, progress, budget),
-        Kept::AfterFont(fpgm) => {
-            check_cvt_stage(alloc, decoder, font, fpgm, source, progress, budget)
-        }
-        Kept::Glyphs(fpgm, prep, id) => {
-            check_glyph_stage(
-                alloc, decoder, font, fpgm, prep, id, source, progress, budget,
-            )
-        }
-        Kept::Over => Ok(CheckedStep {
-            answer: None,
-            kept: Kept::Over,
-        }),
-    }
-}
-
 /// Returns how far the certificate was read: this far, or through its header, which is read if it
 /// wasn't yet.
 fn progress_of<S: Source>(
@@ -381,44 +113,110 @@ fn progress_of<S: Source>(
     }
 }
 
-/// Returns what a call of a session that keeps this, and has read this far, comes to; and puts in
-/// their places what the session keeps then, and how far it has read.
+/// Returns what a call that checks comes to, after the header was read: the next program's outcome
+/// by the next section, or, after the last one's section, that nothing follows.
+fn check_section<'a, S: Source>(
+    alloc: Global,
+    decoder: &mut Decoder,
+    programs: &mut FontPrograms<'a>,
+    source: &mut S,
+    progress: &mut Progress,
+    budget: &mut Budget,
+) -> Result<Option<Outcome>, CheckFontFault>
+    requires range { IsFontInRange programs.old.font.now }
+    requires good { KeepsGood programs.old.font.now (stage_of programs.old) }
+    requires going { stage_of programs.old ≢ over }
+    ensures sound { IfOk result (λ answer. IsSoundAnswer programs.old.font.now
+        (stage_of programs.old) answer (stage_of programs.new)) }
+    ensures exact { StepsBySection programs.old.font.now (stage_of programs.old)
+        progress.old (S.remaining source.old) progress.new (S.remaining source.new)
+        (stage_of programs.new) result }
+    ensures form { progress.new.form ≡ progress.old.form }
+    ensures font { programs.new.font ≡ programs.old.font }
+    ensures unchanged { IfErr result (λ _. programs.new ≡ programs.old) }
+    ensures beginning { ConsumesBeginning (S.remaining source.old) (S.remaining source.new) }
+    ensures stopped { IfErr result (StopsInSection programs.old.font.now (stage_of programs.old)
+        progress.old (S.remaining source.old) (S.remaining source.new)) }
+    ensures failures { CountsCheck result (S.failures source.old) (S.failures source.new) }
+    ensures no_font_fault { IfErr result IsCheckFaultOutsideFontAndBudget }
+    ensures spends { Spends budget.old budget.new }
+{
+    let Some(next) = programs.next() else {
+        read_end(source, progress.place)?;
+        programs.end();
+        return Ok(None);
+    };
+    let certificate = next_section(alloc, decoder, source, progress, next.name)?;
+    let mut judge = SectionCheck {
+        certificate: &certificate,
+        form: progress.form,
+    };
+    let judged = programs.judge_next(alloc, &mut judge, budget);
+    decoder.take_back(certificate);
+    Ok(judged?)
+}
+
+/// Returns what a call of a session that has read this far comes to, and puts in its place how far
+/// the session has read then.
 fn check_from<'a, S: Source>(
     alloc: Global,
     decoder: &mut Decoder,
-    font: &Font<'a>,
-    kept: &mut Kept<'a>,
+    programs: &mut FontPrograms<'a>,
     read: &mut Option<Progress>,
     source: &mut S,
     budget: &mut Budget,
 ) -> Result<Option<Outcome>, CheckFontFault>
-    requires range { IsFontInRange font.now }
-    requires good { KeepsGood font.now (stage_of kept.old) }
-    ensures sound { IfOk result
-        (λ answer. IsSoundAnswer font.now (stage_of kept.old) answer (stage_of kept.new)) }
-    ensures good { KeepsGood font.now (stage_of kept.new) }
-    ensures found { KeepsFound (read_of read.old) font.now (stage_of kept.old)
-        → KeepsFound (read_of read.new) font.now (stage_of kept.new) }
+    requires range { IsFontInRange programs.old.font.now }
+    requires good { KeepsGood programs.old.font.now (stage_of programs.old) }
+    requires going { stage_of programs.old ≢ over }
+    ensures sound { IfOk result (λ answer. IsSoundAnswer programs.old.font.now
+        (stage_of programs.old) answer (stage_of programs.new)) }
+    ensures good { KeepsGood programs.new.font.now (stage_of programs.new) }
+    ensures found { KeepsFound (read_of read.old) programs.old.font.now (stage_of programs.old)
+        → KeepsFound (read_of read.new) programs.new.font.now (stage_of programs.new) }
+    ensures font { programs.new.font ≡ programs.old.font }
     ensures read { IfOk result (λ _. read_of read.new ≡ None → ⊥) }
     ensures exact { IsTold (S.remaining source.old) → Finds result
         (λ answer. IsTold (S.remaining source.new)
-        × AnswersNext (standing_of font.now kept.old read.old) (S.remaining source.old)
-        answer (standing_of font.now kept.new read.new) (S.remaining source.new))
-        (IsNextFault (standing_of font.now kept.old read.old) (S.remaining source.old)) }
+        × AnswersNext (standing_of programs.old read.old) (S.remaining source.old)
+        answer (standing_of programs.new read.new) (S.remaining source.new))
+        (IsNextFault (standing_of programs.old read.old) (S.remaining source.old)) }
     ensures beginning { ConsumesBeginning (S.remaining source.old) (S.remaining source.new) }
     ensures stopped { IfErr result (HasRead (S.remaining source.old) (S.remaining source.new)
-        (EndsInCall (standing_of font.now kept.old read.old))) }
+        (EndsInCall (standing_of programs.old read.old))) }
     ensures failures { CountsCheck result (S.failures source.old) (S.failures source.new) }
-    ensures font { IfErr result IsCheckFaultOutsideFontAndBudget }
+    ensures no_font_fault { IfErr result IsCheckFaultOutsideFontAndBudget }
     ensures spends { Spends budget.old budget.new }
 {
-    let mut progress = progress_of(font, *read, source)?;
-    let now = mem::replace(kept, Kept::Over);
-    let step = check_on(alloc, decoder, font, now, source, &mut progress, budget)?;
-    let CheckedStep { answer, kept: next } = step;
-    *kept = next;
+    let mut progress = progress_of(programs.font, *read, source)?;
+    let answer = check_section(alloc, decoder, programs, source, &mut progress, budget)?;
     *read = Some(progress);
     Ok(answer)
+}
+
+/// Returns what a call that finds comes to: the next program's outcome, and what is found for it,
+/// if it is accepted.
+fn find_from<'a>(
+    alloc: Global,
+    programs: &mut FontPrograms<'a>,
+    budget: &mut Budget,
+) -> Result<Option<(Outcome, Option<Found>)>, AllocError>
+    requires range { IsFontInRange programs.old.font.now }
+    requires known { KeepsKnown programs.old.font.now (stage_of programs.old) }
+    ensures found { IfOk result (λ answer. IsFoundAnswer programs.old.font.now
+        (stage_of programs.old) answer (stage_of programs.new)) }
+    ensures known { KeepsKnown programs.new.font.now (stage_of programs.new) }
+    ensures font { programs.new.font ≡ programs.old.font }
+    ensures spends { Spends budget.old budget.new }
+{
+    let mut judge = Finding::new(alloc, Search::Certificate);
+    let Some(outcome) = programs.judge_next(alloc, &mut judge, budget)? else {
+        return Ok(None);
+    };
+    match outcome.refused {
+        None => Ok(Some((outcome, judge.into_found()))),
+        Some(_) => Ok(Some((outcome, None))),
+    }
 }
 
 /// The programs of a font, one after the other: the font program, the CVT program, and each glyph
@@ -427,8 +225,7 @@ fn check_from<'a, S: Source>(
 /// for the next section. It holds no family between two calls.
 #[derive(Drop)]
 pub struct Session<'a> {
-    font: &'a Font<'a>,
-    kept: Kept<'a>,
+    programs: FontPrograms<'a>,
     decoder: Decoder,
     progress: Option<Progress>,
     fault: Option<SessionFault>,
@@ -437,19 +234,21 @@ pub struct Session<'a> {
 impl<'a> Model for Session<'a> {
     ghost use Rattle.hintcheck.specs.Sessions.{Standing};
     ghost use Rattle.hintcheck.specs.FontPrograms.{IsFontInRange};
-    ghost use Rattle.hintcheck.specs.Representation.SessionStages.{KeepsFound, KeepsGood, fault_in, read_of, stage_of};
+    ghost use Rattle.hintcheck.specs.Representation.ProgramOrder.{stage_of};
+    ghost use Rattle.hintcheck.specs.Representation.SessionStages.{KeepsFound, KeepsGood, fault_in, read_of};
 
     ghost Value = { Standing };
 
     ghost view = { λ s. record {
-      font = s.font.now;
-      stage = stage_of s.kept;
+      font = s.programs.font.now;
+      stage = stage_of s.programs;
       read = read_of s.progress;
       fault = fault_in s.fault;
     } };
 
-    ghost invariant = { λ s. IsFontInRange s.font.now × KeepsGood s.font.now (stage_of s.kept)
-        × KeepsFound (read_of s.progress) s.font.now (stage_of s.kept) };
+    ghost invariant = { λ s. IsFontInRange s.programs.font.now
+        × KeepsGood s.programs.font.now (stage_of s.programs)
+        × KeepsFound (read_of s.progress) s.programs.font.now (stage_of s.programs) };
 }
 
 impl<'a> Session<'a> {
@@ -459,8 +258,7 @@ impl<'a> Session<'a> {
     {
         font.range_facts();
         Session {
-            font,
-            kept: Kept::Start,
+            programs: Programs::new(font),
             decoder: Decoder::new(),
             progress: None,
             fault: None,
@@ -552,14 +350,13 @@ impl<'a> Session<'a> {
         if let Some(fault) = self.fault {
             return Err(fault.reported());
         }
-        if self.kept.is_over() {
+        if self.programs.is_over() {
             return Ok(None);
         }
         let answer = check_from(
             alloc,
             &mut self.decoder,
-            self.font,
-            &mut self.kept,
+            &mut self.programs,
             &mut self.progress,
             source,
             budget,
@@ -617,7 +414,7 @@ impl<'a> Session<'a> {
         if let Some(fault) = self.fault {
             return Err(fault.reported());
         }
-        if self.kept.is_over() {
+        if self.programs.is_over() {
             return Ok(None);
         }
         let answer = self.check_next_spending(alloc, source, budget);
@@ -630,21 +427,14 @@ impl<'a> Session<'a> {
         }
     }
 
-    /// Finds the next program's family in a finder's memory, and checks it where the search asks
-    /// for that: returns the program's outcome, and what is found for it where it is accepted,
-    /// whose memory `Finder::take_back` gives back.
-    ///
-    /// # Errors
-    /// `OutOfMemory`, also where the budget is exceeded. After a fault each call returns it.
-    pub(crate) fn search_next(
+    /// Finds the next program's family as `find_next` does, and makes at most as many points as the
+    /// budget allows. A budget that is exceeded is answered as if memory had run out.
+    fn find_next_spending(
         &mut self,
         alloc: Global,
-        finder: &mut Finder,
-        search: Search,
         budget: &mut Budget,
     ) -> Result<Option<(Outcome, Option<Found>)>, FindFontFault>
-        requires finding { IsForFinding self.old }
-        requires search { IsForCertificate search }
+        requires { IsForFinding self.old }
         ensures found { IfOk result
             (λ answer. IsFoundAnswer self.old.font self.old.stage answer self.new.stage) }
         ensures after_fault { (fault : AnyFault) → self.old.fault ≡ Some fault
@@ -661,10 +451,10 @@ impl<'a> Session<'a> {
         if let Some(fault) = self.fault {
             return Err(fault.found());
         }
-        if self.kept.is_over() {
+        if self.programs.is_over() {
             return Ok(None);
         }
-        let answer = find_from(alloc, finder, self.font, &mut self.kept, search, budget);
+        let answer = find_from(alloc, &mut self.programs, budget);
         if answer.is_err() {
             self.fault = Some(SessionFault::OutOfMemory);
         }
@@ -697,9 +487,7 @@ impl<'a> Session<'a> {
         ensures font { self.new.font ≡ self.old.font }
         ensures finding { IsForFinding self.new }
     {
-        let mut finder = Finder::new(alloc);
-        let budget = &mut Budget::unlimited();
-        self.search_next(alloc, &mut finder, Search::Certificate, budget)
+        self.find_next_spending(alloc, &mut Budget::unlimited())
     }
 
     /// Finds the next program's family as `find_next` does, and makes at most as many points as the
@@ -734,11 +522,10 @@ impl<'a> Session<'a> {
         if let Some(fault) = self.fault {
             return Err(fault.found());
         }
-        if self.kept.is_over() {
+        if self.programs.is_over() {
             return Ok(None);
         }
-        let mut finder = Finder::new(alloc);
-        let answer = self.search_next(alloc, &mut finder, Search::Certificate, budget);
+        let answer = self.find_next_spending(alloc, budget);
         match answer {
             Ok(_) | Err(FindFontFault::OutOfMemory(_)) if budget.is_exceeded() => {
                 self.fault = Some(SessionFault::Budget);

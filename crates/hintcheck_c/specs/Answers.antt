@@ -8,6 +8,7 @@ use Rattle.tt_font.specs.declared.fault.FontFault.TheVariants as font
 use Rattle.hintcheck.specs.Certificates.{IsChecked}
 use Rattle.hintcheck.specs.CheckedFonts.{AnswersFinding}
 use Rattle.hintcheck.specs.FontPrograms.{IsVerdict}
+use Rattle.hintcheck.specs.SymbolicVerdicts.{IsSymbolicVerdict}
 use Rattle.hintcheck.specs.Verdicts.{Judgement}
 use Rattle.hintcheck.specs.declared.font.VerdictFault.{VerdictFault}
 use Rattle.hintcheck.specs.declared.font.VerdictFault.TheVariants as judging
@@ -80,6 +81,15 @@ pub record AnswersVerdict (bytes : List ℕ) (answer : HintcheckAnswer)
   pub reads : Reads bytes font
   pub judgement : Judgement
   pub given : IsVerdict font judgement
+  pub answered : Answers judgement answer old new
+
+-- The answer is the verdict on the font that is in the bytes, by symbolic states.
+pub record AnswersSymbolicVerdict (bytes : List ℕ) (answer : HintcheckAnswer)
+    (old new : List HintcheckRefusal) : Type 0 where
+  pub font : FontData
+  pub reads : Reads bytes font
+  pub judgement : Judgement
+  pub given : IsSymbolicVerdict font judgement
   pub answered : Answers judgement answer old new
 
 -- The answer is the verdict on the font that is in the bytes, by a certificate.

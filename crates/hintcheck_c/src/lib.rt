@@ -7,7 +7,9 @@ ghost use Rattle.tt_family.specs.Budgets.{IsExceeded, Spends};
 ghost use Rattle.hintcheck.specs.CheckedFonts.{AnswersFinding};
 ghost use Rattle.hintcheck.specs.FontPrograms.{IsSafeFont};
 ghost use Rattle.hintcheck.specs.MeansSafe.{HoldRefusedFont, HoldSafeFont};
-ghost use Rattle.hintcheck_c.specs.Answers.{AnswersCheck, AnswersCheckFault, AnswersFontFault, AnswersVerdict, IsFaultOfCheck};
+ghost use Rattle.hintcheck.specs.SymbolicAnswers.{HoldSymbolicRefusedFont, HoldSymbolicSafeFont};
+ghost use Rattle.hintcheck.specs.SymbolicVerdicts.{IsSymbolicVerdict};
+ghost use Rattle.hintcheck_c.specs.Answers.{AnswersCheck, AnswersCheckFault, AnswersFontFault, AnswersSymbolicVerdict, AnswersVerdict, IsFaultOfCheck, IsFaultOfVerdict};
 ghost use Rattle.tt_font.specs.Reading.{FontData, Reads};
 
 mod answer;
@@ -15,7 +17,10 @@ mod refusal;
 
 pub use answer::HintcheckAnswer;
 use answer::{answer_verdict, fault_of_check, fault_of_verdict};
-use hintcheck::{Budget, CheckFontFault, Verdict, check_font_within, verdict_within};
+use hintcheck::{
+    Budget, CheckFontFault, Verdict, VerdictFault, check_font_within, verdict_symbolic,
+    verdict_within,
+};
 pub use refusal::HintcheckRefusal;
 use std::alloc::Global;
 use tt_stream::Bytes;
@@ -64,6 +69,48 @@ pub extern "C" fn hintcheck_verdict_of_bytes(
     *answer = match verdict_within(alloc, font, &mut budget) {
         Ok(verdict) => answer_verdict(&verdict, refusals, budget.made()),
         Err(fault) => fault_of_verdict(&fault, budget.made()),
+    };
+    answer.status
+}
+
+/// Returns the verdict by symbolic states on the programs of a font.
+fn judge_symbolic(alloc: Global, font: &[u8]) -> Result<Verdict, VerdictFault>
+    ensures given { IfOk result (λ v. (d : FontData) × Reads font.now d × IsSymbolicVerdict d v) }
+    ensures fault { IfErr result (IsFaultOfVerdict font.now) }
+{
+    Ok(verdict_symbolic(alloc, font)?)
+}
+
+/// Answers with the verdict by symbolic states on the programs of the font in these bytes, or with
+/// why there is none, and returns the answer's status. No points are counted. The first refusals are
+/// listed, as many as there is room for.
+#[unsafe(no_mangle)]
+pub extern "C" fn hintcheck_verdict_symbolic_of_bytes(
+    alloc: Global,
+    font: &[u8],
+    refusals: &mut [HintcheckRefusal],
+    answer: &mut HintcheckAnswer,
+) -> u32
+    // Where the status is 0, the bytes hold a font, and no run of any of its programs reaches a
+    // fault, on the machine that keeps control values; where it is 1, no run of those that aren't
+    // refused does, as long as none of the refused ones is run.
+    ensures accepted { result ≡ 0 → HoldSymbolicSafeFont font.now }
+    ensures refused { result ≡ 1 → HoldSymbolicRefusedFont font.now }
+    // The answer is a verdict by symbolic states in numbers, and its first refusals are listed; or
+    // why there is none, and nothing is listed.
+    ensures verdict { result ≤ 1
+        → AnswersSymbolicVerdict font.now answer.new refusals.old refusals.new }
+    ensures fault { 2 ≤ result
+        → AnswersFontFault font.now answer.new refusals.old refusals.new }
+    ensures status { result ≤ 4 }
+    ensures points { answer.new.points ≡ 0 }
+    ensures told { answer.new.status ≡ result }
+    ensures room { length refusals.new ≡ length refusals.old }
+    ensures listed { answer.new.listed ≤ length refusals.old }
+{
+    *answer = match judge_symbolic(alloc, font) {
+        Ok(verdict) => answer_verdict(&verdict, refusals, 0),
+        Err(fault) => fault_of_verdict(&fault, 0),
     };
     answer.status
 }

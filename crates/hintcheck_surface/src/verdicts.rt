@@ -3,8 +3,9 @@
 use crate::font::FONT;
 use anyhow::Result;
 use hintcheck::{
-    Outcome, Place, ReadFault, Session, Task, TaskFault, Verdict, WordFault, bare, check_font,
-    command, find_font, read_all, read_words, upgrade, verdict, word_bytes,
+    Outcome, Place, Profile, ReadFault, Session, Task, TaskFault, Verdict, WordFault, bare,
+    bare_symbolic, check_font, command, find_font, read_all, read_words, upgrade, verdict,
+    verdict_symbolic, word_bytes,
 };
 use std::io::Cursor;
 use tt_cert::Counted;
@@ -69,18 +70,24 @@ fn print_upgrade(rt: &HostRuntime, certificate: &[u8]) -> Result<()> {
     Ok(())
 }
 
-/// Prints the verdict on a glyph program by itself.
+/// Prints the verdicts on a glyph program by itself.
 fn print_bare(rt: &HostRuntime) -> Result<()> {
     let maxp = word_bytes(rt.alloc(), MAXP)?;
-    let verdict = bare(rt.alloc(), &maxp, 10, 4, 1, &[0xb0, 0x07, 0x2e])?;
-    print_verdict(rt, &verdict)
+    let strict = bare(rt.alloc(), &maxp, 10, 4, 1, &[0xb0, 0x07, 0x2e])?;
+    print_verdict(rt, &strict)?;
+    let symbolic = bare_symbolic(rt.alloc(), &maxp, 10, 4, 1, &[0xb0, 0x07, 0x2e])?;
+    print_verdict(rt, &symbolic)
 }
 
 /// Prints what words are read as.
 fn print_words(rt: &HostRuntime) -> Result<()> {
     let words = ["hintcheck", "verdict", "font.ttf"];
     let task: Result<Task, TaskFault> = read_words(rt.alloc(), &words);
-    println!(rt; "words {}", task.is_ok())?;
+    let strict = match task {
+        Ok(Task::Verdict { profile, .. }) => profile == Profile::Strict,
+        _ => false,
+    };
+    println!(rt; "words {strict}")?;
     Ok(())
 }
 
@@ -117,8 +124,10 @@ fn print_font(rt: &HostRuntime, bytes: &[u8]) -> Result<()> {
 
 pub(crate) fn print_calls(rt: &HostRuntime) -> Result<()> {
     let bytes = word_bytes(rt.alloc(), FONT)?;
-    let answer = verdict(rt.alloc(), &bytes)?;
-    print_verdict(rt, &answer)?;
+    let strict = verdict(rt.alloc(), &bytes)?;
+    print_verdict(rt, &strict)?;
+    let symbolic = verdict_symbolic(rt.alloc(), &bytes)?;
+    print_verdict(rt, &symbolic)?;
     print_font(rt, &bytes)?;
     print_bare(rt)?;
     print_words(rt)?;

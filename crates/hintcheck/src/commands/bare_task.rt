@@ -4,16 +4,17 @@
 ghost use Rattle.std.specs.Prelude.{◌≡◌, ◌≢◌, ◌<◌, IfErr, IfOk, None, Ok, OnOk, option_map, string_bytes, unwrap_or, []};
 ghost use Rattle.hintcheck.specs.Commands.{IsNoWriteFault};
 ghost use Rattle.hintcheck.specs.CommandFaults.{IsFaultOfGlyph, SpellNoFault};
-ghost use Rattle.hintcheck.specs.MeansSafe.{SpellRefusedGlyph, SpellSafeGlyph, SpellVerdict};
+ghost use Rattle.hintcheck.specs.MeansSafe.{SpellRefusedBy, SpellSafeBy, SpellVerdictBy};
 
 use super::faults::CommandFault;
 use crate::bare_program::bare;
 use crate::report::Verdict;
-use hintcheck_words::word_bytes;
+use crate::symbolic_bare::bare_symbolic;
+use hintcheck_words::{Profile, word_bytes};
 use std::alloc::Global;
 
-/// Returns the verdict on one glyph program against the limits of a `maxp` table: both are words of
-/// hexadecimal digits.
+/// Returns the verdict of a profile on one glyph program against the limits of a `maxp` table: both
+/// are words of hexadecimal digits.
 pub(super) fn bare_verdict(
     alloc: Global,
     maxp: &str,
@@ -21,12 +22,14 @@ pub(super) fn bare_verdict(
     points: u16,
     contours: u16,
     program: &str,
+    profile: Profile,
 ) -> Result<Verdict, CommandFault>
     ensures safe { IfOk result (λ verdict. verdict.refused ≡ []
-        → SpellSafeGlyph maxp.now cvt points contours program.now) }
+        → SpellSafeBy profile maxp.now cvt points contours program.now) }
     ensures refused { IfOk result (λ verdict. verdict.refused ≢ []
-        → SpellRefusedGlyph maxp.now cvt points contours program.now) }
-    ensures given { IfOk result (SpellVerdict maxp.now cvt points contours program.now) }
+        → SpellRefusedBy profile maxp.now cvt points contours program.now) }
+    ensures given { IfOk result
+        (SpellVerdictBy profile maxp.now cvt points contours program.now) }
     ensures fault { IfErr result IsNoWriteFault }
     ensures faults { IfErr result (IsFaultOfGlyph maxp.now program.now) }
     ensures none { OnOk result (SpellNoFault maxp.now program.now) }
@@ -39,7 +42,10 @@ pub(super) fn bare_verdict(
         fault,
         CommandFault::ProgramWord,
     ))?;
-    Ok(bare(alloc, &maxp, cvt, points, contours, &program)?)
+    match profile {
+        Profile::Strict => Ok(bare(alloc, &maxp, cvt, points, contours, &program)?),
+        Profile::Symbolic => Ok(bare_symbolic(alloc, &maxp, cvt, points, contours, &program)?),
+    }
 }
 
 /// Returns the word, empty where it is left out.

@@ -5,52 +5,78 @@ ghost use Rattle.std.specs.Io.KnownBytes.{Appends};
 ghost use Rattle.tt_stream.specs.Streams.{CountsPrintFailure};
 ghost use Rattle.hintcheck.specs.Commands.{TellsFailure};
 ghost use Rattle.hintcheck.specs.CommandFaults.{IsFaultOfPrinting};
-ghost use Rattle.hintcheck.specs.Texts.{end_line, verdict_text};
+ghost use Rattle.hintcheck.specs.Texts.{end_line, profile_text, verdict_text};
 
 use super::faults::CommandFault;
 use super::{ACCEPTED, REFUSED};
 use crate::report::{Name, Verdict};
+use hintcheck_words::Profile;
 use tt_stream::{PrintFailed, Sink};
 
-/// Prints the verdict: a line for each refused program, and a last line.
-fn print_verdict<O: Sink>(out: &mut O, verdict: &Verdict) -> Result<(), PrintFailed>
+/// Returns what a line that tells a verdict says of the profile.
+pub(super) fn end_of_profile(profile: Profile) -> &'static str
+    ensures { result.now ≡ profile_text profile }
+{
+    match profile {
+        Profile::Strict => "",
+        Profile::Symbolic => " (symbolic)",
+    }
+}
+
+/// Prints the verdict of a profile: a line for each refused program, and a last line.
+fn print_verdict<O: Sink>(
+    out: &mut O,
+    verdict: &Verdict,
+    profile: Profile,
+) -> Result<(), PrintFailed>
     ensures written { OnOk result
-        (Appends (O.contents out.old) (O.contents out.new) (verdict_text verdict.now)) }
+        (Appends (O.contents out.old) (O.contents out.new) (verdict_text profile verdict.now)) }
     ensures failures { CountsPrintFailure result (O.failures out.old) (O.failures out.new) }
 {
     for refused in verdict.refused() {
         writeln!(out, "{refused}")?;
     }
-    print_last_line(out, verdict)
+    print_last_line(out, verdict, profile)
 }
 
-/// Prints the last line of the verdict.
-fn print_last_line<O: Sink>(out: &mut O, verdict: &Verdict) -> Result<(), PrintFailed>
+/// Prints the last line of the verdict of a profile.
+fn print_last_line<O: Sink>(
+    out: &mut O,
+    verdict: &Verdict,
+    profile: Profile,
+) -> Result<(), PrintFailed>
     ensures written { OnOk result (Appends (O.contents out.old) (O.contents out.new)
-        (end_line verdict.now.programs verdict.now.refused)) }
+        (end_line profile verdict.now.programs verdict.now.refused)) }
     ensures failures { CountsPrintFailure result (O.failures out.old) (O.failures out.new) }
 {
     let programs = verdict.programs();
     let count = verdict.refused().len();
-    match verdict.refused().first().map(|refused| refused.program) {
-        None => writeln!(out, "accepted: {programs} programs"),
-        Some(Name::Font) => writeln!(out, "refused: font program"),
-        Some(Name::Cvt) => writeln!(out, "refused: cvt program"),
-        Some(Name::Glyph(_)) => writeln!(out, "refused: {count} of {programs} programs"),
+    let end = end_of_profile(profile);
+    let Some(first) = verdict.refused().first() else {
+        return writeln!(out, "accepted: {programs} programs{end}");
+    };
+    match first.program {
+        Name::Font => writeln!(out, "refused: font program{end}"),
+        Name::Cvt => writeln!(out, "refused: cvt program{end}"),
+        Name::Glyph(_) => writeln!(out, "refused: {count} of {programs} programs{end}"),
     }
 }
 
-/// Prints the verdict, and returns the exit status.
-pub(super) fn tell_verdict<O: Sink>(out: &mut O, verdict: Verdict) -> Result<u8, CommandFault>
+/// Prints the verdict of a profile, and returns the exit status.
+pub(super) fn tell_verdict<O: Sink>(
+    out: &mut O,
+    verdict: Verdict,
+    profile: Profile,
+) -> Result<u8, CommandFault>
     ensures status { IfOk result (λ status. status ≤ 1) }
     ensures accepted { IfOk result (λ status. status ≡ 0 → verdict.refused ≡ []) }
     ensures refused { IfOk result (λ status. status ≡ 1 → verdict.refused ≢ []) }
     ensures written { OnOk result
-        (Appends (O.contents out.old) (O.contents out.new) (verdict_text verdict)) }
+        (Appends (O.contents out.old) (O.contents out.new) (verdict_text profile verdict)) }
     ensures failures { TellsFailure result (O.failures out.old) (O.failures out.new) }
     ensures faults { IfErr result IsFaultOfPrinting }
 {
-    print_verdict(out, &verdict)?;
+    print_verdict(out, &verdict, profile)?;
     Ok(if verdict.accepted() {
         ACCEPTED
     } else {

@@ -3,11 +3,14 @@
 ghost use Rattle.std.specs.Prelude.{◌≡◌, ◌≢◌, IfErr, IfOk, List, Err, Ok, OnOk, ℕ, []};
 ghost use Rattle.hintcheck.specs.Commands.{HasAll, IsNoWriteFault, ReadsToEnd, TellsFailedRead};
 ghost use Rattle.hintcheck.specs.CommandFaults.{IsFaultOfFontFile, IsFaultOfSource, IsFaultWithin, IsWithin, ReadNoFault};
-ghost use Rattle.hintcheck.specs.MeansSafe.{HoldRefusedFont, HoldSafeFont, IsVerdictOn};
+ghost use Rattle.hintcheck.specs.MeansSafe.{HoldRefusedBy, HoldSafeBy, IsVerdictBy, IsVerdictOn};
+ghost use Rattle.hintcheck.specs.SymbolicAnswers.{IsSymbolicVerdictOn};
 
 use super::faults::CommandFault;
 use crate::font::{self, verdict_within};
 use crate::report::Verdict;
+use crate::symbolic_verdict::verdict_symbolic;
+use hintcheck_words::Profile;
 use std::alloc::Global;
 use std::fs;
 use std::io::Read;
@@ -57,39 +60,58 @@ fn verdict_within_points<S: Source>(
     Ok(verdict_within(alloc, &bytes, &mut Budget::of(most))?)
 }
 
-/// Returns the verdict on all programs of a font, whose bytes are those that are left in the file,
-/// and makes at most this many points, where they are bounded.
+/// Returns the verdict by symbolic states on all programs of the font whose bytes are all that is
+/// left in the source, which is read to its end.
+fn symbolic_verdict_of<S: Source>(alloc: Global, source: &mut S) -> Result<Verdict, CommandFault>
+    ensures exact { IfOk result (λ v. (bytes : List ℕ)
+        × ReadsToEnd (S.remaining source.old) (S.remaining source.new) bytes
+        × IsSymbolicVerdictOn bytes v) }
+    ensures fault { IfErr result IsNoWriteFault }
+    ensures faults { IfErr result
+        (IsFaultOfSource (S.remaining source.old) (S.remaining source.new)) }
+{
+    let bytes = read_all(alloc, source)?;
+    Ok(verdict_symbolic(alloc, &bytes)?)
+}
+
+/// Returns the verdict of a profile on all programs of a font, whose bytes are those that are left
+/// in the file. The strict one makes at most this many points, where they are bounded.
 fn verdict_on_bytes<F: Read + Drop>(
     alloc: Global,
     file: F,
     budget: Option<u64>,
+    profile: Profile,
 ) -> Result<Verdict, CommandFault>
     ensures safe { IfOk result (λ verdict. verdict.refused ≡ []
-        → (bytes : List ℕ) × HasAll (F.remaining file) bytes × HoldSafeFont bytes) }
+        → (bytes : List ℕ) × HasAll (F.remaining file) bytes × HoldSafeBy profile bytes) }
     ensures refused { IfOk result (λ verdict. verdict.refused ≢ []
-        → (bytes : List ℕ) × HasAll (F.remaining file) bytes × HoldRefusedFont bytes) }
+        → (bytes : List ℕ) × HasAll (F.remaining file) bytes × HoldRefusedBy profile bytes) }
     ensures given { IfOk result (λ verdict. (bytes : List ℕ)
-        × HasAll (F.remaining file) bytes × IsVerdictOn bytes verdict) }
+        × HasAll (F.remaining file) bytes × IsVerdictBy profile bytes verdict) }
     ensures fault { IfErr result IsNoWriteFault }
     ensures faults { IfErr result
         (λ fault. IsFaultOfFontFile fault × IsWithin budget fault) }
 {
     let mut source = Counted::new(file);
-    verdict_within_points(alloc, &mut source, budget)
+    match profile {
+        Profile::Strict => verdict_within_points(alloc, &mut source, budget),
+        Profile::Symbolic => symbolic_verdict_of(alloc, &mut source),
+    }
 }
 
-/// Returns the verdict on all programs of the font file with this name, and makes at most this
-/// many points, where they are bounded.
+/// Returns the verdict of a profile on all programs of the font file with this name. The strict one
+/// makes at most this many points, where they are bounded.
 pub(super) fn file_verdict<R: Files + AllocGlobal>(
     rt: &R,
     name: &str,
     budget: Option<u64>,
+    profile: Profile,
 ) -> Result<Verdict, CommandFault>
     ensures safe { IfOk result
-        (λ verdict. verdict.refused ≡ [] → (bytes : List ℕ) × HoldSafeFont bytes) }
+        (λ verdict. verdict.refused ≡ [] → (bytes : List ℕ) × HoldSafeBy profile bytes) }
     ensures refused { IfOk result
-        (λ verdict. verdict.refused ≢ [] → (bytes : List ℕ) × HoldRefusedFont bytes) }
-    ensures given { IfOk result (λ verdict. (bytes : List ℕ) × IsVerdictOn bytes verdict) }
+        (λ verdict. verdict.refused ≢ [] → (bytes : List ℕ) × HoldRefusedBy profile bytes) }
+    ensures given { IfOk result (λ verdict. (bytes : List ℕ) × IsVerdictBy profile bytes verdict) }
     ensures fault { IfErr result IsNoWriteFault }
     ensures faults { IfErr result
         (λ fault. IsFaultOfFontFile fault × IsWithin budget fault) }
@@ -97,5 +119,5 @@ pub(super) fn file_verdict<R: Files + AllocGlobal>(
     let Ok(file) = fs::open(rt, name) else {
         return Err(CommandFault::Read);
     };
-    verdict_on_bytes(rt.alloc(), file, budget)
+    verdict_on_bytes(rt.alloc(), file, budget, profile)
 }

@@ -1,21 +1,24 @@
 -- proofs/commands/do_task/Answers.antt
-use Rattle.std.proofs.Common.{◌≡◌, ℕ, Option, String, Global, Vec, arith, inl, inr, refl}
+use Rattle.std.proofs.Common.{◌≡◌, ℕ, OnOk, Option, String, Global, Vec, arith, inl, inr, refl, subst}
+use Rattle.std.specs.Io.KnownBytes.{Appends}
 use Rattle.std.proofs.lemmas.Result.{IfErr-weaker, IfOk-weaker, on_ok_weaker}
 use Rattle.hintcheck_words.specs.Requests.{asked}
+use Rattle.hintcheck_words.specs.declared.words.Profile.{Profile}
 use Rattle.hintcheck_words.specs.declared.words.Task.{Task}
 use Rattle.hintcheck_words.specs.declared.words.Task.TheVariants as task
 use Rattle.hintcheck.specs.Commands.{IsForVerdict}
+use Rattle.hintcheck.specs.Texts.{verdict_text}
 use Rattle.hintcheck.proofs.FaultLemmas.{nothing_said}
 use Rattle.hintcheck.proofs.PrintedLemmas.{prints_for_verdict, prints_upgrade, prints_verdict}
 use Rattle.hintcheck.proofs.ScanFaults.{passed_no_scan, printing_no_scan, task_no_scan, verdict_no_scan}
 use Rattle.hintcheck.proofs.commands.do_task.Goals as goal
 
-for_verdict : (t : Task) → ((fonts : Vec (String Global) Global) (budget : Option ℕ) → t ≡ task.Scan fonts budget → ⊥) → ((font program : String Global) (offset : Option ℕ) → t ≡ task.Explain font program offset → ⊥)
+for_verdict : (t : Task) → ((fonts : Vec (String Global) Global) (budget : Option ℕ) (profile : Profile) → t ≡ task.Scan fonts budget profile → ⊥) → ((font program : String Global) (offset : Option ℕ) → t ≡ task.Explain font program offset → ⊥)
     → ((font program : String Global) → t ≡ task.List font program → ⊥) → ((old new : String Global) → t ≡ task.Upgrade old new → ⊥) → IsForVerdict (asked t)
 unfolding asked
-for_verdict (task.Bare maxp cvt points contours program) scan explain other another = tt
-for_verdict (task.Verdict font budget) scan explain other another = tt
-for_verdict (task.Scan fonts budget) scan explain other another = absurd (scan fonts budget refl)
+for_verdict (task.Bare maxp cvt points contours program profile) scan explain other another = tt
+for_verdict (task.Verdict font budget profile) scan explain other another = tt
+for_verdict (task.Scan fonts budget profile) scan explain other another = absurd (scan fonts budget profile refl)
 for_verdict (task.Explain font program offset) scan explain other another = absurd (explain font program offset refl)
 for_verdict (task.Find font certificate budget) scan explain other another = tt
 for_verdict (task.Check font certificate budget) scan explain other another = tt
@@ -151,8 +154,10 @@ returns-in_ok-verdict_on-in_default-clause-printed g c =
     let task = c.args.task.now in
     let asks = for_verdict task c.in_default.not-Scan c.in_default.not-Explain c.in_default.not-List c.in_default.not-Upgrade in
     let told = c.tell_verdict.ensures in
+    let judgement = c.in_ok-verdict_on-in_default.field-0 in
+    let written = subst (λ (by : Profile). OnOk c.tell_verdict.result (Appends old new (verdict_text by judgement))) c.profile_of_task.ensures told.written in
     IfOk-weaker c.tell_verdict.result _ _ (λ status printed. prints_for_verdict (asked task) status old new asks printed)
-    (prints_verdict (asked task) c.tell_verdict.result c.in_ok-verdict_on-in_default.field-0 old new c.in_ok-verdict_on-in_default.ensures.given told.accepted told.refused told.written)
+    (prints_verdict (asked task) c.tell_verdict.result judgement old new c.in_ok-verdict_on-in_default.ensures.given told.accepted told.refused written)
 
 pub returns-in_ok-verdict_on-in_default-clause-scanned : goal.returns-in_ok-verdict_on-in_default-clause-scanned
 returns-in_ok-verdict_on-in_default-clause-scanned g c = IfErr-weaker c.tell_verdict.result _ _ (λ told is of. absurd (printing_no_scan told is of)) c.tell_verdict.ensures.faults

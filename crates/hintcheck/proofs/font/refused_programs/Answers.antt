@@ -1,39 +1,55 @@
-use Rattle.std.proofs.Common.{ℕ, List, subst, sym}
-use Rattle.std.proofs.lemmas.Result.{IfOk-weaker}
-use Rattle.tt_abs.specs.StateFlow.{FunctionsFit}
-use Rattle.tt_code.specs.Fonts.{Font, font_setting}
-use Rattle.hintcheck.specs.FontPrograms.{AreRefused, font_of, none_ended}
-use Rattle.hintcheck.proofs.FontEnds.{cvt_ends_verdict, font_ends_verdict}
+use Rattle.std.proofs.Common.{◌∙◌, ◌<◌, Bor, ap, arith, refl, subst, sym}
+use Rattle.tt_family.proofs.Spending.{spends_on}
+use Rattle.tt_font.specs.Reading.{FontData}
+use Rattle.hintcheck.specs.FontPrograms.{IsFontInRange}
+use Rattle.hintcheck.specs.Representation.FontVerdicts.{AreAllRefused}
+use Rattle.hintcheck.specs.Representation.ProgramOrder.{stage_of}
+use Rattle.hintcheck.specs.Representation.SessionStages.{KeepsKnown}
+use Rattle.hintcheck.proofs.FindingSteps.{stays_known}
+use Rattle.hintcheck.proofs.ProgramSteps.{calls_left, fewer_after}
+use Rattle.hintcheck.proofs.VerdictSteps.{AreRefusedTill, all_refused_till, known_can_go_on, none_refused_yet, refused_till}
 use Rattle.hintcheck.proofs.font.refused_programs.Goals as goal
 
-pub returns-in-Err-clause-refused : goal.returns-in-Err-clause-refused
-returns-in-Err-clause-refused c =
-    IfOk-weaker c.refused_alone.result _ _ (λ rs listed. font_ends_verdict c.args.font.now c.in-Err.fault rs.items c.in-Err.ensures.refused listed) c.refused_alone.ensures
+pub loop-refused-init : goal.loop-refused-init
+loop-refused-init c =
+    let yet = none_refused_yet c.new-programs.result.font.now (stage_of c.new-programs.result) c.new-refused.result.items c.new-programs.ensures.stage c.new-refused.ensures.items in
+    record { font = c.new-programs.ensures.font; known = yet.0; till = yet.1; spends = (refl, omega arith) }
 
-pub returns-in-Err-find_cvt_program-clause-refused : goal.returns-in-Err-find_cvt_program-clause-refused
-returns-in-Err-find_cvt_program-clause-refused c =
-    let fault = c.in-Err-find_cvt_program.fault in
-    IfOk-weaker c.refused_alone-in-Err-find_cvt_program.result _ _
-    (λ rs listed. cvt_ends_verdict c.args.font.now c.in-Ok.answer.0.program c.in-Ok.answer.0.functions.items fault rs.items c.in-Ok.ensures.known.ends
-    c.in-Err-find_cvt_program.ensures.refused listed)
-    c.refused_alone-in-Err-find_cvt_program.ensures
+pub judge_next-requires-clause-range : goal.judge_next-requires-clause-range
+judge_next-requires-clause-range c = subst IsFontInRange (sym c.loop-refused.invariant.font) c.requires
 
-pub refused_glyphs-requires-clause-fits : goal.refused_glyphs-requires-clause-fits
-refused_glyphs-requires-clause-fits c =
-    let F : List (ℕ × ℕ) → Type 0 = λ fs. FunctionsFit (font_setting (font_of c.args.font.now c.in-Ok.answer.0.program c.in-Ok-find_cvt_program.answer.0.program)) fs in
-    let S : Font → Type 0 = λ f. FunctionsFit (font_setting f) c.deref.result.now in
-    subst S (sym c.cvt_setting.ensures.programs) (subst F (sym c.deref.ensures.value) c.in-Ok-find_cvt_program.ensures.known.fits)
+pub judge_next-requires-clause-start : goal.judge_next-requires-clause-start
+judge_next-requires-clause-start c = known_can_go_on c.loop-refused.programs.font.now (stage_of c.loop-refused.programs) c.loop-refused.invariant.known
+
+pub loop-refused-smaller : goal.loop-refused-smaller
+loop-refused-smaller c =
+    let e = c.in_ok-outcome.ensures in
+    let s = stage_of c.loop-refused.programs in
+    let t = stage_of c.judge_next.new.self in
+    let d = c.loop-refused.programs.font.now in
+    subst (λ (f : Bor FontData). calls_left f.now t < calls_left d s) (sym e.font) (fewer_after d _ _ _ s t c.in_ok-outcome.field-0 c.in-Some.outcome c.in-Some.is e.answer)
+
+pub loop-refused-preserved : goal.loop-refused-preserved
+loop-refused-preserved c =
+    let e = c.in_ok-outcome.ensures in
+    let s = stage_of c.loop-refused.programs in
+    let t = stage_of c.judge_next.new.self in
+    let d = c.loop-refused.programs.font.now in
+    let j = c.judge_next.new.judge in
+    let i = c.loop-refused.invariant in
+    record {
+      font = ap (λ (f : Bor FontData). f.now) e.font ∙ i.font;
+      known = subst (λ (f : Bor FontData). KeepsKnown f.now t) (sym e.font) (stays_known d j s t c.in_ok-outcome.field-0 e.answer i.known);
+      till = subst (λ (f : Bor FontData). AreRefusedTill f.now t c.list_outcome.new.refused.items) (sym e.font)
+          (refused_till d j s t c.in_ok-outcome.field-0 c.in-Some.outcome c.loop-refused.refused.items c.list_outcome.new.refused.items c.in-Some.is e.answer c.in_ok-list_outcome.ensures i.till);
+      spends = spends_on c.args.budget.now c.loop-refused.budget c.judge_next.new.budget i.spends c.judge_next.ensures.spends;
+    }
 
 pub returns-clause-refused : goal.returns-clause-refused
 returns-clause-refused c =
-    let d = c.args.font.now in
-    let f = c.in-Ok.answer.0 in
-    let p = c.in-Ok-find_cvt_program.answer.0 in
-    let ends = c.in-Ok.ensures.known.ends in
-    let cvt_ends = c.in-Ok-find_cvt_program.ensures.known.ends in
-    IfOk-weaker c.refused_glyphs.result _ _
-    (λ rs are.
-    let S : Font → Type 0 = λ t. AreRefused t c.deref.result.now 0 d.glyphs rs.items in
-    let R : List (ℕ × ℕ) → Type 0 = λ fs. AreRefused (font_of d f.program p.program) fs 0 d.glyphs rs.items in
-    none_ended f.program p.program f.functions.items p.functions.items rs.items ends cvt_ends (subst R c.deref.ensures.value (subst S c.cvt_setting.ensures.programs are)))
-    c.refused_glyphs.ensures.refused
+    let e = c.in_ok-outcome.ensures in
+    let s = stage_of c.loop-refused.programs in
+    let t = stage_of c.judge_next.new.self in
+    let d = c.loop-refused.programs.font.now in
+    subst (λ (f : FontData). AreAllRefused f c.loop-refused.refused.items) c.loop-refused.invariant.font
+    (all_refused_till d c.judge_next.new.judge s t c.in_ok-outcome.field-0 c.loop-refused.refused.items c.in_default.is e.answer c.loop-refused.invariant.till)

@@ -1,7 +1,8 @@
 use Rattle.std.proofs.Common.{◌≡◌}
 use Rattle.tt_family.specs.Budgets.{Spends}
 use Rattle.tt_stream.specs.Reads.{ConsumesBeginning}
-use Rattle.hintcheck.proofs.SessionRuns.{IsCheckedSoFar, calls_left}
+use Rattle.hintcheck.proofs.ProgramSteps.{calls_left}
+use Rattle.hintcheck.proofs.SessionRuns.{IsCheckedSoFar}
 use Rattle.hintcheck.proofs.UnreadBytes.{IsUnreadSoFar}
 use Rattle.hintcheck.proofs.font_check.check_programs.Given as goal
 

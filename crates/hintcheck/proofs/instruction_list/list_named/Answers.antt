@@ -7,11 +7,18 @@ use Rattle.hintcheck.specs.FontPrograms.{font_of, glyph_subject, one_glyph_font}
 use Rattle.hintcheck.specs.Programs.{IsRefusal, Subject}
 use Rattle.tt_family.specs.Checks.{IsOutOfMemory}
 use Rattle.tt_abs.specs.declared.refusal.Refusal.{Refusal}
+use Rattle.tt_abs.specs.declared.refusal.Refusal.TheVariants as fault
+use Rattle.hintcheck.specs.Representation.Judges.{IsRefusedFor}
+use Rattle.hintcheck.proofs.BareProgramLemmas.{uncut_refusal}
 use Rattle.hintcheck.specs.ProgramVerdicts.{IfRefused, reported_at}
 use Rattle.hintcheck.specs.Texts.{refused_text}
 use Rattle.hintcheck.specs.declared.report.Refused.{Refused}
 use Rattle.hintcheck.proofs.ListingLemmas.{tells_unlisted}
 use Rattle.hintcheck.proofs.instruction_list.list_named.Goals as goal
+
+refusal_of : (x : Subject) (f : Refusal) → IfRefused x.name f (IsRefusedFor x) → IfRefused x.name f (IsRefusal x)
+refusal_of x (fault.Refused spot offset r) is = is.refusal
+refusal_of x (fault.OutOfMemory e) is = tt
 
 -- a program of these bytes in some font
 in_some_font : List ℕ → Subject
@@ -20,8 +27,8 @@ in_some_font bytes = record (glyph_subject (font_of (one_glyph_font [] 0 no_glyp
 pub returns-in_ok-print_program-in-Ok-clause-listed : goal.returns-in_ok-print_program-in-Ok-clause-listed
 unfolding in_some_font
 returns-in_ok-print_program-in-Ok-clause-listed g c = λ zero.
-    let cut = c.in-Ok.ensures.cut (in_some_font c.args.named.bytes.now) refl in
-    record { instructions = c.in-Ok.program; is_cut = cut.is_cut; structured = cut.structured; written = c.in_ok-print_program-in-Ok.ensures.written }
+    let cut = c.in-Ok.ensures.cut in
+    record { instructions = c.in-Ok.program; is_cut = cut.0; structured = cut.1; written = c.in_ok-print_program-in-Ok.ensures.written }
 
 pub returns-in_ok-writeln-in-Err-Refused-clause-told : goal.returns-in_ok-writeln-in-Err-Refused-clause-told
 unfolding in_some_font
@@ -31,6 +38,6 @@ returns-in_ok-writeln-in-Err-Refused-clause-told g c = λ one.
     let F : Refusal → Type 0 = λ f. IfRefused x.name f (IsRefusal x) in
     let W : Refused → Type 0 = λ r. Appends (g.O.Sink.contents c.args.out.now) (g.O.Sink.contents c.writeln.new.self) (refused_text r ++ codes "\n") in
     tells_unlisted x c.args.named.name (reported_at x.name e.field-0-0 e.offset e.reason) (g.O.Sink.contents c.args.out.now) (g.O.Sink.contents c.writeln.new.self)
-    (subst F e.field-0-is (e.ensures.refused x refl))
+    (subst F e.field-0-is (refusal_of x e.field-0 (uncut_refusal x e.field-0 (e.ensures.uncut x.name))))
     (λ is cut structured. subst IsOutOfMemory e.field-0-is (e.ensures.only is cut structured))
     (subst W c.refused_at-refused.ensures c.in_ok-writeln-in-Err-Refused.ensures.written)

@@ -6,7 +6,7 @@ use Rattle.hintcheck.proofs.commands.scan_task.scan_fonts.Given as goal
 
 abbrev pub invariant-loop-font : goal.invariant-loop-font
 invariant-loop-font g l = record {
-  tells : TellsFonts (map (λ s. string_bytes s) (take l.font-index l.fonts)) l.greatest;
-  printed : PrintsScan l.budget (map (λ s. string_bytes s) (take l.font-index l.fonts)) l.greatest (g.O.Sink.contents l.fn.out) (g.O.Sink.contents l.out);
+  tells : TellsFonts l.profile (map (λ s. string_bytes s) (take l.font-index l.fonts)) l.greatest;
+  printed : PrintsScan l.profile l.budget (map (λ s. string_bytes s) (take l.font-index l.fonts)) l.greatest (g.O.Sink.contents l.fn.out) (g.O.Sink.contents l.out);
   failures : g.O.Sink.failures l.out ≡ g.O.Sink.failures l.fn.out;
 }

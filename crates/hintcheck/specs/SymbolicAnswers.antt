@@ -1,0 +1,65 @@
+-- What the answers of the symbolic profile mean. A refusal tells no more than that the search found
+-- no way to accept the program.
+use Rattle.std.specs.Prelude.{◌≡◌, ◌≢◌, ◌≤◌, ℕ, List, [], length}
+use Rattle.tt_font.specs.Reading.{FontData, GlyphData, Reads}
+use Rattle.hintcheck_words.specs.HexWords.{Spells}
+use Rattle.hintcheck.specs.BarePrograms.{bare_font}
+use Rattle.hintcheck.specs.SymbolicVerdicts.{IsSafeAlone, IsSymbolicVerdict}
+use Rattle.hintcheck.specs.Verdicts.{Judgement}
+
+-- The words spell a `maxp` table and a glyph program, of which no run faults in a font of only this
+-- glyph.
+pub record SpellSymbolicSafeGlyph (maxp : List ℕ) (cvt points contours : ℕ)
+    (program : List ℕ) : Type 0 where
+  pub table : List ℕ
+  pub table_spelled : Spells maxp table
+  pub glyph : GlyphData
+  pub points_are : glyph.points ≡ points
+  pub contours_are : glyph.contours ≡ contours
+  pub program_spelled : Spells program glyph.program
+  pub safe : IsSafeAlone (bare_font table cvt glyph) glyph
+
+-- The words spell a `maxp` table and a program.
+pub record SpellGlyph (maxp program : List ℕ) : Type 0 where
+  pub table : List ℕ
+  pub table_spelled : Spells maxp table
+  pub bytes : List ℕ
+  pub program_spelled : Spells program bytes
+
+-- The words spell a `maxp` table and a glyph program, of which the verdict is this one: where it
+-- names no refused program, no run of the glyph program faults in a font of only this glyph.
+pub record SpellSymbolicVerdict (maxp : List ℕ) (cvt points contours : ℕ) (program : List ℕ)
+    (judgement : Judgement) : Type 0 where
+  pub table : List ℕ
+  pub table_spelled : Spells maxp table
+  pub glyph : GlyphData
+  pub points_are : glyph.points ≡ points
+  pub contours_are : glyph.contours ≡ contours
+  pub program_spelled : Spells program glyph.program
+  pub one : judgement.programs ≡ 1
+  pub few : length judgement.refused ≤ 1
+  pub safe : judgement.refused ≡ [] → IsSafeAlone (bare_font table cvt glyph) glyph
+
+-- The verdict is one by symbolic states on the font that is in the bytes.
+pub record IsSymbolicVerdictOn (bytes : List ℕ) (judgement : Judgement) : Type 0 where
+  pub font : FontData
+  pub reads : Reads bytes font
+  pub given : IsSymbolicVerdict font judgement
+
+-- The bytes hold a font, and a verdict by symbolic states names none of its programs as refused: no
+-- run of them faults.
+pub record HoldSymbolicSafeFont (bytes : List ℕ) : Type 0 where
+  pub font : FontData
+  pub reads : Reads bytes font
+  pub judgement : Judgement
+  pub given : IsSymbolicVerdict font judgement
+  pub none : judgement.refused ≡ []
+
+-- The bytes hold a font, and a verdict by symbolic states names refused programs of it: as long as
+-- none of these is run, no run of the others faults.
+pub record HoldSymbolicRefusedFont (bytes : List ℕ) : Type 0 where
+  pub font : FontData
+  pub reads : Reads bytes font
+  pub judgement : Judgement
+  pub given : IsSymbolicVerdict font judgement
+  pub some : judgement.refused ≢ []

@@ -1,0 +1,126 @@
+//! The judge that finds a program's least family, in the memory of those before it.
+
+ghost use Rattle.std.specs.Prelude.{◌≡◌, is_some, option_map, refl, true};
+ghost use Rattle.std.specs.Option.{option_copied};
+ghost use Rattle.tt_abs.specs.Entries.{Ascends};
+ghost use Rattle.tt_abs.specs.Settings.{setting_of};
+ghost use Rattle.tt_code.specs.Cut.{size};
+ghost use Rattle.hintcheck.specs.Representation.FontVerdicts.{ComesToEnd};
+ghost use Rattle.hintcheck.specs.Representation.Judges.{AreWithin, IsFoundIn, IsFoundToEndIn, IsRefusedFor};
+ghost use Rattle.hintcheck.specs.Representation.ProgramOrder.{with_start};
+
+use crate::judge::Judge;
+use crate::program::{Search, find_and_check};
+use std::alloc::{AllocError, Global};
+use tt_abs::{Kind, Refusal, Setting};
+use tt_family::{Budget, Certificate};
+use tt_find::{Finder, Found};
+
+/// Judges a program by its least family, which is found and, where the search asks for that,
+/// checked. It keeps what it found last, and its memory is used again.
+#[derive(Drop)]
+pub(crate) struct Finding {
+    search: Search,
+    finder: Finder,
+    /// What was found for the program that was judged last, if it is accepted.
+    found: Option<Found>,
+}
+
+/// Whether it is a glyph program without instructions, in which nothing can be refused.
+fn is_empty_glyph(setting: &Setting<'_>) -> bool
+    ensures empty { result ≡ true → size setting.now.main.now ≡ 0 }
+    ensures glyph { result ≡ true → ComesToEnd (setting_of setting.now).kind → ⊥ }
+{
+    match setting.kind {
+        Kind::Font | Kind::Cvt => false,
+        Kind::Glyph { .. } => setting.main.len() == 0,
+    }
+}
+
+impl Finding {
+    /// Makes a judge for a search. It takes no memory.
+    pub(crate) fn new(alloc: Global, search: Search) -> Self
+        ensures { result.search ≡ search }
+    {
+        Finding {
+            search,
+            finder: Finder::new(alloc),
+            found: None,
+        }
+    }
+
+    /// Lends the certificate that was found last.
+    pub(crate) fn certificate(&self) -> Option<&Certificate>
+        ensures value { option_copied result
+            ≡ option_map (λ found. found.certificate) self.now.found }
+        ensures variant { is_some result ≡ is_some self.now.found }
+    {
+        match &self.found {
+            Some(found) => Some(&found.certificate),
+            None => None,
+        }
+    }
+
+    /// Returns what was found last.
+    pub(crate) fn into_found(self) -> Option<Found>
+        ensures { result ≡ self.found }
+    {
+        self.found
+    }
+
+    /// Gives the memory of what was found last back to the finder.
+    fn clear(&mut self)
+        ensures { self.new.search ≡ self.old.search }
+    {
+        if let Some(found) = self.found.take() {
+            self.finder.take_back(found.certificate);
+        }
+    }
+}
+
+impl Judge for Finding {
+    type Known = (u16, u32);
+
+    ghost CanStart = { λ limits functions. Ascends functions × AreWithin limits functions };
+
+    ghost Accepts = { λ j x start is. IsFoundIn j (with_start x start) is };
+
+    ghost Ends = { λ j x start is known. IsFoundToEndIn j (with_start x start) is known };
+
+    ghost Refuses = { λ j x start r. IsRefusedFor (with_start x start) r };
+
+    ghost Keeps = { λ j k. k.search ≡ j.search };
+
+    fn judge(
+        &mut self,
+        alloc: Global,
+        setting: &Setting<'_>,
+        start: &[(u16, u32)],
+        budget: &mut Budget,
+    ) -> Result<(), Refusal> {
+        self.clear();
+        if self.search.is_for_verdict() && is_empty_glyph(setting) {
+            return Ok(());
+        }
+        let started = Setting { start, ..*setting };
+        let found = find_and_check(alloc, &mut self.finder, &started, self.search, budget)?;
+        self.found = Some(found);
+        Ok(())
+    }
+
+    fn uncut_facts(&self) {}
+
+    fn known_at_end(
+        &self,
+        alloc: Global,
+        setting: &Setting<'_>,
+        _start: &[(u16, u32)],
+    ) -> Result<Vec<(u16, u32)>, AllocError> {
+        // A font program or a CVT program that is accepted has a family with a state at its end.
+        let found = self.found.as_ref().unwrap();
+        let functions = found.certificate.end_functions(setting.main.len()).unwrap();
+        Vec::from_slice(alloc, functions)
+    }
+
+    ghost keeps_itself = { λ j. refl };
+}

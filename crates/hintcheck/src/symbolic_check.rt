@@ -1,0 +1,285 @@
+//! The judge that searches and checks a program by symbolic states.
+
+ghost use Rattle.std.specs.Prelude.{◌≡◌, IfOk, OnOk, refl};
+ghost use Rattle.tt_abs.specs.Entries.{Ascends};
+ghost use Rattle.tt_abs.specs.Settings.{setting_of};
+ghost use Rattle.tt_symbolic_font.specs.Known.{StartGlyphs};
+ghost use Rattle.hintcheck.specs.Representation.FontVerdicts.{ComesToEnd};
+ghost use Rattle.hintcheck.specs.Representation.SymbolicChecks.{AreCheckedInTurn, IsCheckedBy, IsEnded, IsEndedBy, IsRunnable, refusal_as};
+
+use crate::judge::Judge;
+use std::alloc::{AllocError, Global};
+use std::mem;
+use tt_abs::{Kind, Refusal, Setting, SortedMap, Spot};
+use tt_code::Reason;
+use tt_family::{Budget, is_short};
+use tt_symbolic::{Kept, NOTHING_KEPT};
+use tt_symbolic_check::{CheckRefusal, Start};
+use tt_symbolic_font::{Ends, GlyphStarts, check_before_glyphs};
+use tt_symbolic_search::{Search, USUAL_SEARCH};
+
+/// Judges a program by symbolic states, which are found and checked. What was learnt from a font's
+/// program serves those after it.
+#[derive(Drop)]
+pub(crate) struct SymbolicCheck {
+    search: Search,
+    /// What is known where the font program or the CVT program ends that was accepted last.
+    ends: Ends,
+    /// With what glyph programs start.
+    starts: GlyphStarts,
+    /// Whether a glyph program may write what these starts list.
+    may_write_kept: bool,
+}
+
+/// Searches and checks a font program or a CVT program, which starts with these functions. Returns
+/// what is known where it ends.
+///
+/// # Errors
+/// Those of `Search::find` and of `check_before_glyphs`.
+fn check_to_end(
+    alloc: Global,
+    search: &mut Search,
+    setting: &Setting<'_>,
+    functions: &[(u16, u32)],
+) -> Result<Ends, CheckRefusal>
+    requires { Ascends functions.now }
+    ensures { IfOk result (IsEnded (setting_of setting.now) functions.now) }
+{
+    let functions = SortedMap::from_slice(alloc, functions)?;
+    let mut start = Start::unknown(alloc);
+    start.functions.copy_from(&functions)?;
+    let found = search.find(setting, &NOTHING_KEPT, &[start], USUAL_SEARCH)?;
+    check_before_glyphs(
+        alloc,
+        setting,
+        &functions,
+        found.listed.as_slice(),
+        found.effort,
+    )
+}
+
+/// Searches and checks a glyph program from these starts.
+///
+/// # Errors
+/// `Refused` too where it is longer than the font allows; those of `Search::find` and of
+/// `check_glyph_program`.
+fn check_glyph(
+    alloc: Global,
+    search: &mut Search,
+    setting: &Setting<'_>,
+    starts: &GlyphStarts,
+) -> Result<(), CheckRefusal>
+    ensures { OnOk result (IsRunnable (setting_of setting.now) starts.now) }
+{
+    if !is_short(setting) {
+        return Err(CheckRefusal::Refused {
+            spot: Spot::Main,
+            offset: u32::from(setting.limits.program_size),
+            reason: Reason::ProgramTooLong,
+        });
+    }
+    let kept = Kept {
+        storage: starts.storage.as_slice(),
+        controls: starts.controls.as_slice(),
+    };
+    let found = search.find(setting, &kept, starts.starts.as_slice(), USUAL_SEARCH)?;
+    starts.check_glyph_program(alloc, setting, found.listed.as_slice(), found.effort)
+}
+
+/// Returns the start of which only the functions are known that all ends have.
+fn unknown_starts(alloc: Global, ends: &Ends) -> Result<GlyphStarts, AllocError>
+    ensures { IfOk result (StartGlyphs ends.now) }
+{
+    let mut start = Start::unknown(alloc);
+    start.functions.copy_from(&ends.functions)?;
+    let mut starts = Vec::new(alloc);
+    starts.push(start)?;
+    Ok(GlyphStarts {
+        starts,
+        storage: Vec::new(alloc),
+        controls: Vec::new(alloc),
+    })
+}
+
+/// Makes the starts of glyph programs after the ends of the CVT program. Where the search proposes
+/// none that follow each of them, nothing but functions is known.
+fn starts_after(alloc: Global, search: &mut Search, ends: &Ends) -> Result<GlyphStarts, AllocError>
+    ensures { IfOk result (StartGlyphs ends.now) }
+{
+    let mut proposed = search.starts_after(ends.states.as_slice())?;
+    for start in &mut proposed {
+        start.functions.copy_from(&ends.functions)?;
+    }
+    match GlyphStarts::new(alloc, ends, proposed)? {
+        Some(starts) => Ok(starts),
+        None => unknown_starts(alloc, ends),
+    }
+}
+
+/// Searches and checks the programs of a font of one glyph.
+///
+/// # Errors
+/// Those of `Search::find`, of `check_before_glyphs` and of `check_glyph_program`.
+pub(crate) fn check_in_turn(
+    alloc: Global,
+    font: &Setting<'_>,
+    cvt: &Setting<'_>,
+    glyph: &Setting<'_>,
+) -> Result<(), CheckRefusal>
+    ensures { OnOk result (AreCheckedInTurn (setting_of font.now) (setting_of cvt.now)
+        (setting_of glyph.now)) }
+{
+    let mut search = Search::new(alloc);
+    let first = check_to_end(alloc, &mut search, font, &[])?;
+    let second = check_to_end(alloc, &mut search, cvt, first.functions.as_slice())?;
+    let starts = starts_after(alloc, &mut search, &second)?;
+    check_glyph(alloc, &mut search, glyph, &starts)
+}
+
+/// Returns the fault of a program that is refused so. A kept entry that may be written counts as one
+/// of which too little is known, and too many steps as too many states.
+pub(crate) fn refusal_of(refusal: CheckRefusal) -> Refusal
+    ensures { result ≡ refusal_as refusal }
+{
+    match refusal {
+        CheckRefusal::Refused {
+            spot,
+            offset,
+            reason,
+        } => Refusal::Refused {
+            spot,
+            offset,
+            reason,
+        },
+        CheckRefusal::KeptEntry { spot, offset } => Refusal::Refused {
+            spot,
+            offset,
+            reason: Reason::UnknownOperand,
+        },
+        CheckRefusal::BudgetMet => Refusal::Refused {
+            spot: Spot::Main,
+            offset: 0,
+            reason: Reason::TooManyContexts,
+        },
+        CheckRefusal::OutOfMemory(error) => Refusal::OutOfMemory(error),
+    }
+}
+
+/// What is known of a program that never ends.
+fn no_ends(alloc: Global) -> Ends {
+    Ends {
+        states: Vec::new(alloc),
+        functions: SortedMap::new(alloc),
+    }
+}
+
+impl SymbolicCheck {
+    /// Makes a judge that knows nothing yet. It takes no memory.
+    pub(crate) fn new(alloc: Global) -> Self {
+        SymbolicCheck {
+            search: Search::new(alloc),
+            ends: no_ends(alloc),
+            starts: GlyphStarts {
+                starts: Vec::new(alloc),
+                storage: Vec::new(alloc),
+                controls: Vec::new(alloc),
+            },
+            may_write_kept: false,
+        }
+    }
+
+    /// Takes what is known where the program ends that was accepted last.
+    pub(crate) fn take_ends(&mut self, alloc: Global) -> Ends
+        ensures { result ≡ self.old.ends }
+    {
+        mem::replace(&mut self.ends, no_ends(alloc))
+    }
+
+    /// Makes the starts of glyph programs after these ends of the CVT program, without the memory
+    /// entries that glyph programs were found to write.
+    ///
+    /// # Errors
+    /// If memory runs out.
+    pub(crate) fn start_glyphs(&mut self, alloc: Global, ends: &Ends) -> Result<(), AllocError>
+        ensures { OnOk result (StartGlyphs ends.now self.new.starts) }
+    {
+        self.starts = starts_after(alloc, &mut self.search, ends)?;
+        self.may_write_kept = false;
+        Ok(())
+    }
+
+    /// Whether a glyph program was refused, since they start so, because it may write what the
+    /// starts list.
+    pub(crate) fn may_write_kept(&self) -> bool {
+        self.may_write_kept
+    }
+
+    /// Searches and checks the program of this setting, which starts with these functions if it is no
+    /// glyph's.
+    fn check(
+        &mut self,
+        alloc: Global,
+        setting: &Setting<'_>,
+        functions: &[(u16, u32)],
+    ) -> Result<(), CheckRefusal>
+        requires { Ascends functions.now }
+        ensures ended { OnOk result (ComesToEnd (setting_of setting.now).kind
+            → IsEnded (setting_of setting.now) functions.now self.new.ends) }
+        ensures runnable { OnOk result ((ComesToEnd (setting_of setting.now).kind → ⊥)
+            → IsRunnable (setting_of setting.now) self.new.starts) }
+        ensures starts { self.new.starts ≡ self.old.starts }
+    {
+        match setting.kind {
+            Kind::Font | Kind::Cvt => {
+                self.ends = check_to_end(alloc, &mut self.search, setting, functions)?;
+                Ok(())
+            }
+            Kind::Glyph { .. } => check_glyph(alloc, &mut self.search, setting, &self.starts),
+        }
+    }
+}
+
+impl Judge for SymbolicCheck {
+    type Known = (u16, u32);
+
+    ghost CanStart = { λ _ functions. Ascends functions };
+
+    ghost Accepts = { λ j x start is. IsCheckedBy j x start is };
+
+    ghost Ends = { λ j x start is known. IsEndedBy j x start is known };
+
+    ghost Refuses = { λ j x start r. r.program ≡ x.name };
+
+    ghost Keeps = { λ j k. k.starts ≡ j.starts };
+
+    fn judge(
+        &mut self,
+        alloc: Global,
+        setting: &Setting<'_>,
+        start: &[(u16, u32)],
+        _budget: &mut Budget,
+    ) -> Result<(), Refusal> {
+        match self.check(alloc, setting, start) {
+            Ok(()) => Ok(()),
+            Err(refusal) => {
+                if let CheckRefusal::KeptEntry { .. } = &refusal {
+                    self.may_write_kept = true;
+                }
+                Err(refusal_of(refusal))
+            }
+        }
+    }
+
+    fn uncut_facts(&self) {}
+
+    fn known_at_end(
+        &self,
+        alloc: Global,
+        _setting: &Setting<'_>,
+        _start: &[(u16, u32)],
+    ) -> Result<Vec<(u16, u32)>, AllocError> {
+        Vec::from_slice(alloc, self.ends.functions.as_slice())
+    }
+
+    ghost keeps_itself = { λ j. refl };
+}
