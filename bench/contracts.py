@@ -20,10 +20,12 @@ TOP = pathlib.Path(__file__).resolve().parent.parent
 PAGE = TOP / "docs/CONTRACTS.md"
 
 # What the tests share, which promises nothing to users.
-FIXTURES = "hintcheck_test_fixtures"
+FIXTURES = ("tt_test_fixtures", "hintcheck_test_fixtures")
 
 # The crates of tests that the page names.
-TEST_CRATES = ("tt_tests", "hintcheck_file_tests", "hintcheck_tests")
+TEST_CRATES = ("tt_tests", "hintcheck_tests")
+# The files of cases, which it names `cases/NAME`.
+CASES = TOP / "crates/hintcheck_cases/data"
 
 OWNER = re.compile(r"^(?:pub )?(impl|trait)\b([^{]*)\{", re.M)
 FUNCTION = re.compile(r'^ *(pub(?:\(\w+\))? )?(?:final )?(?:extern "C" )?fn (\w+)', re.M)
@@ -164,8 +166,10 @@ def faults_of_row(crate: str, row: list[str], known: dict[tuple[str, str], Claus
     if named != cited:
         yield f"{crate}: {clauses} cites {sorted(cited)}, not {sorted(named)}"
     for test in re.findall(r"\w+/\w+", tests):
-        if not any((TOP / f"crates/{tests}/src/{test}.rt").exists() for tests in TEST_CRATES):
-            yield f"{crate}: there is no test module {test}"
+        modules = [TOP / f"crates/{tests}/src/{test}.rt" for tests in TEST_CRATES]
+        cases = CASES / f"{test.removeprefix('cases/')}.txt"
+        if not any(path.exists() for path in [*modules, cases]):
+            yield f"{crate}: there is no test module and no file of cases {test}"
     gate, _, further = edits.partition("*also*")
     for folder, cell in ((f"crates/{crate}/must-fail", gate), (f"bench/edits/{crate}", further)):
         for edit in re.findall(r"`(\w+)`", cell):
@@ -215,7 +219,7 @@ def faults() -> typing.Iterator[str]:
     yield from (f"headline: there is no definition {word}" for word in sorted(words - definitions()))
     crates = [name for name in sections if (TOP / "crates" / name / "src/lib.rt").exists()]
     for crate in sorted(path.parent.parent.name for path in TOP.glob("crates/*/src/lib.rt")):
-        if crate not in crates and crate != FIXTURES and any(clauses_of(crate)):
+        if crate not in crates and crate not in FIXTURES and any(clauses_of(crate)):
             yield f"{crate} has no table"
     for crate in crates:
         yield from faults_of_section(crate, sections[crate], asked.get(crate, set()))

@@ -18,11 +18,20 @@ import sys
 import tempfile
 import time
 
-import examples
+import hostile
 
 TOP = pathlib.Path(__file__).resolve().parent.parent
 SOURCES = TOP / "examples/embedding"
 MOST_FONTS = 100
+
+# The fonts of the sessions (crates/hintcheck_cases/data/sessions.txt): a function that sets reference point 0 to point 2, and one that takes an element
+# of the stack.
+FUNCTIONS = b"\xb0\x00\x2c\xb0\x02\x10\x2d" + b"\xb0\x01\x2c\x21\x2d"
+# Each glyph's program: SVTCA, function 0, MIAP of point 0 and CVT index 0; a call of function 1 with nothing on the stack; an IF on a measured
+# distance whose ways leave stacks of different depths.
+GOOD = b"\x00\xb0\x00\x2b\xb1\x00\x00\x3e"
+UNDERFLOW = b"\xb0\x01\x2b"
+TWO_DEPTHS = b"\xb1\x00\x01\x49\x58\xb0\x07\x59\x21"
 
 # What the example prints of each font.
 PRINTED = {
@@ -69,7 +78,10 @@ def differs(what: str, seen: object, wanted: object) -> bool:
 
 def fails_example(line: pathlib.Path, folder: pathlib.Path) -> bool:
     """Whether the example prints something else than it should."""
-    fonts = examples.fonts()
+    fonts = {
+        "serif.ttf": hostile.font([GOOD, b"", GOOD], FUNCTIONS),
+        "broken.ttf": hostile.font([GOOD, UNDERFLOW, TWO_DEPTHS], FUNCTIONS),
+    }
     fonts["short.ttf"] = fonts["serif.ttf"][:-40]
     failed = False
     for name, data in fonts.items():

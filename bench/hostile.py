@@ -1,10 +1,11 @@
 #!/usr/bin/env python3
 """Times hintcheck on font files that are made to take much time or memory, next to benign fonts of 1 MB and of 10 kB.
 
-Usage: bench/hostile.py [SECONDS]
+Usage: bench/hostile.py [--symbolic] [SECONDS]
 The files go to a temporary folder. Each is handed to `hintcheck verdict`, and where it is accepted, to `find` and `check`: processor seconds and
 the greatest memory of `verdict` and of `check`, the size of the certificate, and the first line of the verdict, with that of `find` or `check` where
-it is another one. A run that takes more than SECONDS (60) of the processor is ended.
+it is another one. A run that takes more than SECONDS (60) of the processor is ended. With --symbolic they and some more are handed to
+`hintcheck verdict --symbolic` alone.
 """
 
 import pathlib
@@ -112,6 +113,32 @@ def cases() -> dict[str, bytes]:
     }
 
 
+def symbolic_cases() -> dict[str, bytes]:
+    """Fonts whose numbers are measured, by name: sums, ways that meet, and loops whose count is in a range."""
+    choice = b"\x4b\x58\xb0\x01\x1b\xb0\x02\x59"
+    clamped = b"\x4b\xb8\x7f\xff\x8c\xb0\x00\x8b"
+    loop = clamped + b"\xb0\x00\x2a"
+    compared = b"\x4b\xb0\x10\x8c\xb0\x00\x8b\x20\xb0\x08\x50\x58\x21\x1b\x21\x59"
+    counting = FDEF + b"\xb0\x00\xb0\x00\x43\xb0\x01\x60\x42" + ENDF
+    return {
+        "a sum of 1,000 measured numbers": font([b"\x4b" + b"\x4b\x60" * 1_000 + b"\x21"]),
+        "200 choices, each popped": font([(choice + b"\x21") * 200]),
+        "1,000 choices, kept": font([choice * 1_000]),
+        "64 numbers compared": font([compared * 64]),
+        "a measured count of turns": font([loop], FDEF + b"\xb0\x01\x21" + ENDF),
+        "a cell counted up in such turns": font([b"\xb0\x00\xb0\x00\x42" + loop], counting),
+    }
+
+
+def print_symbolic(path: pathlib.Path, seconds: int) -> None:
+    """Prints what `verdict --symbolic` takes for each font."""
+    print(f"{'font':40} {'bytes':>8} {'verdict':>10} {'memory':>8}  answer")
+    for name, data in {**cases(), **symbolic_cases()}.items():
+        path.write_bytes(data)
+        spent, memory, line = measured(["verdict", "--symbolic", str(path)], seconds)
+        print(f"{name:40} {len(data):8} {spent:8.2f} s {memory:5} MB ", line, flush=True)
+
+
 def measured(words: list[str], seconds: int) -> tuple[float, int, str]:
     """The processor seconds of a run, its greatest memory in MB, and the first line that it prints."""
     limit = f'ulimit -t {seconds}; exec "$@"'
@@ -123,27 +150,38 @@ def measured(words: list[str], seconds: int) -> tuple[float, int, str]:
     return float(user) + float(system), int(memory) // 1024, line
 
 
+def print_strict(path: pathlib.Path, certificate: pathlib.Path, seconds: int) -> None:
+    """Prints what `verdict`, `find` and `check` take for each font."""
+    print(f"{'font':40} {'bytes':>8} {'verdict':>10} {'memory':>8} {'check':>10} {'memory':>8} {'certificate':>12}  answer")
+    for name, data in cases().items():
+        path.write_bytes(data)
+        spent, memory, line = measured(["verdict", str(path)], seconds)
+        row = f"{name:40} {len(data):8} {spent:8.2f} s {memory:5} MB"
+        if line.startswith("accepted"):
+            found = measured(["find", str(path), str(certificate)], seconds)[2]
+            if found == line:
+                checked, room, told = measured(["check", str(path), str(certificate)], seconds)
+                row += f" {checked:8.2f} s {room:5} MB {certificate.stat().st_size:12}"
+                line += "" if told == line else f"; check: {told}"
+            else:
+                line += f"; find: {found}"
+            certificate.unlink(missing_ok=True)
+        print(row, "", line, flush=True)
+
+
 def main() -> None:
-    seconds = int(sys.argv[1]) if sys.argv[1:] else 60
+    words = sys.argv[1:]
+    is_symbolic = "--symbolic" in words
+    numbers = [word for word in words if word != "--symbolic"]
+    seconds = int(numbers[0]) if numbers else 60
     subprocess.run([TOP / "hintcheck", "--help"], stdout=subprocess.DEVNULL, check=True)
     resource.setrlimit(resource.RLIMIT_CORE, (0, 0))
-    print(f"{'font':40} {'bytes':>8} {'verdict':>10} {'memory':>8} {'check':>10} {'memory':>8} {'certificate':>12}  answer")
     with tempfile.TemporaryDirectory() as folder:
-        path, certificate = pathlib.Path(folder) / "font.ttf", pathlib.Path(folder) / "font.cert"
-        for name, data in cases().items():
-            path.write_bytes(data)
-            spent, memory, line = measured(["verdict", str(path)], seconds)
-            row = f"{name:40} {len(data):8} {spent:8.2f} s {memory:5} MB"
-            if line.startswith("accepted"):
-                found = measured(["find", str(path), str(certificate)], seconds)[2]
-                if found == line:
-                    checked, room, told = measured(["check", str(path), str(certificate)], seconds)
-                    row += f" {checked:8.2f} s {room:5} MB {certificate.stat().st_size:12}"
-                    line += "" if told == line else f"; check: {told}"
-                else:
-                    line += f"; find: {found}"
-                certificate.unlink(missing_ok=True)
-            print(row, "", line, flush=True)
+        path = pathlib.Path(folder) / "font.ttf"
+        if is_symbolic:
+            print_symbolic(path, seconds)
+        else:
+            print_strict(path, pathlib.Path(folder) / "font.cert", seconds)
 
 
 if __name__ == "__main__":

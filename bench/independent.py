@@ -1,0 +1,114 @@
+#!/usr/bin/env python3
+"""Compares a second checker of certificates, examples/checker.py, with what is expected and with
+`hintcheck check`.
+
+Usage: bench/independent.py [PROGRAM [FONT..]]
+The answers of examples/certificates/answers.txt are asked of the second checker, and of PROGRAM, a
+built hintcheck, where it is given. Then PROGRAM finds a certificate for each FONT, or for the fonts
+of examples/premises and the 20 smallest of /usr/share/fonts; both check it as it is, and where it
+has at most MOST_BYTES also with each of CHANGES bytes changed alone. What differs is printed, and
+the exit status is then 1. The second checker takes about a second for a megabyte.
+"""
+
+import pathlib
+import random
+import re
+import subprocess
+import sys
+import tempfile
+
+TOP = pathlib.Path(__file__).resolve().parent.parent
+CHECKER = [sys.executable, str(TOP / "examples/checker.py")]
+VECTORS = TOP / "examples/certificates"
+MOST_FONTS = 20
+MOST_BYTES = 300_000
+CHANGES = 20
+
+
+def answer(words: list[str]) -> str:
+    """What a program prints, the lines in one."""
+    ran = subprocess.run(words, capture_output=True, text=True, check=False)
+    return " / ".join((ran.stdout + ran.stderr).splitlines())
+
+
+def edited(certificate: bytes, edits: list[str]) -> bytes:
+    """A certificate with the edits of answers.txt."""
+    for edit in edits:
+        start, end, put = re.fullmatch(r"(\d+)-(\d+)=([0-9A-F]*)", edit).groups()
+        certificate = certificate[:int(start)] + bytes.fromhex(put) + certificate[int(end):]
+    return certificate
+
+
+def differs(what: str, seen: str, wanted: str) -> bool:
+    """Whether these differ, which is then printed."""
+    if seen != wanted:
+        print(f"{what}\n  {seen}\n  instead of {wanted}")
+    return seen != wanted
+
+
+def fails_vectors(checkers: list[list[str]], changed: pathlib.Path) -> int:
+    """How many answers of answers.txt aren't given, by all checkers."""
+    failed = tried = 0
+    for line in (VECTORS / "answers.txt").read_text().splitlines():
+        if not line or line.startswith("#"):
+            continue
+        asked, expected = line.split(" -> ")
+        font, name, *edits = asked.split()
+        changed.write_bytes(edited((VECTORS / name).read_bytes(), edits))
+        for checker in checkers:
+            tried += 1
+            seen = answer([*checker, str(VECTORS / font), str(changed)])
+            failed += differs(f"{checker[-1]} {asked}", seen, expected)
+    print(f"{tried} answers to what is expected, {failed} differ")
+    return failed
+
+
+def changed_certificates(certificate: bytes) -> list[bytes]:
+    """The certificate, and others with one byte changed, the same ones each time."""
+    if not certificate or len(certificate) > MOST_BYTES:
+        return [certificate]
+    chance = random.Random(len(certificate))
+    places = [chance.randrange(len(certificate)) for _ in range(CHANGES)]
+    return [certificate] + [certificate[:place] + bytes([chance.randrange(256)])
+                            + certificate[place + 1:] for place in places]
+
+
+def fails_font(program: str, font: pathlib.Path, changed: pathlib.Path) -> int:
+    """How many certificates of a font both checkers answer differently."""
+    found = answer([program, "find", str(font), str(changed)])
+    certificate = changed.read_bytes() if changed.exists() else b""
+    failed = 0
+    for number, each in enumerate(changed_certificates(certificate)):
+        changed.write_bytes(each)
+        seen = answer([*CHECKER, str(font), str(changed)])
+        wanted = answer([program, "check", str(font), str(changed)])
+        failed += differs(f"{font}, certificate {number} of {len(each)} bytes", seen, wanted)
+        if number == 0 and certificate:
+            failed += differs(f"{font}: as found", seen, found)
+    return failed
+
+
+def usual_fonts(folder: pathlib.Path) -> list[pathlib.Path]:
+    """The fonts of examples/premises, made in the folder, and the smallest of the system."""
+    subprocess.run([sys.executable, TOP / "examples/premises/fonts.py", folder], check=True)
+    fonts = pathlib.Path("/usr/share/fonts").rglob("*.ttf")
+    smallest = sorted(fonts, key=lambda font: (font.stat().st_size, font))[:MOST_FONTS]
+    return [*sorted(folder.glob("*.ttf")), *smallest]
+
+
+def main() -> int:
+    """Makes all comparisons."""
+    program, fonts = (sys.argv[1:2] or [None])[0], [pathlib.Path(word) for word in sys.argv[2:]]
+    with tempfile.TemporaryDirectory() as name:
+        folder = pathlib.Path(name)
+        changed = folder / "changed.cert"
+        failed = fails_vectors([CHECKER] + ([[program, "check"]] if program else []), changed)
+        for font in (fonts or usual_fonts(folder)) if program else []:
+            changed.unlink(missing_ok=True)
+            failed += fails_font(program, font, changed)
+            print(f"{font}: compared")
+    return int(failed > 0)
+
+
+if __name__ == "__main__":
+    sys.exit(main())
