@@ -131,8 +131,8 @@ static inline uint32_t hintcheck_verdict(const uint8_t *font, size_t font_length
 }
 
 /* Checks the programs of the font in `font_length` bytes at `font` by the symbolic profile, and returns the status. Time and memory have bounds
- * of their own, a number of steps a program: no points are counted, answer->points is 0, and the status is never HINTCHECK_BUDGET. A program
- * is refused where this search found no way to accept it, which says no more. All else is as for hintcheck_verdict. */
+ * of their own, a number of steps a program: no points are counted, and answer->points is 0. A program is refused where this search found no
+ * way to accept it, which says no more. All else is as for hintcheck_verdict. */
 static inline uint32_t hintcheck_verdict_symbolic(const uint8_t *font, size_t font_length, hintcheck_refusal *refusals, size_t room,
                                                   hintcheck_answer *answer)
 {
