@@ -15,7 +15,8 @@
  * and `refusals` and `answer` overlap neither each other nor the bytes of the font or of the certificate. Memory is taken with malloc
  * while a call runs, and given back before it returns. Threads: calls may run at once in several threads, each with its own `refusals`
  * and `answer`; not from a signal handler, and not in the forked child of a process with threads. Time: `points` bounds how often a state
- * is carried on (that no more is counted is proved); docs/EMBEDDING.md says which numbers real fonts need, and what time that bounds.
+ * is carried on (that no more is counted is proved); docs/EMBEDDING.md says which numbers real fonts need, and what time that bounds. `steps` bounds the search of
+ * hintcheck_verdict_symbolic.
  */
 #ifndef HINTCHECK_H
 #define HINTCHECK_H
@@ -52,6 +53,9 @@ enum hintcheck_reason_class {
 /* As many points as the font asks for. */
 #define HINTCHECK_UNLIMITED UINT64_MAX
 
+/* As many steps as the command's search makes for a font by the symbolic profile. */
+#define HINTCHECK_USUAL_STEPS UINT64_C(1000000000)
+
 /* The numbers of the two programs that no glyph has. */
 #define HINTCHECK_FONT_PROGRAM 65536u
 #define HINTCHECK_CVT_PROGRAM 65537u
@@ -61,7 +65,7 @@ typedef struct hintcheck_refusal {
     uint32_t program;      /* which program: a glyph's number, or HINTCHECK_FONT_PROGRAM, or HINTCHECK_CVT_PROGRAM */
     uint32_t place;        /* the program in which the place is: for a function's instruction the one that defines the function */
     uint32_t offset;       /* the place's offset there */
-    uint32_t reason;       /* the reason's number, 20 to 42; README.md lists them */
+    uint32_t reason;       /* the reason's number, 20 to 42, 46 or 47; README.md lists them */
     uint32_t reason_class; /* an enum hintcheck_reason_class */
 } hintcheck_refusal;
 
@@ -95,8 +99,8 @@ uint32_t hintcheck_version(void);
 /* The library's own functions, which take no null pointer, also where a length is 0. Use the three below, which do. */
 uint32_t hintcheck_verdict_of_bytes(const uint8_t *font, size_t font_length, uint64_t points, hintcheck_refusal *refusals, size_t room,
                                     hintcheck_answer *answer);
-uint32_t hintcheck_verdict_symbolic_of_bytes(const uint8_t *font, size_t font_length, hintcheck_refusal *refusals, size_t room,
-                                             hintcheck_answer *answer);
+uint32_t hintcheck_verdict_symbolic_of_bytes(const uint8_t *font, size_t font_length, uint64_t steps, hintcheck_refusal *refusals,
+                                             size_t room, hintcheck_answer *answer);
 uint32_t hintcheck_check_of_bytes(const uint8_t *font, size_t font_length, const uint8_t *certificate, size_t certificate_length,
                                   uint64_t points, hintcheck_refusal *refusals, size_t room, hintcheck_answer *answer);
 
@@ -130,18 +134,20 @@ static inline uint32_t hintcheck_verdict(const uint8_t *font, size_t font_length
     return hintcheck_verdict_of_bytes(font ? font : no_bytes, font_length, points, refusals ? refusals : &no_room, room, answer);
 }
 
-/* Checks the programs of the font in `font_length` bytes at `font` by the symbolic profile, and returns the status. Time and memory have bounds
- * of their own, a number of steps a program: no points are counted, and answer->points is 0. A program is refused where this search found no
- * way to accept it, which says no more. All else is as for hintcheck_verdict. */
-static inline uint32_t hintcheck_verdict_symbolic(const uint8_t *font, size_t font_length, hintcheck_refusal *refusals, size_t room,
-                                                  hintcheck_answer *answer)
+/* Checks the programs of the font in `font_length` bytes at `font` by the symbolic profile, and returns the status. Its search makes at most
+ * `steps` steps for the font (HINTCHECK_USUAL_STEPS is what the command allows), and at most 20,000,000 for a program: a program for which
+ * that is too little is refused (46), and so are those after it where the font's steps are used up. No points are counted, and answer->points
+ * is 0; the status is never HINTCHECK_BUDGET. A program is refused where this search found no way to accept it, which says no more. All else is
+ * as for hintcheck_verdict. */
+static inline uint32_t hintcheck_verdict_symbolic(const uint8_t *font, size_t font_length, uint64_t steps, hintcheck_refusal *refusals,
+                                                  size_t room, hintcheck_answer *answer)
 {
     static const uint8_t no_bytes[1] = {0};
     hintcheck_refusal no_room;
     if (!answer || (!font && font_length) || (!refusals && room)) {
         return hintcheck_usage(answer);
     }
-    return hintcheck_verdict_symbolic_of_bytes(font ? font : no_bytes, font_length, refusals ? refusals : &no_room, room, answer);
+    return hintcheck_verdict_symbolic_of_bytes(font ? font : no_bytes, font_length, steps, refusals ? refusals : &no_room, room, answer);
 }
 
 /* Checks the programs of the font in `font_length` bytes at `font` by the certificate in `certificate_length` bytes at `certificate`,

@@ -3,7 +3,6 @@ use Rattle.std.proofs.Common.{◌≡◌, true, false, ℕ, ◌+◌, ◌^◌, ◌
 use Rattle.std.specs.Prelude.{◌==◌, Err, is_some, option_map}
 use Rattle.std.specs.Io.KnownBytes.{Appends}
 use Rattle.std.proofs.lemmas.List.{nil_from_length}
-use Rattle.std.proofs.lemmas.Option.{slice_get_within}
 use Rattle.tt_code.specs.Cut.{Instruction}
 use Rattle.tt_family.specs.Contents.{Contents}
 use Rattle.tt_family.specs.Ascending.{IsFinished}

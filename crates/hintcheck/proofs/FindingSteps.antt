@@ -1,25 +1,23 @@
 -- The outcomes of the programs that are found, one by one.
 use Rattle.std.proofs.Common.{◌≡◌, ℕ, ◌+◌, List, [], Option, Some, None, refl, sym, subst, arith, inl}
-use Rattle.std.specs.Prelude.{slice_get}
 use Rattle.std.proofs.lemmas.Option.{slice_get_within}
 use Rattle.tt_code.specs.Cut.{Instruction}
 use Rattle.tt_cert.specs.declared.form.Form.{Form}
 use Rattle.tt_cert.specs.declared.name.Name.TheVariants as name
 use Rattle.tt_find.specs.declared.finder.Found.{Found}
-use Rattle.tt_font.specs.Reading.{FontData, GlyphData}
+use Rattle.tt_font.specs.Reading.{FontData}
 use Rattle.hintcheck.specs.CheckedFonts.{IsGoodAtEnd}
 use Rattle.hintcheck.specs.FindingSessions.{IsFoundAnswer, IsOutcomeByFinding, cvt_found, cvt_refused, font_found, font_refused, glyph_found, glyph_refused}
 use Rattle.hintcheck.specs.Representation.FontVerdicts.{IsKnownAtEnd}
-use Rattle.hintcheck.specs.FontPrograms.{cvt_subject, font_of, font_subject, glyph_subject}
+use Rattle.hintcheck.specs.FontPrograms.{cvt_subject, font_subject}
 use Rattle.hintcheck.specs.ProgramVerdicts.{IsForCertificate}
 use Rattle.hintcheck.specs.Programs.{Subject}
 use Rattle.hintcheck.specs.Representation.Judges.{AnswersFinding, IsOutcomeOf}
-use Rattle.hintcheck.specs.Representation.ProgramOrder.{CanGoOn, cvt_done, cvt_stops, font_done, font_stops, glyph_done, glyph_stops, next_program}
+use Rattle.hintcheck.specs.Representation.ProgramOrder.{cvt_done, cvt_stops, font_done, font_stops, glyph_done, glyph_stops, next_program}
 use Rattle.hintcheck.specs.Representation.SessionStages.{KeepsFound, KeepsGood, KeepsKnown}
-use Rattle.hintcheck.specs.Sessions.{Stage, accepted_as, after_font, at_glyph, at_start, over, refused_as}
+use Rattle.hintcheck.specs.Sessions.{Stage, accepted_as, after_font, at_glyph, at_start, over}
 use Rattle.hintcheck.specs.declared.finding.Finding.{Finding}
 use Rattle.hintcheck.specs.declared.session.Outcome.{Outcome}
-use Rattle.hintcheck.proofs.FontEnds.{known_of_found}
 use Rattle.hintcheck.proofs.FontSafety.{good_end}
 use Rattle.hintcheck.proofs.ProgramSteps.{is_last}
 

@@ -7,7 +7,7 @@ use Rattle.std.proofs.lemmas.Option.{slice_get-get_or, slice_get_within}
 use Rattle.tt_code.specs.Cut.{Instruction, IsCut}
 use Rattle.tt_code.specs.Grammar.{IsStructured}
 use Rattle.tt_code.specs.Settings.{Kind as MachineKind}
-use Rattle.tt_abs.specs.Settings.{kind_of, setting_of}
+use Rattle.tt_abs.specs.Settings.{kind_of}
 use Rattle.tt_abs.specs.declared.setting.Setting.{Setting}
 use Rattle.tt_abs.specs.declared.refusal.Refusal.{Refusal}
 use Rattle.tt_abs.specs.declared.refusal.Refusal.TheVariants as fault
@@ -20,7 +20,7 @@ use Rattle.hintcheck.specs.FontPrograms.{cvt_subject, font_of, font_subject, gly
 use Rattle.hintcheck.specs.ProgramVerdicts.{IfRefused, reported_at}
 use Rattle.hintcheck.specs.Programs.{IsCutInto, Subject}
 use Rattle.hintcheck.specs.Representation.FontVerdicts.{ComesToEnd}
-use Rattle.hintcheck.specs.Representation.ProgramOrder.{CanGoOn, IsAcceptedTo, IsAnswerBy, IsNext, IsOutcomeBy, IsProgramOf, IsSettingOf, IsTold, IsUncut, TellsOutcome, cvt_done, cvt_stops, font_done, font_stops, glyph_done, glyph_stops, next_program, stage_after, start_at}
+use Rattle.hintcheck.specs.Representation.ProgramOrder.{CanGoOn, IsAcceptedTo, IsAnswerBy, IsNext, IsOutcomeBy, IsProgramOf, IsSettingOf, IsUncut, TellsOutcome, cvt_done, cvt_stops, font_done, font_stops, glyph_done, glyph_stops, next_program, stage_after, start_at}
 use Rattle.hintcheck.specs.Representation.SessionStages.{KeepsGood}
 use Rattle.hintcheck.specs.Sessions.{IsFaultAt, IsLast, Stage, StageOf, accepted_as, after_font, at_glyph, at_start, last_glyph, no_cvt, no_font, no_glyph, none_is_left, over, refused_as}
 use Rattle.hintcheck.specs.declared.programs.Ended.{Ended}

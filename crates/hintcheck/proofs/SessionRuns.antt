@@ -16,7 +16,7 @@ use Rattle.tt_font.specs.Reading.{FontData, GlyphData}
 use Rattle.hintcheck.specs.Certificates.{AreChecked, AreSectionsChecked, Finding, IsChecked, IsSectionOf, PassesToEnd, at_end, both_passed, cvt_refused, followed, font_refused, no_cvt_section, no_font_section, no_section, passed, refused, refused_before, sections_checked, no_header, other_number}
 use Rattle.hintcheck.specs.CheckedFonts.{EndsGood, HasGoodFamilies, IsTold, all_refused, bytes_in}
 use Rattle.hintcheck.specs.FontPrograms.{cvt_subject, font_of, font_subject, glyph_subject}
-use Rattle.hintcheck.specs.FailedReads.{EndsInCall, EndsInSection, HasRead, IsUnbroken, after_all, in_section, in_sections}
+use Rattle.hintcheck.specs.FailedReads.{EndsInCall, HasRead, IsUnbroken, after_all, in_section, in_sections}
 use Rattle.hintcheck.specs.FailedReads as cut
 use Rattle.hintcheck.specs.Programs.{HasGoodFamily}
 use Rattle.hintcheck.specs.Representation.SessionStages.{ListsOutcome}

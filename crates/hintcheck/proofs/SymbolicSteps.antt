@@ -1,6 +1,6 @@
 -- A font's programs as they are checked by symbolic states, one by one.
-use Rattle.std.proofs.Common.{◌≡◌, ◌∙◌, ℕ, zero, suc, ◌+◌, ◌-◌, ◌*◌, ◌<◌, ◌≤◌, List, [], ◌∷◌, ◌++◌, Option, None, Some, ap, append-nil, append_assoc, arith, drop, length, refl, subst, sym}
-use Rattle.std.specs.Prelude.{IfSome, slice_get}
+use Rattle.std.proofs.Common.{◌≡◌, ◌∙◌, ℕ, zero, suc, ◌+◌, ◌-◌, ◌*◌, ◌<◌, ◌≤◌, List, [], ◌∷◌, Option, None, Some, ap, append-nil, arith, drop, length, refl, subst, sym}
+use Rattle.std.specs.Prelude.{IfSome}
 use Rattle.std.proofs.Math.Nat.{suc-mul}
 use Rattle.tt_abs.specs.declared.refusal.Refusal.{Refusal}
 use Rattle.tt_abs.specs.declared.refusal.Refusal.TheVariants as fault
@@ -15,13 +15,11 @@ use Rattle.tt_font.specs.Reading.{FontData, GlyphData}
 use Rattle.tt_symbolic_font.proofs.Fonts.{safe}
 use Rattle.tt_symbolic_state.specs.CvtMachine.{CvtMachine}
 use Rattle.tt_symbolic_font.specs.Known.{IsGlyphChecked, StartGlyphs, StartsKnowing}
-use Rattle.tt_symbolic_font.specs.Laws.{IsFontSafe}
 use Rattle.tt_symbolic_font.specs.Starts.{GlyphPrograms, StartsFontProgram}
 use Rattle.tt_symbolic_font.specs.declared.ends.Ends.{Ends}
 use Rattle.tt_symbolic_font.specs.declared.glyph_starts.GlyphStarts.{GlyphStarts}
 use Rattle.hintcheck.specs.FontPrograms.{font_of, glyph_subject, judgement_on}
 use Rattle.hintcheck.specs.ProgramVerdicts.{IfRefused}
-use Rattle.hintcheck.specs.Programs.{Subject}
 use Rattle.hintcheck.specs.Representation.ProgramOrder.{CanGoOn, IsUncut, cvt_done, cvt_stops, font_done, font_stops, glyph_done, glyph_stops, next_program, no_cut, no_structure, skipped_to}
 use Rattle.hintcheck.specs.Representation.SessionStages.{ListsOutcome}
 use Rattle.hintcheck.specs.Representation.SymbolicChecks.{AnswersBySymbols, AreCheckedInTurn, AreEnded, AreUnchecked, AreUncheckedTill, IsAfterCvt, IsAfterFont, IsCheckedBy, IsEnded, TellsRefused, accepted, no_glyph_left, refused}
@@ -33,7 +31,7 @@ use Rattle.hintcheck.specs.declared.session.Outcome.{Outcome}
 use Rattle.hintcheck.specs.declared.symbolic_check.SymbolicCheck.{SymbolicCheck}
 use Rattle.hintcheck.proofs.CheckedSections.{dropped}
 use Rattle.hintcheck.proofs.ProgramSteps.{calls_left}
-use Rattle.hintcheck.proofs.VerdictSteps.{listed_first, none_dropped, refused_first}
+use Rattle.hintcheck.proofs.VerdictSteps.{listed_first, none_dropped}
 
 -- what is reported is of the program
 

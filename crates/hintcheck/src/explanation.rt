@@ -11,7 +11,7 @@ ghost use Rattle.hintcheck.specs.Explanations.{HasPlace, HasPlaceIn, HoldAccepte
 ghost use Rattle.hintcheck.specs.FontPrograms.{IsFontInRange};
 ghost use Rattle.hintcheck.specs.Listing.{program_in};
 ghost use Rattle.hintcheck.specs.Programs.{Subject};
-ghost use Rattle.hintcheck.specs.Sessions.{Stage, at_start};
+ghost use Rattle.hintcheck.specs.Sessions.{at_start};
 ghost use Rattle.hintcheck.specs.declared.session.Outcome.{Outcome as AnyOutcome};
 ghost use Rattle.hintcheck.specs.Representation.ProgramOrder.{IsNext, next_program, stage_of, start_at, with_start};
 ghost use Rattle.hintcheck.specs.Representation.SessionStages.{IsAt, KeepsKnown};

@@ -35,7 +35,7 @@ pub use instruction_list::list_program;
 pub use report::{Name, Place, Refused, Verdict};
 pub use session::{Outcome, Session};
 pub use symbolic_bare::bare_symbolic;
-pub use symbolic_verdict::verdict_symbolic;
+pub use symbolic_verdict::{verdict_symbolic, verdict_symbolic_within};
 pub use tt_family::Budget;
 pub use tt_font::{FontFault, Tag, read_maxp};
 pub use tt_stream::{ReadFault, read_all};

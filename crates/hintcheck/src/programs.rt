@@ -3,14 +3,14 @@
 //! where the CVT program ends.
 
 ghost use Rattle.std.specs.Prelude.{◌≡◌, ◌↔◌, [], IfErr, IfOk, IfSome, IsTrue, None, Some, false, true};
-ghost use Rattle.tt_abs.specs.Settings.{kind_of, setting_of};
+ghost use Rattle.tt_abs.specs.Settings.{kind_of};
 ghost use Rattle.tt_family.specs.Budgets.{Spends};
 ghost use Rattle.hintcheck.specs.FontPrograms.{IsFontInRange};
 ghost use Rattle.hintcheck.specs.ProgramVerdicts.{IfRefused};
 ghost use Rattle.hintcheck.specs.Programs.{Subject};
 ghost use Rattle.hintcheck.specs.Representation.FontVerdicts.{ComesToEnd};
 ghost use Rattle.hintcheck.specs.Representation.ProgramOrder.{CanGoOn, IsAcceptedTo, IsAnswerBy, IsGlyphNext, IsNext, IsOfKindNext, IsSettingOf, TellsOutcome, next_program, skipped_to, stage_after, stage_in, stage_of, start_at};
-ghost use Rattle.hintcheck.specs.Sessions.{Stage, accepted_as, at_start, over};
+ghost use Rattle.hintcheck.specs.Sessions.{accepted_as, at_start, over};
 
 use crate::judge::Judge;
 use crate::program::{cut, reported};

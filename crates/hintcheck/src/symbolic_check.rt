@@ -14,7 +14,7 @@ use tt_abs::{Kind, Refusal, Setting, SortedMap, Spot};
 use tt_code::Reason;
 use tt_family::{Budget, is_short};
 use tt_symbolic::{Kept, NOTHING_KEPT};
-use tt_symbolic_check::{CheckRefusal, Start};
+use tt_symbolic_check::{CheckRefusal, Effort, Start};
 use tt_symbolic_font::{Ends, GlyphStarts, check_before_glyphs};
 use tt_symbolic_search::{Search, USUAL_SEARCH};
 
@@ -23,12 +23,24 @@ use tt_symbolic_search::{Search, USUAL_SEARCH};
 #[derive(Drop)]
 pub(crate) struct SymbolicCheck {
     search: Search,
+    /// How many steps the search may make, for all programs together.
+    most_steps: u64,
     /// What is known where the font program or the CVT program ends that was accepted last.
     ends: Ends,
     /// With what glyph programs start.
     starts: GlyphStarts,
     /// Whether a glyph program may write what these starts list.
     may_write_kept: bool,
+}
+
+/// Returns how much may be done for the next program, where so many steps may be made for all
+/// programs together.
+fn effort_left(search: &Search, most_steps: u64) -> Effort {
+    let left = most_steps.saturating_sub(search.steps());
+    Effort {
+        steps: USUAL_SEARCH.steps.min(left),
+        ..USUAL_SEARCH
+    }
 }
 
 /// Searches and checks a font program or a CVT program, which starts with these functions. Returns
@@ -39,6 +51,7 @@ pub(crate) struct SymbolicCheck {
 fn check_to_end(
     alloc: Global,
     search: &mut Search,
+    effort: Effort,
     setting: &Setting<'_>,
     functions: &[(u16, u32)],
 ) -> Result<Ends, CheckRefusal>
@@ -48,7 +61,7 @@ fn check_to_end(
     let functions = SortedMap::from_slice(alloc, functions)?;
     let mut start = Start::unknown(alloc);
     start.functions.copy_from(&functions)?;
-    let found = search.find(setting, &NOTHING_KEPT, &[start], USUAL_SEARCH)?;
+    let found = search.find(setting, &NOTHING_KEPT, &[start], effort)?;
     check_before_glyphs(
         alloc,
         setting,
@@ -66,6 +79,7 @@ fn check_to_end(
 fn check_glyph(
     alloc: Global,
     search: &mut Search,
+    effort: Effort,
     setting: &Setting<'_>,
     starts: &GlyphStarts,
 ) -> Result<(), CheckRefusal>
@@ -82,7 +96,7 @@ fn check_glyph(
         storage: starts.storage.as_slice(),
         controls: starts.controls.as_slice(),
     };
-    let found = search.find(setting, &kept, starts.starts.as_slice(), USUAL_SEARCH)?;
+    let found = search.find(setting, &kept, starts.starts.as_slice(), effort)?;
     starts.check_glyph_program(alloc, setting, found.listed.as_slice(), found.effort)
 }
 
@@ -130,14 +144,14 @@ pub(crate) fn check_in_turn(
         (setting_of glyph.now)) }
 {
     let mut search = Search::new(alloc);
-    let first = check_to_end(alloc, &mut search, font, &[])?;
-    let second = check_to_end(alloc, &mut search, cvt, first.functions.as_slice())?;
+    let first = check_to_end(alloc, &mut search, USUAL_SEARCH, font, &[])?;
+    let functions = first.functions.as_slice();
+    let second = check_to_end(alloc, &mut search, USUAL_SEARCH, cvt, functions)?;
     let starts = starts_after(alloc, &mut search, &second)?;
-    check_glyph(alloc, &mut search, glyph, &starts)
+    check_glyph(alloc, &mut search, USUAL_SEARCH, glyph, &starts)
 }
 
-/// Returns the fault of a program that is refused so. A kept entry that may be written counts as one
-/// of which too little is known, and too many steps as too many states.
+/// Returns the fault of a program that is refused so. Too many steps are told at the program's start.
 pub(crate) fn refusal_of(refusal: CheckRefusal) -> Refusal
     ensures { result ≡ refusal_as refusal }
 {
@@ -154,12 +168,12 @@ pub(crate) fn refusal_of(refusal: CheckRefusal) -> Refusal
         CheckRefusal::KeptEntry { spot, offset } => Refusal::Refused {
             spot,
             offset,
-            reason: Reason::UnknownOperand,
+            reason: Reason::KeptEntry,
         },
         CheckRefusal::BudgetMet => Refusal::Refused {
             spot: Spot::Main,
             offset: 0,
-            reason: Reason::TooManyContexts,
+            reason: Reason::TooManySteps,
         },
         CheckRefusal::OutOfMemory(error) => Refusal::OutOfMemory(error),
     }
@@ -174,10 +188,12 @@ fn no_ends(alloc: Global) -> Ends {
 }
 
 impl SymbolicCheck {
-    /// Makes a judge that knows nothing yet. It takes no memory.
-    pub(crate) fn new(alloc: Global) -> Self {
+    /// Makes a judge that knows nothing yet, whose search may make so many steps for all programs
+    /// together. It takes no memory.
+    pub(crate) fn new(alloc: Global, most_steps: u64) -> Self {
         SymbolicCheck {
             search: Search::new(alloc),
+            most_steps,
             ends: no_ends(alloc),
             starts: GlyphStarts {
                 starts: Vec::new(alloc),
@@ -229,12 +245,14 @@ impl SymbolicCheck {
             → IsRunnable (setting_of setting.now) self.new.starts) }
         ensures starts { self.new.starts ≡ self.old.starts }
     {
+        let effort = effort_left(&self.search, self.most_steps);
+        let search = &mut self.search;
         match setting.kind {
             Kind::Font | Kind::Cvt => {
-                self.ends = check_to_end(alloc, &mut self.search, setting, functions)?;
+                self.ends = check_to_end(alloc, search, effort, setting, functions)?;
                 Ok(())
             }
-            Kind::Glyph { .. } => check_glyph(alloc, &mut self.search, setting, &self.starts),
+            Kind::Glyph { .. } => check_glyph(alloc, search, effort, setting, &self.starts),
         }
     }
 }

@@ -27,6 +27,9 @@ use tt_symbolic_font::Ends;
 /// start with.
 const MOST_TAKEN_UP_AGAIN: u32 = 40;
 
+/// How many steps the search of a font usually makes at most, for all its programs together.
+const USUAL_STEPS: u64 = 1_000_000_000;
+
 /// Judges the next program. Returns what is reported of it, if it is refused.
 fn refused_next(
     alloc: Global,
@@ -113,15 +116,15 @@ fn refused_glyphs(
     Ok(refused)
 }
 
-/// Judges the programs of a font by symbolic states, one after the other: returns the refused ones,
-/// in their order.
-fn refused_programs(alloc: Global, font: &Font<'_>) -> Result<Vec<Refused>, AllocError>
+/// Judges the programs of a font by symbolic states, one after the other, with so many steps for all
+/// of them together: returns the refused ones, in their order.
+fn refused_programs(alloc: Global, font: &Font<'_>, steps: u64) -> Result<Vec<Refused>, AllocError>
     requires { IsFontInRange font.now }
     ensures { IfOk result (λ refused. IsSymbolicVerdict font.now
         (judgement_on font.now refused.items)) }
 {
     let mut programs = Programs::new(font);
-    let mut judge = SymbolicCheck::new(alloc);
+    let mut judge = SymbolicCheck::new(alloc, steps);
     match refused_before_glyphs(alloc, &mut programs, &mut judge)? {
         Some(one) => {
             let mut refused = Vec::new(alloc);
@@ -137,7 +140,8 @@ fn refused_programs(alloc: Global, font: &Font<'_>) -> Result<Vec<Refused>, Allo
 /// that far more fonts are accepted; but what is promised is of a machine that keeps control values
 /// and computes with numbers as the machine of `verdict` needn't. A refused font program or CVT
 /// program ends the verdict; a refused glyph program doesn't. That a program is refused says only
-/// that this search found no way to accept it.
+/// that this search found no way to accept it. The search makes at most 20,000,000 steps for a
+/// program and 1,000,000,000 for a font.
 ///
 /// # Errors
 /// The faults of `Font::read`; `OutOfMemory`.
@@ -145,7 +149,25 @@ pub fn verdict_symbolic(alloc: Global, font: &[u8]) -> Result<Verdict, FontFault
     ensures exact { IfOk result (λ v. (d : FontData) × Reads font.now d × IsSymbolicVerdict d v) }
     ensures faults { TestsWithMemory (font_fault font.now) result }
 {
+    verdict_symbolic_within(alloc, font, USUAL_STEPS)
+}
+
+/// Returns the verdict as `verdict_symbolic` does, where the search makes at most so many steps for
+/// the font: a step carries a state over an instruction. The check of what was found for a program
+/// takes up to four times the steps of its last trial, and 10,000 more. A program for which the
+/// steps that are left are too few is refused as `TooManySteps`, and so are those after it.
+///
+/// # Errors
+/// As `verdict_symbolic`.
+pub fn verdict_symbolic_within(
+    alloc: Global,
+    font: &[u8],
+    steps: u64,
+) -> Result<Verdict, FontFault>
+    ensures exact { IfOk result (λ v. (d : FontData) × Reads font.now d × IsSymbolicVerdict d v) }
+    ensures faults { TestsWithMemory (font_fault font.now) result }
+{
     let read = read_font(alloc, font)?;
-    let refused = refused_programs(alloc, &read)?;
+    let refused = refused_programs(alloc, &read, steps)?;
     Ok(Verdict::new(u32::from(read.glyph_count()) + 2, refused))
 }

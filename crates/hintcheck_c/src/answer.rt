@@ -1,6 +1,6 @@
 //! What a call answers, in numbers.
 
-ghost use Rattle.std.specs.Prelude.{◌≡◌, length};
+ghost use Rattle.std.specs.Prelude.{◌≡◌, ◌≢◌, ◌≤◌};
 ghost use Rattle.hintcheck_c.specs.Answers.{Answers, check_answer, fault_answer as answer_of_fault, font_answer, judging_answer};
 
 use crate::refusal::{HintcheckRefusal, list_refused};
@@ -98,7 +98,8 @@ pub(crate) fn answer_verdict(
 
 /// Returns a fault of a font as an answer, after this many points.
 fn fault_of_font(fault: &FontFault, points: u64) -> HintcheckAnswer
-    ensures { result ≡ font_answer fault.now points }
+    ensures answer { result ≡ font_answer fault.now points }
+    ensures status { result.status ≤ 3 }
 {
     match fault {
         FontFault::OutOfMemory(_) => fault_answer(OUT_OF_MEMORY, MEMORY_FAULT, 0, points),
@@ -108,7 +109,8 @@ fn fault_of_font(fault: &FontFault, points: u64) -> HintcheckAnswer
 
 /// Returns a fault of a verdict as an answer, after this many points.
 pub(crate) fn fault_of_verdict(fault: &VerdictFault, points: u64) -> HintcheckAnswer
-    ensures { result ≡ judging_answer fault.now points }
+    ensures answer { result ≡ judging_answer fault.now points }
+    ensures status { fault.now ≢ VerdictFault.Budget → result.status ≤ 3 }
 {
     match fault {
         VerdictFault::Font(fault) => fault_of_font(fault, points),

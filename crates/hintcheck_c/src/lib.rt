@@ -2,7 +2,7 @@
 //! says for each what it takes and answers.
 #![tactic(auto)]
 
-ghost use Rattle.std.specs.Prelude.{◌≡◌, ◌≢◌, ◌+◌, ◌<◌, ◌≤◌, [], IfErr, IfOk, length};
+ghost use Rattle.std.specs.Prelude.{◌≡◌, ◌≢◌, ◌<◌, ◌≤◌, [], IfErr, IfOk, length};
 ghost use Rattle.tt_family.specs.Budgets.{IsExceeded, Spends};
 ghost use Rattle.hintcheck.specs.CheckedFonts.{AnswersFinding};
 ghost use Rattle.hintcheck.specs.FontPrograms.{IsSafeFont};
@@ -18,7 +18,7 @@ mod refusal;
 pub use answer::HintcheckAnswer;
 use answer::{answer_verdict, fault_of_check, fault_of_verdict};
 use hintcheck::{
-    Budget, CheckFontFault, Verdict, VerdictFault, check_font_within, verdict_symbolic,
+    Budget, CheckFontFault, Verdict, VerdictFault, check_font_within, verdict_symbolic_within,
     verdict_within,
 };
 pub use refusal::HintcheckRefusal;
@@ -73,21 +73,27 @@ pub extern "C" fn hintcheck_verdict_of_bytes(
     answer.status
 }
 
-/// Returns the verdict by symbolic states on the programs of a font.
-fn judge_symbolic(alloc: Global, font: &[u8]) -> Result<Verdict, VerdictFault>
+/// Returns the verdict by symbolic states on the programs of a font, with so many steps.
+fn judge_symbolic(alloc: Global, font: &[u8], steps: u64) -> Result<Verdict, VerdictFault>
     ensures given { IfOk result (λ v. (d : FontData) × Reads font.now d × IsSymbolicVerdict d v) }
     ensures fault { IfErr result (IsFaultOfVerdict font.now) }
+    ensures unbounded { IfErr result (λ fault. fault ≢ VerdictFault.Budget) }
 {
-    Ok(verdict_symbolic(alloc, font)?)
+    match verdict_symbolic_within(alloc, font, steps) {
+        Ok(verdict) => Ok(verdict),
+        Err(fault) => Err(VerdictFault::Font(fault)),
+    }
 }
 
 /// Answers with the verdict by symbolic states on the programs of the font in these bytes, or with
-/// why there is none, and returns the answer's status. No points are counted. The first refusals are
+/// why there is none, and returns the answer's status. The search makes at most this many steps, and
+/// programs for which that is too little are refused; no points are counted. The first refusals are
 /// listed, as many as there is room for.
 #[unsafe(no_mangle)]
 pub extern "C" fn hintcheck_verdict_symbolic_of_bytes(
     alloc: Global,
     font: &[u8],
+    steps: u64,
     refusals: &mut [HintcheckRefusal],
     answer: &mut HintcheckAnswer,
 ) -> u32
@@ -102,13 +108,13 @@ pub extern "C" fn hintcheck_verdict_symbolic_of_bytes(
         → AnswersSymbolicVerdict font.now answer.new refusals.old refusals.new }
     ensures fault { 2 ≤ result
         → AnswersFontFault font.now answer.new refusals.old refusals.new }
-    ensures status { result ≤ 4 }
+    ensures status { result ≤ 3 }
     ensures points { answer.new.points ≡ 0 }
     ensures told { answer.new.status ≡ result }
     ensures room { length refusals.new ≡ length refusals.old }
     ensures listed { answer.new.listed ≤ length refusals.old }
 {
-    *answer = match judge_symbolic(alloc, font) {
+    *answer = match judge_symbolic(alloc, font, steps) {
         Ok(verdict) => answer_verdict(&verdict, refusals, 0),
         Err(fault) => fault_of_verdict(&fault, 0),
     };

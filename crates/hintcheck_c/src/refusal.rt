@@ -24,7 +24,7 @@ pub struct HintcheckRefusal {
     pub place: u32,
     /// The offset of the place in that program, in bytes.
     pub offset: u32,
-    /// The reason's number, 20 to 42.
+    /// The reason's number, 20 to 42, 46 or 47.
     pub reason: u32,
     /// What the reason tells: 0 a possible fault, 1 nothing decided, 2 left out by choice, 3 the
     /// certificate doesn't fit.

@@ -312,6 +312,8 @@ fn reason_text(reason: Reason) -> &'static str {
             "IF, ELSE, EIF, FDEF, IDEF or ENDF is in a wrong place, or is missing.",
         Reason::MissingPoint => "The certificate has no state here.",
         Reason::NotCovered => "The certificate has a state here that doesn't cover what comes.",
+        Reason::TooManySteps => "The search came to its bound of steps or states.",
+        Reason::KeptEntry => "The program may write a number with which glyph programs start.",
         _ => "The instruction fails one of its tests.",
     }
 }

@@ -115,6 +115,10 @@ fn advice_on_program(reason: Reason) -> &'static str {
             "call with fewer turns of LOOPCALL inside one another, or write them as jumps."
         }
         Reason::NeverEnds => "mend the loop that isn't left, or the jump that leads back.",
+        Reason::TooManySteps => "write the program with fewer ways through it, or shorter loops.",
+        Reason::KeptEntry => {
+            "write control values and storage in the CVT program, or at indexes that are known."
+        }
         _ => "make the certificate anew.",
     }
 }

@@ -5,7 +5,7 @@ use anyhow::Result;
 use hintcheck::{
     Outcome, Place, Profile, ReadFault, Session, Task, TaskFault, Verdict, WordFault, bare,
     bare_symbolic, check_font, command, find_font, read_all, read_words, upgrade, verdict,
-    verdict_symbolic, word_bytes,
+    verdict_symbolic, verdict_symbolic_within, word_bytes,
 };
 use std::io::Cursor;
 use tt_cert::Counted;
@@ -128,6 +128,8 @@ pub(crate) fn print_calls(rt: &HostRuntime) -> Result<()> {
     print_verdict(rt, &strict)?;
     let symbolic = verdict_symbolic(rt.alloc(), &bytes)?;
     print_verdict(rt, &symbolic)?;
+    let within = verdict_symbolic_within(rt.alloc(), &bytes, 100)?;
+    print_verdict(rt, &within)?;
     print_font(rt, &bytes)?;
     print_bare(rt)?;
     print_words(rt)?;

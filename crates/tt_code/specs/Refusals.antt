@@ -31,6 +31,8 @@ number_of reason.TooManyContexts = 39
 number_of reason.NeverEnds = 40
 number_of reason.MissingPoint = 41
 number_of reason.NotCovered = 42
+number_of reason.TooManySteps = 46
+number_of reason.KeptEntry = 47
 
 -- What a reason tells: that the bytes are no program or too many, or that what is known doesn't
 -- rule the fault out; that the analysis can't tell; that the program does what is left out by
@@ -59,6 +61,8 @@ class_of reason.TooManyContexts = Undecided
 class_of reason.NeverEnds = Undecided
 class_of reason.MissingPoint = Certificate
 class_of reason.NotCovered = Certificate
+class_of reason.TooManySteps = Undecided
+class_of reason.KeptEntry = Undecided
 
 -- the reason in words, as it is printed
 abbrev pub reason_text : Reason → List ℕ
@@ -85,6 +89,8 @@ reason_text reason.TooManyContexts = codes "too many contexts"
 reason_text reason.NeverEnds = codes "never ends"
 reason_text reason.MissingPoint = codes "missing point"
 reason_text reason.NotCovered = codes "not covered"
+reason_text reason.TooManySteps = codes "too many steps"
+reason_text reason.KeptEntry = codes "kept entry"
 
 -- a value, or the reason of the first test that fails
 abbrev pub Tested : Type 0 → Type 0

@@ -70,6 +70,12 @@ pub enum Reason {
     MissingPoint = 41,
     /// A certificate has a state at a point that doesn't cover what comes there.
     NotCovered = 42,
+    /// The search by symbolic states, or their check, came to its bound: of steps, of states, or of
+    /// the memory entries to leave out.
+    TooManySteps = 46,
+    /// A glyph program may write a control value or a storage cell whose number glyph programs are
+    /// taken to start with.
+    KeptEntry = 47,
 }
 
 /// What a reason tells the font's maker.
@@ -87,7 +93,7 @@ pub enum ReasonClass {
 }
 
 impl Reason {
-    /// Returns the reason's number, 20 to 42.
+    /// Returns the reason's number, 20 to 42, 46 or 47.
     pub fn number(self) -> u8
         ensures { result ≡ number_of self }
     {
@@ -106,7 +112,9 @@ impl Reason {
             | Reason::Function
             | Reason::DepthMismatch
             | Reason::TooManyContexts
-            | Reason::NeverEnds => ReasonClass::Undecided,
+            | Reason::NeverEnds
+            | Reason::TooManySteps
+            | Reason::KeptEntry => ReasonClass::Undecided,
             Reason::MissingPoint | Reason::NotCovered => ReasonClass::Certificate,
             _ => ReasonClass::PossibleFault,
         }
@@ -140,6 +148,8 @@ impl Reason {
             Reason::NeverEnds => "never ends",
             Reason::MissingPoint => "missing point",
             Reason::NotCovered => "not covered",
+            Reason::TooManySteps => "too many steps",
+            Reason::KeptEntry => "kept entry",
         }
     }
 }

@@ -1,6 +1,6 @@
 -- What is listed after an entry was put, and what was taken.
-use Rattle.std.proofs.Common.{◌≡◌, ◌≢◌, ℕ, zero, suc, ◌+◌, ◌<◌, ℤ, pos, List, [], ◌∷◌, Option, None, Some, Bool, true, false, nat_eq, nat_lt, if◌then◌else◌, refl, sym, ◌∙◌, ap, subst, arith, length, take, drop, get_or, negsuc, ◌^◌, ◌≤ℤ◌}
-use Rattle.std.proofs.lemmas.Bool.{eqb-true, eqb-false, ltb-true}
+use Rattle.std.proofs.Common.{◌≡◌, ◌≢◌, ℕ, zero, suc, ◌+◌, ◌<◌, ℤ, pos, List, [], ◌∷◌, Option, None, Some, Bool, true, false, nat_eq, nat_lt, if◌then◌else◌, refl, sym, ◌∙◌, ap, subst, arith, length, take, drop, get_or, negsuc, ◌≤ℤ◌}
+use Rattle.std.proofs.lemmas.Bool.{eqb-true, eqb-false}
 use Rattle.std.proofs.lemmas.List.{drop_more}
 use Rattle.tt_code.specs.States.{IsNumber, is_number}
 use Rattle.tt_code.specs.Changes.{natural, numbers, taken_at, updated, with_stored, all_updated}

@@ -31,7 +31,7 @@ use Rattle.tt_code.specs.declared.kinds.Arithmetic.TheVariants.{Add, Sub, Abs, N
 use Rattle.tt_abs.specs.declared.setting.Setting.{Setting}
 use Rattle.tt_abs.specs.declared.setting.Point.{Point}
 use Rattle.tt_abs.specs.Settings.{frames_of, setting_of}
-use Rattle.tt_symbolic_state.specs.CvtMachine.{Allows, ChangesControl, ChangesControls, ChangesOnly, CvtMachine, CvtSteps, Ordinary, Refinement, Refines, SameControls, WritesControl, ReadsControl, refinement_of}
+use Rattle.tt_symbolic_state.specs.CvtMachine.{Allows, ChangesControl, ChangesControls, ChangesOnly, Ordinary, Refinement, Refines, SameControls, WritesControl, ReadsControl, refinement_of}
 use Rattle.tt_symbolic_state.specs.CvtMachine as kinds
 use Rattle.tt_symbolic_state.specs.Shows.{values}
 use Rattle.tt_symbolic_state.specs.Values.{Fits, Valuation, value}

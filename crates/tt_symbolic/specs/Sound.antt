@@ -1,19 +1,15 @@
 -- What it means that a change of a symbolic state is sound for what the machine does.
-use Rattle.std.specs.Prelude.{◌≡◌, ◌+◌, ℕ, ℤ, List, ◌∷◌, Ok, length, suc, Bool, true, false, not, ◌&&◌, ◌||◌, ◌+ℤ◌, ◌-ℤ◌, neg_ℤ, int_lt, int_le}
+use Rattle.std.specs.Prelude.{◌≡◌, ◌+◌, ℕ, ℤ, ◌∷◌, Ok, length, suc}
 use Rattle.tt_code.specs.Refusals.{Tested}
-use Rattle.tt_code.specs.States.{Machine, Outcome, Value, leaves, IsNumber, is_true}
-use Rattle.tt_code.specs.Computing.{computed, exact, truth, absolute, equal}
+use Rattle.tt_code.specs.States.{Machine, Outcome, IsNumber}
+use Rattle.tt_code.specs.Computing.{computed}
 use Rattle.tt_code.specs.declared.kinds.Arithmetic.{Arithmetic}
-use Rattle.tt_code.specs.declared.kinds.Arithmetic.TheVariants.{Add, Sub, Abs, Neg, Lt, LtEq, Gt, GtEq, Eq, Neq, And, Or, Not}
-use Rattle.tt_code.specs.Runs.{Choices, left_by, pushed_on, value as number_of}
+use Rattle.tt_code.specs.Runs.{Choices, left_by}
 use Rattle.tt_symbolic_state.specs.declared.cell.Cell.{Cell}
-use Rattle.tt_symbolic_state.specs.declared.cell.Range.{Range}
-use Rattle.tt_symbolic_state.specs.Values.{Fits, IsWithin, Valuation, value}
+use Rattle.tt_symbolic_state.specs.Values.{Fits, Valuation}
 use Rattle.tt_symbolic_state.specs.CvtMachine.{SameControls}
-use Rattle.tt_symbolic_state.specs.Shows.{IsShown, Shows, values}
+use Rattle.tt_symbolic_state.specs.Shows.{IsShown, Shows}
 use Rattle.tt_symbolic_state.specs.declared.state.State.{State}
-use Rattle.tt_symbolic_cells.specs.declared.answer.Answer.{Answer}
-use Rattle.tt_symbolic_cells.specs.declared.answer.Answer.TheVariants.{Exactly, Within}
 
 -- which choices and new control values a machine with these control values may have
 abbrev pub Allowing : Type 1

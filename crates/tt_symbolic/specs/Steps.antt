@@ -1,5 +1,5 @@
 -- What it means that an instruction was carried out on a symbolic state.
-use Rattle.std.specs.Prelude.{◌≡◌, ◌+◌, ℕ, suc, ℤ, List, [], ◌∷◌, length}
+use Rattle.std.specs.Prelude.{◌≡◌, ◌+◌, ℕ, suc, List, [], ◌∷◌, length}
 use Rattle.tt_code.specs.Refusals.{Tested}
 use Rattle.tt_code.specs.Cut.{Instruction}
 use Rattle.tt_code.specs.Settings.{Setting as MachineSetting}
@@ -8,10 +8,7 @@ use Rattle.tt_code.specs.Table.{effect_of}
 use Rattle.tt_code.specs.Runs.{does, fetched, goes_on, outcome}
 use Rattle.tt_abs.specs.declared.setting.Setting.{Setting}
 use Rattle.tt_abs.specs.Settings.{setting_of}
-use Rattle.tt_symbolic_state.specs.declared.cell.Cell.{Cell}
-use Rattle.tt_symbolic_state.specs.Values.{Valuation}
 use Rattle.tt_symbolic_state.specs.CvtMachine.{Allows, Refines, refinement_of}
-use Rattle.tt_symbolic_state.specs.Shows.{values}
 use Rattle.tt_symbolic_state.specs.declared.state.State.{State}
 use Rattle.tt_symbolic.specs.Sound.{Allowing, Sound, Works}
 

@@ -1,6 +1,6 @@
 //! Memory entries that a program may not write.
 
-ghost use Rattle.std.specs.Prelude.{◌≡◌, ℕ, true, false};
+ghost use Rattle.std.specs.Prelude.{◌≡◌, true, false};
 ghost use Rattle.std.specs.List.{All};
 ghost use Rattle.tt_abs.specs.Settings.{setting_of};
 ghost use Rattle.tt_symbolic.specs.Representation.Areas.{IsOutside};

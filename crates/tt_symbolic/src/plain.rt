@@ -1,7 +1,6 @@
 //! The instructions of plain lines, which take, test, change and push.
 
-ghost use Rattle.std.specs.Prelude.{◌≡◌, ℤ, IfOk, OnOk, [], ◌∷◌};
-ghost use Rattle.tt_code.specs.States.{Machine};
+ghost use Rattle.std.specs.Prelude.{IfOk, OnOk, [], ◌∷◌};
 ghost use Rattle.tt_code.specs.declared.kinds.Pushed.TheVariants as pushed_kind;
 ghost use Rattle.tt_abs.specs.Settings.{setting_of};
 ghost use Rattle.tt_symbolic.specs.Representation.Plain.{Cuts, Finishes, IsAny, IsControlAt, IsStoredAt, ListsControl, ListsStored, PlainWorks};

@@ -1,10 +1,7 @@
 //! Cells taken from a state's stack and put there.
 
-ghost use Rattle.std.specs.Prelude.{◌≡◌, ℕ, ℤ, IfOk, OnOk};
-ghost use Rattle.tt_code.specs.States.{Machine};
-ghost use Rattle.tt_symbolic_state.specs.Values.{Fits, IsWithin, Valuation, value};
-ghost use Rattle.tt_symbolic_state.specs.Shows.{Shows};
-ghost use Rattle.tt_symbolic.specs.Sound.{Pops, Pushes, Puts};
+ghost use Rattle.std.specs.Prelude.{IfOk, OnOk};
+ghost use Rattle.tt_symbolic.specs.Sound.{Pops, Pushes};
 
 use tt_code::Reason;
 use tt_symbolic_cells::cell_under;

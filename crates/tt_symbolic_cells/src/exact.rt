@@ -1,7 +1,7 @@
 //! MAX, MIN, MUL, DIV, FLOOR and CEILING on cells. What is computed by a division is tested by a
 //! multiplication, so that no division has to be proved.
 
-ghost use Rattle.std.specs.Prelude.{◌≡◌, ℤ, pos, ◌+ℤ◌, ◌*ℤ◌, ◌≤ℤ◌, ◌<ℤ◌, IfSome, IsTrue};
+ghost use Rattle.std.specs.Prelude.{◌≡◌, ℤ, pos, ◌*ℤ◌, ◌≤ℤ◌, ◌<ℤ◌, IfSome, IsTrue};
 ghost use Rattle.tt_code.specs.States.{IsNumber};
 ghost use Rattle.tt_symbolic_state.specs.CvtMachine.{IsCeiling, IsCommensurable, IsFloor};
 ghost use Rattle.tt_symbolic_state.specs.Values.{Fits, IsWithin, Valuation, value};

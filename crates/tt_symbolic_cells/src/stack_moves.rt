@@ -1,6 +1,6 @@
 //! The instructions that push data or move the stack's cells.
 
-ghost use Rattle.std.specs.Prelude.{◌≡◌, ◌+◌, ◌∷◌, [], IfOk, IfSome, OnOk, drop, pos, suc};
+ghost use Rattle.std.specs.Prelude.{◌≡◌, ◌+◌, ◌∷◌, [], IfOk, OnOk, drop, pos, suc};
 ghost use Rattle.tt_code.specs.Computing.{shuffled};
 ghost use Rattle.tt_code.specs.declared.kinds.StackOp.TheVariants as op;
 ghost use Rattle.tt_symbolic_state.specs.Values.{Fits, Valuation, value};

@@ -1,7 +1,6 @@
 -- Runs of the machine with control values are runs of the hint machine.
 use Rattle.std.proofs.Common.{◌≡◌, ℕ, zero, suc, [], ◌∷◌, Some, subst, sym}
 use Rattle.std.specs.Prelude.{slice_get}
-use Rattle.tt_code.specs.Runs.{Runs}
 use Rattle.tt_code.specs.Runs as machine_runs
 use Rattle.tt_symbolic_state.specs.CvtMachine.{here, step}
 use Rattle.tt_symbolic_check.specs.Laws.{RunsAreRuns, StartsAreStarts, StrictSafetySuffices}

@@ -2,7 +2,6 @@
 //! assigned to each symbol of the covering state, so that the cells of both have the same values.
 
 ghost use Rattle.std.specs.Prelude.{◌≡◌, ◌+ℤ◌, ◌*ℤ◌, IfOk, IfSome, Some, slice_get, true};
-ghost use Rattle.tt_symbolic_state.specs.Values.{Fits};
 ghost use Rattle.tt_symbolic_state.specs.Values.{Assigns, Valuation, value};
 ghost use Rattle.tt_symbolic_check.specs.Covering.{AgreeAll, AgreeCall, AgreeCalls, AgreeEntries, AgreeGraphics, AgreeStates, Agrees, Covers, Extends, IsImageWithin, RangesWithin};
 ghost use Rattle.tt_abs.specs.Cells.{CoversFunctions};

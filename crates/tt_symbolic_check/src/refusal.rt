@@ -40,15 +40,17 @@ impl From<AllocError> for CheckRefusal {
 }
 
 /// Where a state is: in which program, and at which offset there.
-#[derive(Clone, Copy)]
-pub(crate) struct Place {
-    spot: Spot,
-    offset: u32,
+#[derive(Clone, Copy, Debug, PartialEq, Eq)]
+pub struct Place {
+    /// The main program, or the program in which the function is that runs.
+    pub spot: Spot,
+    /// The offset there, in bytes.
+    pub offset: u32,
 }
 
 impl Place {
     /// Returns where the state is.
-    pub(crate) fn of(state: &State) -> Place {
+    pub fn of(state: &State) -> Place {
         let spot = match state.calls.as_slice() {
             [] => Spot::Main,
             [.., call] => Spot::of_body(call.body),
@@ -60,7 +62,7 @@ impl Place {
     }
 
     /// Returns the refusal of the instruction at this place.
-    pub(crate) fn refused(self, refusal: StepRefusal) -> CheckRefusal {
+    pub fn refused(self, refusal: StepRefusal) -> CheckRefusal {
         let Place { spot, offset } = self;
         match refusal {
             StepRefusal::Refused(reason) => CheckRefusal::Refused {

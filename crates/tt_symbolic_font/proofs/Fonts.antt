@@ -8,7 +8,7 @@ use Rattle.tt_code.specs.Settings.{Setting}
 use Rattle.tt_code.specs.States.{IsNumber}
 use Rattle.tt_symbolic_state.specs.CvtMachine.{CvtMachine}
 use Rattle.tt_symbolic_check.specs.Starts.{StartsFrom}
-use Rattle.tt_symbolic_font.specs.Starts.{GlyphPrograms, IsMixed, LeavesFunctions, MayHold, Memory, StartsCvtProgram, StartsFontProgram, StartsGlyphProgram, StartsWithFunctions, left, memory_of, written}
+use Rattle.tt_symbolic_font.specs.Starts.{GlyphPrograms, IsMixed, LeavesFunctions, MayHold, Memory, StartsCvtProgram, StartsFontProgram, StartsWithFunctions, left, memory_of, written}
 use Rattle.tt_symbolic_font.specs.Known.{AreEndsKnowing, KeepsThem, StartGlyphs, StartsKnowing}
 use Rattle.tt_symbolic_font.specs.Laws.{CheckedFontsAreSafe, IsChecked}
 use Rattle.tt_symbolic_font.specs.declared.ends.Ends.{Ends}

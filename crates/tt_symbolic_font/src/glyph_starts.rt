@@ -4,7 +4,7 @@ ghost use Rattle.std.specs.Prelude.{◌≡◌, ℕ, IfOk, IfSome, OnOk, Some, sl
 ghost use Rattle.tt_abs.specs.Settings.{setting_of};
 ghost use Rattle.tt_symbolic.specs.Kept.{IsAmong};
 ghost use Rattle.tt_symbolic_check.specs.Starts.{StartsAs};
-ghost use Rattle.tt_symbolic_font.specs.Known.{IsFollowed, IsGlyphChecked, IsWithin, ListsAmong, StartGlyphs, StartsThen};
+ghost use Rattle.tt_symbolic_font.specs.Known.{IsFollowed, IsGlyphChecked, ListsAmong, StartGlyphs, StartsThen};
 ghost use Rattle.tt_symbolic_state.specs.CvtMachine.{CvtMachine};
 ghost use Rattle.tt_symbolic_state.specs.Shows.{IsShown};
 ghost use Rattle.tt_symbolic_state.specs.declared.state.State.{State as AnyState};

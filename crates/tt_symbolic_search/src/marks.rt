@@ -2,6 +2,7 @@
 
 use std::alloc::{AllocError, Global};
 use tt_abs::{Setting, Spot};
+use tt_symbolic_check::Place;
 
 /// For each offset of the three programs whether states are listed there.
 #[derive(Drop)]
@@ -33,22 +34,22 @@ impl Marks {
         })
     }
 
-    /// Whether states are listed at an offset.
-    pub(crate) fn at(&self, spot: Spot, offset: u32) -> bool {
-        let list = match spot {
+    /// Whether states are listed at a place.
+    pub(crate) fn at(&self, place: Place) -> bool {
+        let list = match place.spot {
             Spot::Main => &self.main,
             Spot::Font => &self.font,
             Spot::Prep => &self.prep,
         };
-        list.get(offset as usize).copied().unwrap_or(false)
+        list.get(place.offset as usize).copied().unwrap_or(false)
     }
 
-    /// Notes that states are listed at an offset.
-    pub(crate) fn set(&mut self, spot: Spot, offset: u32) {
-        match spot {
-            Spot::Main => set_mark(&mut self.main, offset),
-            Spot::Font => set_mark(&mut self.font, offset),
-            Spot::Prep => set_mark(&mut self.prep, offset),
+    /// Notes that states are listed at a place.
+    pub(crate) fn set(&mut self, place: Place) {
+        match place.spot {
+            Spot::Main => set_mark(&mut self.main, place.offset),
+            Spot::Font => set_mark(&mut self.font, place.offset),
+            Spot::Prep => set_mark(&mut self.prep, place.offset),
         }
     }
 }

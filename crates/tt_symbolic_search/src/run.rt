@@ -13,11 +13,13 @@ use crate::stepping::{Before, Led, step_on};
 use crate::track::Track;
 use crate::writes::Writes;
 use std::alloc::{AllocError, Global};
-use tt_abs::{Kind, Setting, Spot};
+use tt_abs::{Kind, Setting};
 use tt_code::Reason;
 use tt_symbolic::kept::Kept;
 use tt_symbolic::step::code_at;
-use tt_symbolic_check::{CheckRefusal, Start, is_at_end, lower, raise, start_state, wanted};
+use tt_symbolic_check::{
+    CheckRefusal, Place, Start, is_at_end, lower, raise, start_state, wanted,
+};
 use tt_symbolic_state::{State, StepRefusal};
 
 /// How many steps a state makes beside another one before it is put down.
@@ -77,30 +79,9 @@ pub(crate) struct Run {
     way: Option<Way>,
     before: Before,
     /// Where a kept entry was first written.
-    pub first_write: Option<(Spot, u32)>,
+    pub first_write: Option<Place>,
     /// How many steps were made.
     pub steps: u64,
-}
-
-/// Where a state is: in which program, and at which offset there.
-fn spot_of(state: &State) -> Spot {
-    match state.calls.last() {
-        None => Spot::Main,
-        Some(call) => Spot::of_body(call.body),
-    }
-}
-
-/// Returns the refusal of the instruction at which a state was.
-fn refused(spot: Spot, offset: u32, refusal: StepRefusal) -> CheckRefusal {
-    match refusal {
-        StepRefusal::Refused(reason) => CheckRefusal::Refused {
-            spot,
-            offset,
-            reason,
-        },
-        StepRefusal::KeptEntry => CheckRefusal::KeptEntry { spot, offset },
-        StepRefusal::OutOfMemory(error) => CheckRefusal::OutOfMemory(error),
-    }
 }
 
 /// Makes the stop of a run without cells to blame.
@@ -199,7 +180,7 @@ impl Run {
         if way.led == Led::Back && self.must_arrive(way) {
             return Some(Arrival::Back);
         }
-        if self.marks.at(spot_of(state), state.offset) {
+        if self.marks.at(Place::of(state)) {
             return Some(Arrival::AtListed);
         }
         let is_meeting = way.led != Led::On || code == Some(EIF);
@@ -235,7 +216,7 @@ impl Run {
             return Ok(Some(way));
         }
         let state = &way.track.state;
-        self.marks.set(spot_of(state), state.offset);
+        self.marks.set(Place::of(state));
         let Way { track, .. } = way;
         self.arrivals
             .arrive(task.alloc, merges, track, signature, arrival)?;
@@ -273,7 +254,7 @@ impl Run {
         task: &Task<'_>,
         merges: &Merges,
         track: &Track,
-        place: (Spot, u32),
+        place: Place,
         refusal: StepRefusal,
     ) -> Result<Stop, AllocError> {
         let reason = match &refusal {
@@ -295,7 +276,7 @@ impl Run {
             None => Vec::new(task.alloc),
         };
         Ok(Stop {
-            refusal: refused(place.0, place.1, refusal),
+            refusal: place.refused(refusal),
             apart,
         })
     }
@@ -309,11 +290,11 @@ impl Run {
         way: &mut Way,
         code: Option<u8>,
     ) -> Result<(), Stop> {
-        let place = (spot_of(&way.track.state), way.track.state.offset);
+        let place = Place::of(&way.track.state);
         let track = &mut way.track;
         let Some(code) = code else {
             let refusal = StepRefusal::Refused(Reason::Target);
-            return Err(make_stop(task.alloc, refused(place.0, place.1, refusal)));
+            return Err(make_stop(task.alloc, place.refused(refusal)));
         };
         if Writes::are_wanted(task.setting, &track.state, &task.kept, code) {
             let noted = writes.note(task.setting, &track.state, &task.kept);

@@ -13,7 +13,7 @@ use tt_abs::Setting;
 use tt_code::Reason;
 use tt_symbolic::kept::Kept;
 use tt_symbolic_check::{CheckRefusal, Effort, Start};
-use tt_symbolic_state::State;
+use tt_symbolic_state::{State, StepRefusal};
 
 /// How often a program is searched at most, each time with more that was learnt.
 const MOST_TRIALS: u32 = 14;
@@ -32,6 +32,9 @@ const CHECKED_AGAIN: u64 = 4;
 
 /// How many steps the check may have besides.
 const MORE_CHECKED: u64 = 10_000;
+
+/// More than the starts that a program may have.
+const MOST_STARTS: u64 = 1 << 20;
 
 /// What was found for a program.
 #[derive(Drop)]
@@ -76,7 +79,7 @@ enum Ended {
     Whole,
     /// It stopped.
     Stopped(Stop),
-    /// It made as many steps as it may, or lists too many states.
+    /// It made more steps than it may, or lists too many states.
     TooLong,
 }
 
@@ -118,7 +121,7 @@ impl Search {
     /// # Errors
     /// `Refused` with the place of an instruction and its reason, where no states were found;
     /// `KeptEntry` with the place of an instruction that writes kept entries: `starts_after` leaves
-    /// these out from now on; `BudgetMet`, where as many steps were made or too many states are
+    /// these out from now on; `BudgetMet`, where more steps would be needed or too many states are
     /// listed; `OutOfMemory`.
     pub fn find(
         &mut self,
@@ -172,8 +175,8 @@ impl Search {
     ) -> Result<Option<Found>, CheckRefusal> {
         self.begin_run();
         let (run, stop) = self.run(trial, before)?;
-        if let Some((spot, offset)) = run.first_write {
-            return Err(CheckRefusal::KeptEntry { spot, offset });
+        if let Some(place) = run.first_write {
+            return Err(place.refused(StepRefusal::KeptEntry));
         }
         match stop {
             None => Ok(Some(Found {
@@ -247,7 +250,7 @@ fn is_unknown(refusal: &CheckRefusal) -> bool {
     )
 }
 
-/// Carries on what waits in a run, until nothing does, or for so many steps.
+/// Carries on what waits in a run, until nothing does, or until more than so many steps were made.
 fn run_on(
     run: &mut Run,
     task: &Task<'_>,
@@ -255,13 +258,14 @@ fn run_on(
     writes: &mut Writes,
     most: u64,
 ) -> Ended {
-    for _ in 0..most.saturating_mul(2) {
+    // A state is put down at most once before each step, and once at its end.
+    for _ in 0..most.saturating_mul(2).saturating_add(MOST_STARTS) {
         match run.advance(task, merges, writes) {
             Ok(true) => {}
             Ok(false) => return Ended::Whole,
             Err(stop) => return Ended::Stopped(stop),
         }
-        if run.steps >= most || run.arrivals.are_too_many() {
+        if run.steps > most || run.arrivals.are_too_many() {
             return Ended::TooLong;
         }
     }

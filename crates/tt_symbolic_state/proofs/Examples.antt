@@ -1,9 +1,9 @@
 -- What the machine with control values allows, by examples: what is on the stack (the top first), the
 -- control values before, what is pushed, and the control values afterwards.
-use Rattle.std.proofs.Common.{◌≡◌, ℕ, ℤ, pos, negsuc, List, [], ◌∷◌, refl, arith}
+use Rattle.std.proofs.Common.{ℕ, ℤ, pos, negsuc, [], ◌∷◌, refl, arith}
 use Rattle.std.proofs.lemmas.Int.{ints}
 use Rattle.tt_code.specs.Changes.{with_stored}
-use Rattle.tt_symbolic_state.specs.CvtMachine.{Ceiling, ChangesControls, Floor, Greatest, IsCeiling, IsFloor, IsPaired, IsProduct, IsQuotient, Least, ReadsControl, Refines, WritesControl}
+use Rattle.tt_symbolic_state.specs.CvtMachine.{Floor, Greatest, IsCeiling, IsPaired, Least, ReadsControl, Refines, WritesControl}
 
 -- control values: 100 at each index
 abbrev hundreds : ℕ → ℤ

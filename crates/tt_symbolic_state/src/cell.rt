@@ -1,7 +1,7 @@
 //! Cells: affine expressions of at most one symbol, whose number is in a range.
 
 ghost use Rattle.std.specs.Prelude.{◌≡◌, ◌+ℤ◌, ◌-ℤ◌, ◌*ℤ◌, ◌≤ℤ◌, IfSome, IsTrue, true, int_lt, slice_get};
-ghost use Rattle.tt_symbolic_state.specs.Values.{Fits, IsWithin, Valuation, value};
+ghost use Rattle.tt_symbolic_state.specs.Values.{Fits, Valuation, value};
 ghost use Rattle.tt_code.specs.States.{is_number};
 ghost use Rattle.tt_code.specs.Computing.{equal};
 

@@ -1,8 +1,6 @@
 -- What a session keeps of a font's programs. (Representation: no public clause cites it.)
-use Rattle.std.specs.Prelude.{◌≡◌, ℕ, ◌+◌, ◌≤◌, List, [], ◌∷◌, ◌++◌, Option, Some, None, alloc_error, length, Result, Ok, Err, slice_get}
-use Rattle.std.specs.declared.alloc.AllocError.{AllocError}
+use Rattle.std.specs.Prelude.{◌≡◌, ℕ, ◌+◌, ◌≤◌, List, [], ◌∷◌, ◌++◌, Option, Some, None, alloc_error, length, Result, Ok, slice_get}
 use Rattle.tt_code.specs.Cut.{Instruction}
-use Rattle.tt_abs.specs.declared.refusal.Refusal.{Refusal}
 use Rattle.tt_abs.specs.declared.refusal.Refusal.TheVariants as program
 use Rattle.tt_cert.specs.Answers.{input_at}
 use Rattle.tt_cert.specs.Reading.{header_at}
@@ -13,15 +11,13 @@ use Rattle.tt_font.specs.Reading.{FontData, GlyphData}
 use Rattle.hintcheck.specs.CertificateTexts.{IsEndedText, IsGlyphText, IsReadableListing}
 use Rattle.hintcheck.specs.CheckedFonts.{Finds, IsGoodAtEnd, IsTold}
 use Rattle.hintcheck.specs.FailedReads.{EndsInSection, HasRead}
-use Rattle.hintcheck.specs.FindingSessions.{AreFirstSections, IsFoundAnswer}
+use Rattle.hintcheck.specs.FindingSessions.{AreFirstSections}
 use Rattle.hintcheck.specs.Representation.FontVerdicts.{IsKnownAtEnd}
 use Rattle.hintcheck.specs.FontPrograms.{cvt_subject, font_of, font_subject, glyph_subject}
-use Rattle.hintcheck.specs.ProgramVerdicts.{reported_at}
 use Rattle.hintcheck.specs.Programs.{Subject}
 use Rattle.hintcheck.specs.Representation.ProgramOrder.{next_program, stage_of}
 use Rattle.hintcheck.specs.Representation.ReadProgress.{input_from}
-use Rattle.hintcheck.specs.Sessions.{AnswersAt, IsFaultAt, IsSoundAnswer, Stage, Standing, after_font, at_glyph, at_start, over, refused_as, standing_at}
-use Rattle.tt_find.specs.declared.finder.Found.{Found}
+use Rattle.hintcheck.specs.Sessions.{AnswersAt, IsFaultAt, Stage, Standing, after_font, at_glyph, at_start, over, standing_at}
 use Rattle.hintcheck.specs.declared.programs.Programs.{Programs}
 use Rattle.hintcheck.specs.declared.font_check.CheckFontFault.{CheckFontFault}
 use Rattle.hintcheck.specs.declared.font_check.CheckFontFault.TheVariants as fault

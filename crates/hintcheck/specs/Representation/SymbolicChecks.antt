@@ -53,8 +53,8 @@ pub record IsEndedBy (j : SymbolicCheck) (x : Subject) (functions : List (ℕ ×
 -- what is reported of a program that the check refuses
 abbrev pub refusal_as : CheckRefusal → Refusal
 refusal_as (told.Refused spot offset r) = fault.Refused spot offset r
-refusal_as (told.KeptEntry spot offset) = fault.Refused spot offset reason.UnknownOperand
-refusal_as told.BudgetMet = fault.Refused spot.Main 0 reason.TooManyContexts
+refusal_as (told.KeptEntry spot offset) = fault.Refused spot offset reason.KeptEntry
+refusal_as told.BudgetMet = fault.Refused spot.Main 0 reason.TooManySteps
 refusal_as (told.OutOfMemory e) = fault.OutOfMemory e
 
 -- what comes of the next program, and which one is next then

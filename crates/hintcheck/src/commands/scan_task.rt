@@ -1,6 +1,6 @@
 //! The subcommand `scan`: the verdicts on font files, a line for each.
 
-ghost use Rattle.std.specs.Prelude.{◌≡◌, ◌≢◌, ◌⊎◌, ◌+◌, ◌≤◌, ◌<◌, All, codes, IfErr, IfOk, List, [], ◌∷◌, ◌++◌, OnOk, length, map, string_bytes, ℕ};
+ghost use Rattle.std.specs.Prelude.{◌≡◌, ◌≢◌, ◌⊎◌, ◌+◌, ◌≤◌, ◌<◌, All, codes, IfErr, IfOk, List, [], ◌∷◌, ◌++◌, OnOk, map, string_bytes, ℕ};
 ghost use Rattle.std.specs.Io.KnownBytes.{Appends};
 ghost use Rattle.tt_code.specs.Refusals.{class_of};
 ghost use Rattle.tt_stream.specs.Streams.{CountsPrintFailure};

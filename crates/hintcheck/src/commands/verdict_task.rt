@@ -9,7 +9,7 @@ ghost use Rattle.hintcheck.specs.SymbolicAnswers.{IsSymbolicVerdictOn};
 use super::faults::CommandFault;
 use crate::font::{self, verdict_within};
 use crate::report::Verdict;
-use crate::symbolic_verdict::verdict_symbolic;
+use crate::symbolic_verdict::{verdict_symbolic, verdict_symbolic_within};
 use hintcheck_words::Profile;
 use std::alloc::Global;
 use std::fs;
@@ -61,8 +61,13 @@ fn verdict_within_points<S: Source>(
 }
 
 /// Returns the verdict by symbolic states on all programs of the font whose bytes are all that is
-/// left in the source, which is read to its end.
-fn symbolic_verdict_of<S: Source>(alloc: Global, source: &mut S) -> Result<Verdict, CommandFault>
+/// left in the source, which is read to its end. The search makes at most this many steps, where
+/// they are bounded.
+fn symbolic_verdict_of<S: Source>(
+    alloc: Global,
+    source: &mut S,
+    budget: Option<u64>,
+) -> Result<Verdict, CommandFault>
     ensures exact { IfOk result (λ v. (bytes : List ℕ)
         × ReadsToEnd (S.remaining source.old) (S.remaining source.new) bytes
         × IsSymbolicVerdictOn bytes v) }
@@ -71,11 +76,15 @@ fn symbolic_verdict_of<S: Source>(alloc: Global, source: &mut S) -> Result<Verdi
         (IsFaultOfSource (S.remaining source.old) (S.remaining source.new)) }
 {
     let bytes = read_all(alloc, source)?;
-    Ok(verdict_symbolic(alloc, &bytes)?)
+    match budget {
+        Some(most) => Ok(verdict_symbolic_within(alloc, &bytes, most)?),
+        None => Ok(verdict_symbolic(alloc, &bytes)?),
+    }
 }
 
 /// Returns the verdict of a profile on all programs of a font, whose bytes are those that are left
-/// in the file. The strict one makes at most this many points, where they are bounded.
+/// in the file. The strict one makes at most this many points, and the search of the symbolic one
+/// this many steps, where they are bounded.
 fn verdict_on_bytes<F: Read + Drop>(
     alloc: Global,
     file: F,
@@ -95,12 +104,13 @@ fn verdict_on_bytes<F: Read + Drop>(
     let mut source = Counted::new(file);
     match profile {
         Profile::Strict => verdict_within_points(alloc, &mut source, budget),
-        Profile::Symbolic => symbolic_verdict_of(alloc, &mut source),
+        Profile::Symbolic => symbolic_verdict_of(alloc, &mut source, budget),
     }
 }
 
 /// Returns the verdict of a profile on all programs of the font file with this name. The strict one
-/// makes at most this many points, where they are bounded.
+/// makes at most this many points, and the search of the symbolic one this many steps, where they
+/// are bounded.
 pub(super) fn file_verdict<R: Files + AllocGlobal>(
     rt: &R,
     name: &str,

@@ -1,24 +1,17 @@
 -- The instructions of which the machine with control values says more, on a symbolic state.
-use Rattle.std.specs.Prelude.{◌≡◌, ℤ, List, [], ◌∷◌}
-use Rattle.std.specs.Int.{int_max, int_min}
+use Rattle.std.specs.Prelude.{[], ◌∷◌}
 use Rattle.tt_code.specs.Table.{Lists}
 use Rattle.tt_code.specs.Settings.{Setting}
 use Rattle.tt_code.specs.Changes.{plain}
-use Rattle.tt_code.specs.States.{IsNumber}
 use Rattle.tt_code.specs.declared.kinds.Operand.TheVariants as operand
 use Rattle.tt_code.specs.declared.kinds.Pushed.TheVariants as pushed
 use Rattle.tt_code.specs.declared.kinds.Row.{Row}
-use Rattle.tt_symbolic_state.specs.declared.cell.Cell.{Cell}
-use Rattle.tt_symbolic_state.specs.declared.cell.Range.{Range}
 use Rattle.tt_symbolic_state.specs.declared.state.State.{State}
-use Rattle.tt_symbolic_state.specs.CvtMachine.{ChangesControl, ChangesControls, IsCeiling, IsFloor, IsProduct, IsQuotient, ReadsControl, Refinement, Refines, WritesControl}
+use Rattle.tt_symbolic_state.specs.CvtMachine.{ChangesControl, ChangesControls, ReadsControl, Refinement, Refines, WritesControl}
 use Rattle.tt_symbolic_state.specs.CvtMachine as kinds
-use Rattle.tt_symbolic_state.specs.Values.{value}
-use Rattle.tt_symbolic_cells.specs.declared.answer.Answer.{Answer}
 use Rattle.tt_symbolic_cells.specs.declared.exact.Exact.{Exact}
 use Rattle.tt_symbolic_cells.specs.declared.exact.Exact.TheVariants as exact
 use Rattle.tt_symbolic.specs.Representation.Plain.{line_of}
-use Rattle.tt_symbolic_cells.specs.Answers.{Answers}
 use Rattle.tt_symbolic.specs.Sound.{Allowing, Works}
 
 -- what a kind of instruction allows

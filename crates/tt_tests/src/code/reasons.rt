@@ -28,6 +28,8 @@ const CLASSES: &[(Reason, u8, ReasonClass)] = &[
     (Reason::NeverEnds, 40, Undecided),
     (Reason::MissingPoint, 41, Certificate),
     (Reason::NotCovered, 42, Certificate),
+    (Reason::TooManySteps, 46, Undecided),
+    (Reason::KeptEntry, 47, Undecided),
 ];
 
 #[test]

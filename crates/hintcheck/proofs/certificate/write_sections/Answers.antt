@@ -1,6 +1,5 @@
-use Rattle.std.proofs.Common.{refl, arith, ◌∙◌, ◌<◌, ◌≡◌, Bor, [], ap, subst, sym}
+use Rattle.std.proofs.Common.{refl, arith, ◌∙◌, ◌<◌, Bor, [], ap, subst, sym}
 use Rattle.std.specs.Option.{option_copied}
-use Rattle.std.specs.Prelude.{is_some}
 use Rattle.std.proofs.lemmas.Result.{err_from_is_err_and}
 use Rattle.tt_family.proofs.Spending.{spends_on}
 use Rattle.tt_font.specs.Reading.{FontData}

@@ -1,13 +1,12 @@
-use Rattle.std.proofs.Common.{◌∙◌, ap, sym}
+use Rattle.std.proofs.Common.{◌∙◌, ap}
 use Rattle.std.proofs.lemmas.Result.{err_from_is_err_and}
 use Rattle.tt_cert.specs.Answers.{input_at}
 use Rattle.hintcheck.specs.Representation.ProgramOrder.{stage_of}
 use Rattle.hintcheck.specs.declared.section_check.SectionCheck.{SectionCheck}
-use Rattle.hintcheck.proofs.CheckedSections.{counts_decoding, decoding_is_no_font, finds_decoding}
+use Rattle.hintcheck.proofs.CheckedSections.{finds_decoding}
 use Rattle.hintcheck.proofs.FailedReads.{end_not_read, section_cut_short}
 use Rattle.hintcheck.proofs.ProgramSteps.{is_last, no_section_next}
 use Rattle.hintcheck.proofs.SessionSteps.{answer_of_section, ends_there, more_there, sound_answer, still_told}
-use Rattle.hintcheck.proofs.VerdictSteps.{good_can_go_on}
 use Rattle.hintcheck.proofs.session.check_section.Goals as goal
 
 pub returns-in_err-read_end-clause-exact : goal.returns-in_err-read_end-clause-exact

@@ -1,4 +1,4 @@
-use Rattle.std.proofs.Common.{◌≡◌, ◌∙◌, Bor, Option, subst, sym}
+use Rattle.std.proofs.Common.{◌∙◌, Bor, Option, subst, sym}
 use Rattle.tt_find.specs.declared.finder.Found.{Found}
 use Rattle.tt_font.specs.Reading.{FontData}
 use Rattle.hintcheck.specs.FindingSessions.{IsOutcomeByFinding}

@@ -1,14 +1,14 @@
-use Rattle.std.proofs.Common.{◌≡◌, ◌∙◌, ◌+◌, ◌<◌, ℕ, List, Bor, ap, arith, subst, sym}
+use Rattle.std.proofs.Common.{◌∙◌, ◌+◌, ◌<◌, Bor, subst, sym}
 use Rattle.tt_abs.specs.Entries.{Ascends}
 use Rattle.tt_font.specs.Reading.{FontData}
 use Rattle.tt_symbolic_font.specs.Known.{StartGlyphs}
 use Rattle.tt_symbolic_font.specs.declared.ends.Ends.{Ends}
 use Rattle.tt_symbolic_font.specs.declared.glyph_starts.GlyphStarts.{GlyphStarts}
-use Rattle.hintcheck.specs.FontPrograms.{IsFontInRange, judgement_on}
+use Rattle.hintcheck.specs.FontPrograms.{judgement_on}
 use Rattle.hintcheck.specs.Representation.ProgramOrder.{stage_of}
 use Rattle.hintcheck.specs.Representation.SymbolicChecks.{AreUncheckedTill, IsAfterCvt}
 use Rattle.hintcheck.specs.SymbolicVerdicts.{IsSymbolicVerdict}
-use Rattle.hintcheck.proofs.ProgramSteps.{calls_left, fewer_after}
+use Rattle.hintcheck.proofs.ProgramSteps.{fewer_after}
 use Rattle.hintcheck.proofs.SymbolicSteps.{all_checked, can_take_up, fewer_takings, fewer_to_come, glyph_after, glyph_listed, taken_up, takings_left}
 use Rattle.hintcheck.proofs.symbolic_verdict.refused_glyphs.Goals as goal
 

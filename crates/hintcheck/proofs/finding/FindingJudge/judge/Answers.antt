@@ -1,4 +1,4 @@
-use Rattle.std.proofs.Common.{inl, inr, refl, sym, subst}
+use Rattle.std.proofs.Common.{inl, inr, refl, subst}
 use Rattle.tt_code.specs.Settings.{Setting as MachineSetting}
 use Rattle.tt_family.specs.Contents.{family_of}
 use Rattle.hintcheck.specs.ProgramVerdicts.{IfRefused}

@@ -1,10 +1,7 @@
-use Rattle.std.proofs.Common.{List, sym, subst}
-use Rattle.tt_abs.specs.declared.refusal.Refusal.{Refusal}
-use Rattle.tt_code.specs.Cut.{Instruction}
-use Rattle.hintcheck.specs.Programs.{Subject}
+use Rattle.std.proofs.Common.{subst}
 use Rattle.hintcheck.specs.ProgramVerdicts.{IfRefused}
 use Rattle.hintcheck.specs.Representation.ProgramOrder.{start_at, stage_of}
-use Rattle.hintcheck.proofs.ProgramSteps.{accepted_end, accepted_glyph, can_start, program_of_setting, uncut_next}
+use Rattle.hintcheck.proofs.ProgramSteps.{accepted_end, accepted_glyph, program_of_setting, uncut_next}
 use Rattle.hintcheck.proofs.ProgramVerdictLemmas.{passed_on}
 use Rattle.hintcheck.proofs.programs.Programs.judge.Goals as goal
 
