@@ -159,11 +159,7 @@ pub fn verdict_symbolic(alloc: Global, font: &[u8]) -> Result<Verdict, FontFault
 ///
 /// # Errors
 /// As `verdict_symbolic`.
-pub fn verdict_symbolic_within(
-    alloc: Global,
-    font: &[u8],
-    steps: u64,
-) -> Result<Verdict, FontFault>
+pub fn verdict_symbolic_within(alloc: Global, font: &[u8], steps: u64) -> Result<Verdict, FontFault>
     ensures exact { IfOk result (λ v. (d : FontData) × Reads font.now d × IsSymbolicVerdict d v) }
     ensures faults { TestsWithMemory (font_fault font.now) result }
 {

@@ -17,9 +17,7 @@ use tt_abs::{Kind, Setting};
 use tt_code::Reason;
 use tt_symbolic::kept::Kept;
 use tt_symbolic::step::code_at;
-use tt_symbolic_check::{
-    CheckRefusal, Place, Start, is_at_end, lower, raise, start_state, wanted,
-};
+use tt_symbolic_check::{CheckRefusal, Place, Start, is_at_end, lower, raise, start_state, wanted};
 use tt_symbolic_state::{State, StepRefusal};
 
 /// How many steps a state makes beside another one before it is put down.
