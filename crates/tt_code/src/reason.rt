@@ -70,8 +70,8 @@ pub enum Reason {
     MissingPoint = 41,
     /// A certificate has a state at a point that doesn't cover what comes there.
     NotCovered = 42,
-    /// The search by symbolic states, or their check, came to its bound: of steps, of states, or of
-    /// the memory entries to leave out.
+    /// The search by symbolic states, or the check of what it found, came to its bound: of steps, or
+    /// of the states that it may list.
     TooManySteps = 46,
     /// A glyph program may write a control value or a storage cell whose number glyph programs are
     /// taken to start with.

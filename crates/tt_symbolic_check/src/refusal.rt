@@ -28,7 +28,8 @@ pub enum CheckRefusal {
     /// Memory ran out, which is no fault of the program.
     #[error(transparent)]
     OutOfMemory(AllocError),
-    /// The walk isn't done after as many steps as it may have.
+    /// The walk, or the search before it, isn't done after as many steps as it may have, or lists too
+    /// many states.
     #[error("too many steps")]
     BudgetMet,
 }

@@ -38,7 +38,7 @@ mixed_is x y z e (inr h) = h ∙ e
 
 -- the start that shows a machine shows each one with a memory that may follow, and with functions
 -- that are known
-still_shown : (s : Setting) (g : GlyphStarts) (second : Ends) (m k n : CvtMachine) (new : Memory) → StartGlyphs second g → StartsFrom g.starts.items m → KeepsThem s g m k → IsMixed (memory_of m) (memory_of k) new
+still_shown : (s : Setting) (g : GlyphStarts) (second : Ends) (m k n : CvtMachine) (new : Memory) → StartGlyphs second g → StartsFrom g.starts.items m → KeepsThem g m k → IsMixed (memory_of m) (memory_of k) new
     → IsFresh n.machine → ((i : ℕ) → n.machine.registers.storage i ≡ new.storage i) → ((i : ℕ) → n.controls i ≡ new.controls i) → CoversFunctions second.functions n.machine.functions → StartsFrom g.starts.items n
 still_shown s g second m k n new starts from keeps mixed fresh storage controls known =
     let within = starts.within from.index from.start from.found in

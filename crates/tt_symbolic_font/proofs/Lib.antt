@@ -1,3 +1,4 @@
 pub mod Checked
 pub mod Following
 pub mod Fonts
+pub mod StrictFonts

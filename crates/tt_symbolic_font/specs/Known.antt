@@ -68,8 +68,8 @@ pub record StartGlyphs (ends : Ends) (g : GlyphStarts) : Type 0 where
   pub within : (i : ℕ) (start : Start) → slice_get g.starts.items i ≡ Some start
       → IsWithin ends.functions g.storage.items g.controls.items start
 
--- a run from one of these starts changes no entry of these
-pub record KeepsThem (s : Setting) (g : GlyphStarts) (m n : CvtMachine) : Type 0 where
+-- both machines have the same numbers at the entries that are kept
+pub record KeepsThem (g : GlyphStarts) (m n : CvtMachine) : Type 0 where
   pub storage :
       SameEntries g.storage.items m.machine.registers.storage n.machine.registers.storage
   pub controls : SameEntries g.controls.items m.controls n.controls
@@ -77,4 +77,4 @@ pub record KeepsThem (s : Setting) (g : GlyphStarts) (m n : CvtMachine) : Type 0
 -- a glyph program was checked from these starts: no run faults, or changes an entry that is kept
 pub record IsGlyphChecked (s : Setting) (g : GlyphStarts) : Type 0 where
   pub safe : IsSafe s g.starts.items
-  pub keeps : (m n : CvtMachine) → StartsFrom g.starts.items m → CvtRuns s m n → KeepsThem s g m n
+  pub keeps : (m n : CvtMachine) → StartsFrom g.starts.items m → CvtRuns s m n → KeepsThem g m n

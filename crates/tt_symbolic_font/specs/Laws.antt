@@ -1,6 +1,8 @@
 -- What the checks of a font's programs say together.
 use Rattle.std.specs.Prelude.{◌≡◌, ℕ, [], Some}
+use Rattle.tt_code.specs.Fonts as strict
 use Rattle.tt_code.specs.Fonts.{Font, cvt_setting, font_setting}
+use Rattle.tt_code.specs.Runs.{NeverFaults}
 use Rattle.tt_code.specs.Settings.{Setting}
 use Rattle.tt_symbolic_state.specs.CvtMachine.{CvtNeverFaults}
 use Rattle.tt_symbolic_font.specs.Starts.{GlyphPrograms, StartsCvtProgram, StartsFontProgram, StartsGlyphProgram}
@@ -32,3 +34,14 @@ abbrev pub CheckedFontsAreSafe : Type 0
 CheckedFontsAreSafe =
     (f : Font) (programs : GlyphPrograms) (first second : Ends) (g : GlyphStarts)
     → IsChecked f programs first second g → IsFontSafe f programs
+
+-- a font whose programs never fault on the hint machine is safe: each run of the machine with
+-- control values, from where a program of the font starts, is one of the hint machine
+abbrev pub StrictFontsAreSafe : Type 0
+StrictFontsAreSafe =
+    (f : Font) (programs : GlyphPrograms)
+    → NeverFaults (font_setting f) (strict.StartsFontProgram f)
+    → NeverFaults (cvt_setting f) (strict.StartsCvtProgram f)
+    → ((glyph : ℕ) (s : Setting) → programs glyph ≡ Some s
+      → NeverFaults s (strict.StartsGlyphProgram f))
+    → IsFontSafe f programs
