@@ -40,7 +40,7 @@ TellsNoneIsGood x fault =
     IsOutOfMemory fault ⊎ IsNeverEnding fault ⊎ NoneIsGood (setting_of x) x.start.now
 
 -- where the least family is good except for the end, the answer says so, unless memory ran out
-abbrev pub TellsNoEnd : Subject → Result Found Refusal → Type 0
+abbrev pub TellsNoEnd : {A : Type 0} → Subject → Result A Refusal → Type 0
 TellsNoEnd x answer =
     (family : Place → Option State) → LacksEnd (setting_of x) x.start.now family
     → IfOk answer (λ _. ⊥) × IfErr answer (λ fault. IsOutOfMemory fault ⊎ IsNeverEnding fault)

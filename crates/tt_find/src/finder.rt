@@ -1,7 +1,8 @@
 //! The finder: from the start, the state at the smallest point that is new or has changed is
 //! carried on, until none is left.
 
-ghost use Rattle.std.specs.Prelude.{◌≡◌, None, [], ◌∷◌, IfErr, IfOk, IfSome};
+ghost use Rattle.std.specs.Prelude.{◌≡◌, None, [], ◌∷◌, IfErr, IfOk, IfSome, OnErr, OnOk, is_some, option_map};
+ghost use Rattle.std.specs.Option.{option_copied};
 ghost use Rattle.tt_abs.specs.Entries.{Ascends};
 ghost use Rattle.tt_abs.specs.Settings.{setting_of};
 ghost use Rattle.tt_abs.specs.StateFlow.{FunctionsFit};
@@ -9,7 +10,7 @@ ghost use Rattle.tt_family.specs.Budgets.{Spends};
 ghost use Rattle.tt_find.specs.FoundSubjects.{AreCounted, HasLeastContexts, HasOnlyNeeded, IsJustifiedFor, IsLeastFor, TellsNoEnd, TellsNoneIsGood};
 ghost use Rattle.tt_find.specs.Representation.Solvers.{updates_of};
 ghost use Rattle.tt_find.specs.Representation.SolverSubjects.{HasLawsFor, IsFoundFor, IsWholeFor, StopsFor};
-ghost use Rattle.tt_find.specs.Finders.{IsEmptySolver};
+ghost use Rattle.tt_find.specs.Finders.{HasFound, IsEmptySolver};
 
 use crate::carry::{carry_on, store};
 use crate::origin::Origin;
@@ -242,44 +243,71 @@ fn take_emptied(alloc: Global, builder: &mut Builder) -> Builder
     taken
 }
 
-/// A finder, whose memory one program after another uses.
+/// A finder, whose memory one program after another uses. It keeps the family that its last search
+/// found, which it lends, until the next search takes the memory.
 #[derive(Drop)]
 pub struct Finder {
     solver: Solver,
     /// A builder in whose memory a family is made anew.
     memory: Builder,
+    /// What the last search found, if it found a family.
+    found: Option<Found>,
 }
 
 impl Finder {
-    /// Makes a finder. It takes no memory.
+    /// Makes a finder, which has found nothing. It takes no memory.
     pub fn new(alloc: Global) -> Finder
-        ensures { IsEmptySolver result.solver }
+        ensures empty { IsEmptySolver result.solver }
+        ensures none { result.found ≡ None }
     {
         Finder {
             solver: Solver::new(alloc),
             memory: Builder::new(alloc),
+            found: None,
         }
     }
 
-    /// Takes back the memory of a certificate, in place of the states that the finder has.
-    pub fn take_back(&mut self, certificate: Certificate)
-        ensures contexts { self.new.solver.builder.contexts ≡ [] ∷ [] }
-        ensures states { self.new.solver.builder.states ≡ [] }
+    /// Lends the certificate of the family that the last search found, if it found one.
+    pub fn certificate(&self) -> Option<&Certificate>
+        ensures value { option_copied result
+            ≡ option_map (λ found. found.certificate) self.now.found }
+        ensures variant { is_some result ≡ is_some self.now.found }
     {
-        self.solver.builder = certificate.into_builder();
+        match &self.found {
+            Some(found) => Some(&found.certificate),
+            None => None,
+        }
     }
 
-    /// Returns the least family as `find` finds it, with the states that it has kept besides those
-    /// that a filling needs. Its certificate has the finder's memory for states, which `take_back`
-    /// takes back.
+    /// Returns what the last search found, if it found a family.
+    pub fn into_found(self) -> Option<Found>
+        ensures { result ≡ self.found }
+    {
+        self.found
+    }
+
+    /// Takes the memory of what the last search found for the next one.
+    fn reuse_memory(&mut self)
+        ensures { self.new.found ≡ None }
+    {
+        if let Some(found) = self.found.take() {
+            self.solver.builder = found.certificate.into_builder();
+        }
+    }
+
+    /// Finds the least family as `find` does, with the states that the search has kept besides
+    /// those that a filling needs. The finder keeps it in place of the one before. Returns how many
+    /// updates made its filling.
     ///
     /// # Errors
-    /// As `find`.
-    pub fn find(&mut self, alloc: Global, setting: &Setting<'_>) -> Result<Found, Refusal>
+    /// As `find`; then the finder keeps no family.
+    pub fn find(&mut self, alloc: Global, setting: &Setting<'_>) -> Result<u64, Refusal>
         requires ascends { Ascends setting.now.start.now }
         requires fits { FunctionsFit (setting_of setting.now) setting.now.start.now }
-        ensures filling { IfOk result (IsLeastFor setting.now) }
-        ensures contexts { IfOk result (HasLeastContexts setting.now) }
+        ensures kept { IfOk result (HasFound self.new) }
+        ensures filling { OnOk result (IfSome self.new.found (IsLeastFor setting.now)) }
+        ensures contexts { OnOk result (IfSome self.new.found (HasLeastContexts setting.now)) }
+        ensures none { OnErr result (self.new.found ≡ None) }
         ensures justified { IfErr result (IsJustifiedFor setting.now) }
         ensures none_good { IfErr result (TellsNoneIsGood setting.now) }
         ensures never_ends { TellsNoEnd setting.now result }
@@ -287,28 +315,30 @@ impl Finder {
         self.find_within(alloc, setting, &mut Budget::unlimited())
     }
 
-    /// Returns the least family as `Finder::find` does, and makes at most as many points as the
+    /// Finds the least family as `Finder::find` does, and makes at most as many points as the
     /// budget allows.
     ///
     /// # Errors
-    /// As `find`; `OutOfMemory` too where the budget is exceeded.
+    /// As `Finder::find`; `OutOfMemory` too where the budget is exceeded.
     pub fn find_within(
         &mut self,
         alloc: Global,
         setting: &Setting<'_>,
         budget: &mut Budget,
-    ) -> Result<Found, Refusal>
+    ) -> Result<u64, Refusal>
         requires ascends { Ascends setting.now.start.now }
         requires fits { FunctionsFit (setting_of setting.now) setting.now.start.now }
-        ensures filling { IfOk result (IsLeastFor setting.now) }
-        ensures contexts { IfOk result (HasLeastContexts setting.now) }
-        ensures counted { IfOk result
-            (λ found. AreCounted budget.old budget.new found.updates) }
+        ensures kept { IfOk result (HasFound self.new) }
+        ensures filling { OnOk result (IfSome self.new.found (IsLeastFor setting.now)) }
+        ensures contexts { OnOk result (IfSome self.new.found (HasLeastContexts setting.now)) }
+        ensures counted { IfOk result (AreCounted budget.old budget.new) }
+        ensures none { OnErr result (self.new.found ≡ None) }
         ensures justified { IfErr result (IsJustifiedFor setting.now) }
         ensures none_good { IfErr result (TellsNoneIsGood setting.now) }
         ensures never_ends { TellsNoEnd setting.now result }
         ensures spends { Spends budget.old budget.new }
     {
+        self.reuse_memory();
         let kept = KeptStates::WhereWaysMeet;
         let updates = match find_fixpoint(alloc, &mut self.solver, setting, kept, budget) {
             Ok(updates) => updates,
@@ -319,26 +349,29 @@ impl Finder {
         match builder.finish_in(memory) {
             Ok((certificate, rest)) => {
                 self.memory = rest;
-                Ok(Found {
+                self.found = Some(Found {
                     certificate,
                     updates,
-                })
+                });
+                Ok(updates)
             }
             Err(_) => Err(Refusal::OutOfMemory(AllocError)),
         }
     }
 
-    /// Returns the least family as `find` finds it, without the states that a filling adds. Its
-    /// certificate has the finder's memory for states, which `take_back` takes back.
+    /// Finds the least family as `find` does, without the states that a filling adds. The finder
+    /// keeps it in place of the one before. Returns how many updates made its filling.
     ///
     /// # Errors
-    /// As `find`.
-    pub fn find_needed(&mut self, alloc: Global, setting: &Setting<'_>) -> Result<Found, Refusal>
+    /// As `find`; then the finder keeps no family.
+    pub fn find_needed(&mut self, alloc: Global, setting: &Setting<'_>) -> Result<u64, Refusal>
         requires ascends { Ascends setting.now.start.now }
         requires fits { FunctionsFit (setting_of setting.now) setting.now.start.now }
-        ensures filling { IfOk result (IsLeastFor setting.now) }
-        ensures contexts { IfOk result (HasLeastContexts setting.now) }
-        ensures needed { IfOk result (HasOnlyNeeded setting.now) }
+        ensures kept { IfOk result (HasFound self.new) }
+        ensures filling { OnOk result (IfSome self.new.found (IsLeastFor setting.now)) }
+        ensures contexts { OnOk result (IfSome self.new.found (HasLeastContexts setting.now)) }
+        ensures needed { OnOk result (IfSome self.new.found (HasOnlyNeeded setting.now)) }
+        ensures none { OnErr result (self.new.found ≡ None) }
         ensures justified { IfErr result (IsJustifiedFor setting.now) }
         ensures none_good { IfErr result (TellsNoneIsGood setting.now) }
         ensures never_ends { TellsNoEnd setting.now result }
@@ -346,29 +379,31 @@ impl Finder {
         self.find_needed_within(alloc, setting, &mut Budget::unlimited())
     }
 
-    /// Returns the least family as `Finder::find_needed` does, and makes at most as many points as
+    /// Finds the least family as `Finder::find_needed` does, and makes at most as many points as
     /// the budget allows.
     ///
     /// # Errors
-    /// As `find`; `OutOfMemory` too where the budget is exceeded.
+    /// As `Finder::find_needed`; `OutOfMemory` too where the budget is exceeded.
     pub fn find_needed_within(
         &mut self,
         alloc: Global,
         setting: &Setting<'_>,
         budget: &mut Budget,
-    ) -> Result<Found, Refusal>
+    ) -> Result<u64, Refusal>
         requires ascends { Ascends setting.now.start.now }
         requires fits { FunctionsFit (setting_of setting.now) setting.now.start.now }
-        ensures filling { IfOk result (IsLeastFor setting.now) }
-        ensures contexts { IfOk result (HasLeastContexts setting.now) }
-        ensures needed { IfOk result (HasOnlyNeeded setting.now) }
-        ensures counted { IfOk result
-            (λ found. AreCounted budget.old budget.new found.updates) }
+        ensures kept { IfOk result (HasFound self.new) }
+        ensures filling { OnOk result (IfSome self.new.found (IsLeastFor setting.now)) }
+        ensures contexts { OnOk result (IfSome self.new.found (HasLeastContexts setting.now)) }
+        ensures needed { OnOk result (IfSome self.new.found (HasOnlyNeeded setting.now)) }
+        ensures counted { IfOk result (AreCounted budget.old budget.new) }
+        ensures none { OnErr result (self.new.found ≡ None) }
         ensures justified { IfErr result (IsJustifiedFor setting.now) }
         ensures none_good { IfErr result (TellsNoneIsGood setting.now) }
         ensures never_ends { TellsNoEnd setting.now result }
         ensures spends { Spends budget.old budget.new }
     {
+        self.reuse_memory();
         let kept = KeptStates::WhereWaysMeet;
         let updates = match find_fixpoint(alloc, &mut self.solver, setting, kept, budget) {
             Ok(updates) => updates,
@@ -379,10 +414,11 @@ impl Finder {
         match builder.finish_without(&self.solver.spare, memory) {
             Ok((certificate, rest)) => {
                 self.memory = rest;
-                Ok(Found {
+                self.found = Some(Found {
                     certificate,
                     updates,
-                })
+                });
+                Ok(updates)
             }
             Err(_) => Err(Refusal::OutOfMemory(AllocError)),
         }
@@ -410,7 +446,10 @@ pub fn find(alloc: Global, setting: &Setting<'_>) -> Result<Found, Refusal>
     ensures never_ends { TellsNoEnd setting.now result }
 {
     let mut finder = Finder::new(alloc);
-    finder.find_needed(alloc, setting)
+    match finder.find_needed(alloc, setting) {
+        Ok(_) => Ok(finder.into_found().unwrap()),
+        Err(fault) => Err(fault),
+    }
 }
 
 /// Finds the least family as `find` does, with a state at each point that the search comes to, and
