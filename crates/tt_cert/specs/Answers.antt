@@ -1,5 +1,6 @@
 -- What a function that reads from a source, or writes to a sink, returns.
 use Rattle.std.specs.Prelude.{◌≡◌, ℕ, ◌+◌, ◌<◌, true, List, [], ◌++◌, length, get_or, Option, Some, is_some, unwrap_or, IfSome, Result, Ok, Err}
+use Rattle.std.specs.Borrow.{Bor}
 use Rattle.std.specs.Io.KnownBytes.{Consumes}
 use Rattle.tt_cert.specs.declared.fault.DecodeFault.{DecodeFault}
 use Rattle.tt_cert.specs.declared.fault.DecodeFault.TheVariants as fault
@@ -38,6 +39,13 @@ abbrev pub GivesSection : Option (List ℕ) → Option (List ℕ)
 GivesSection old new (Ok x) read = is_some old ≡ true
     → (is_some new ≡ true) × (read ≡ Ok (section_of x.0 x.1, input_at x.2 new))
 GivesSection old new (Err e) read = is_some old ≡ true → Fails e read
+
+-- the same where the family is lent
+abbrev pub LendsSection : Option (List ℕ) → Option (List ℕ)
+    → Result (Name × Bor Contents × ℕ) DecodeFault → Answer Section → Type 0
+LendsSection old new (Ok x) read = is_some old ≡ true
+    → (is_some new ≡ true) × (read ≡ Ok (section_of x.0 x.1.now, input_at x.2 new))
+LendsSection old new (Err e) read = is_some old ≡ true → Fails e read
 
 -- the same of a header, with some place after it
 abbrev pub GivesHeader : {F : Type 0} → Option (List ℕ) → Option (List ℕ)

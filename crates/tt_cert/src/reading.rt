@@ -4,7 +4,7 @@ ghost use Rattle.std.specs.Prelude.{◌≡◌, ◌++◌, ℕ, List, Some, IfErr,
 ghost use Rattle.tt_family.specs.Ascending.{IsFinished};
 ghost use Rattle.tt_family.specs.Contents.{Contents};
 ghost use Rattle.tt_stream.specs.Reads.{ConsumesBeginning};
-ghost use Rattle.tt_cert.specs.Answers.{AreBytes, CountsRead, GivesSection, IsFormFault, ReadsSection, StopsAtEnd, input_at};
+ghost use Rattle.tt_cert.specs.Answers.{AreBytes, CountsRead, GivesSection, IsFormFault, LendsSection, ReadsSection, StopsAtEnd, input_at};
 ghost use Rattle.tt_cert.specs.Representation.Clauses.{IsEmptyBuilder, ReadsAs, StopsWhole};
 ghost use Rattle.tt_cert.specs.Representation.SharedCells.{IsLast};
 ghost use Rattle.tt_cert.specs.Families.{HasText, family_text};
@@ -60,25 +60,25 @@ fn read_section<S: Source>(
 
 /// A reader of sections, one after the other: each is read in the memory of those before it, and
 /// each state is compared to the state before, which it mostly resembles. What is read doesn't
-/// depend on them. A reader holds no family, and of what was read only the last state.
+/// depend on them. A reader holds the family that it read last, which it lends, and the last state;
+/// the next section is read in their memory. After a fault it holds neither.
 #[derive(Drop)]
 pub struct Decoder {
     /// The state that was read last.
     last: Option<LastState>,
-    /// An empty builder, in whose memory the next family is made.
-    spare: Option<Builder>,
+    /// The family that was read last, in whose memory the next one is made.
+    family: Option<Certificate>,
 }
 
 impl Model for Decoder {
     ghost use Rattle.std.specs.Prelude.{IfSome};
-    ghost use Rattle.tt_cert.specs.Representation.Clauses.{IsEmptyBuilder};
     ghost use Rattle.tt_cert.specs.Representation.SharedCells.{IsLast};
 
     ghost Value = { Unit {0} };
 
     ghost view = { λ _. tt };
 
-    ghost invariant = { λ d. IfSome d.last IsLast × IfSome d.spare IsEmptyBuilder };
+    ghost invariant = { λ d. IfSome d.last IsLast };
 }
 
 impl Decoder {
@@ -86,7 +86,7 @@ impl Decoder {
     pub fn new() -> Self {
         Decoder {
             last: None,
-            spare: None,
+            family: None,
         }
     }
 
@@ -103,26 +103,21 @@ impl Decoder {
         }
     }
 
-    /// Takes the empty builder, or makes one.
-    fn take_spare(&mut self, alloc: Global) -> Builder
+    /// Makes an empty builder in the memory of the family that was read last, or a new one.
+    fn take_builder(&mut self, alloc: Global) -> Builder
         ensures { IsEmptyBuilder result }
     {
-        match self.spare.take() {
-            Some(spare) => spare,
+        match self.family.take() {
+            Some(family) => family.into_builder(),
             None => Builder::new(alloc),
         }
     }
 
-    /// Takes back a certificate, and empties it: the next one reuses its memory.
-    pub fn take_back(&mut self, certificate: Certificate) {
-        self.spare = Some(certificate.into_builder());
-    }
-
-    /// Reads the next section, as `decode` does.
+    /// Reads the next section, as `decode` does, in the memory of the family that was read last.
     ///
     /// # Errors
     /// As `decode`.
-    pub fn decode<S: Source>(
+    fn read_next<S: Source>(
         &mut self,
         alloc: Global,
         source: &mut S,
@@ -155,13 +150,58 @@ impl Decoder {
             (StopsAtEnd start (S.remaining source.old) (S.remaining source.new) (section_at form)) }
         ensures failures { CountsRead result (S.failures source.old) (S.failures source.new) }
     {
+        let builder = self.take_builder(alloc);
         let mut last = self.take_last(alloc)?;
-        let spare = self.take_spare(alloc);
         let ((name, certificate), after) = read_section(
-            alloc, source, start, form, spare, &mut last,
+            alloc, source, start, form, builder, &mut last,
         )?;
         self.last = Some(last);
         Ok((name, certificate, after))
+    }
+
+    /// Reads the next section, as `decode` does, and lends its family. The decoder keeps it in
+    /// place of the one before.
+    ///
+    /// # Errors
+    /// As `decode`; then the decoder keeps no family.
+    pub fn decode<S: Source>(
+        &mut self,
+        alloc: Global,
+        source: &mut S,
+        start: u64,
+        form: Form,
+    ) -> Result<(Name, &Certificate, u64), DecodeFault>
+        // What is read was at the beginning of the input, of which no more is read.
+        ensures found { IfOk result (λ r. (input : List ℕ)
+            → S.remaining source.old ≡ Some input → AreBytes input
+            → ReadsSection form input start (section_of r.0 r.1.now) (S.remaining source.new)
+            r.2) }
+        // A section at the beginning of the input is read, except for failed reads and out of
+        // memory.
+        ensures only { (s : Section) (rest : List ℕ) → Fits form s
+            → S.remaining source.old ≡ Some (section_text form s ++ rest)
+            → MatchResult result (λ r. section_of r.0 r.1.now ≡ s) (λ fault. ¬ IsFormFault fault) }
+        // The text of a name with a family is read as this name and this family, whatever follows,
+        // except for failed reads and out of memory.
+        ensures same { (name : ProgramName) (family : Contents) (rest : List ℕ)
+            → HasText form name family
+            → S.remaining source.old ≡ Some (family_text form name family ++ rest)
+            → MatchResult result (λ r. (r.0 ≡ name) × (r.1.now ≡ family))
+            (λ fault. ¬ IsFormFault fault) }
+        ensures finished { IfOk result (λ r. IsFinished r.1.now) }
+        // Which place a fault names.
+        ensures exact { LendsSection (S.remaining source.old) (S.remaining source.new) result
+            (section_at form (input_at start (S.remaining source.old))) }
+        ensures beginning { ConsumesBeginning (S.remaining source.old) (S.remaining source.new) }
+        // Where a read failed, no unit that was read whole breaks a rule.
+        ensures whole_units { IfErr result
+            (StopsAtEnd start (S.remaining source.old) (S.remaining source.new) (section_at form)) }
+        ensures failures { CountsRead result (S.failures source.old) (S.failures source.new) }
+    {
+        match self.read_next(alloc, source, start, form) {
+            Ok((name, family, after)) => Ok((name, self.family.insert(family), after)),
+            Err(fault) => Err(fault),
+        }
     }
 }
 
@@ -208,5 +248,5 @@ pub fn decode<S: Source>(
         (section_at (form_numbered form))) }
     ensures failures { CountsRead result (S.failures source.old) (S.failures source.new) }
 {
-    Decoder::new().decode(alloc, source, start, Form::numbered(form))
+    Decoder::new().read_next(alloc, source, start, Form::numbered(form))
 }

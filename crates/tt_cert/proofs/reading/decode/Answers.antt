@@ -5,5 +5,5 @@ use Rattle.tt_cert.proofs.reading.decode.Goals as goal
 
 pub returns-clause-same : goal.returns-clause-same
 returns-clause-same g c = λ name family rest text known.
-    c.decode.ensures.same name family rest (subst (λ (f : Form). HasText f name family) (sym c.numbered.ensures) text)
+    c.read_next.ensures.same name family rest (subst (λ (f : Form). HasText f name family) (sym c.numbered.ensures) text)
     (known ∙ ap (λ (f : Form). Some (family_text f name family ++ rest)) (sym c.numbered.ensures))
