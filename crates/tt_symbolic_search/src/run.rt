@@ -53,6 +53,8 @@ pub(crate) struct Task<'a> {
     pub kept: Kept<'a>,
     pub apart: &'a [CellName],
     pub widest_compared: i64,
+    /// How many steps it may make.
+    pub most_steps: u64,
     /// Whether the functions of states are told apart.
     pub functions: Functions,
 }
@@ -78,12 +80,12 @@ pub(crate) struct Run {
     before: Before,
     /// Where a kept entry was first written.
     pub first_write: Option<Place>,
-    /// How many steps were made.
+    /// How many steps were made: never more than it may make.
     pub steps: u64,
 }
 
 /// Makes the stop of a run without cells to blame.
-fn make_stop(alloc: Global, refusal: CheckRefusal) -> Stop {
+pub(crate) fn make_stop(alloc: Global, refusal: CheckRefusal) -> Stop {
     Stop {
         refusal,
         apart: Vec::new(alloc),
@@ -367,7 +369,8 @@ impl Run {
     }
 
     /// Carries on the state that is on its way, or the first that waits. Returns whether there was
-    /// one.
+    /// one. After the last step that may be made, one more is only tried: where it is refused, that
+    /// refusal is the one that is told.
     pub(crate) fn advance(
         &mut self,
         task: &Task<'_>,
@@ -386,6 +389,9 @@ impl Run {
             return Ok(true);
         };
         self.step(task, merges, writes, &mut way, code)?;
+        if self.steps >= task.most_steps {
+            return Err(make_stop(task.alloc, CheckRefusal::BudgetMet));
+        }
         self.steps = self.steps.saturating_add(1);
         way.steps = way.steps.saturating_add(1);
         way.is_first = false;

@@ -3,7 +3,7 @@
 use crate::blending::Merges;
 use crate::cell_names::CellName;
 use crate::origins::Origins;
-use crate::run::{Run, Stop, Task, told_functions};
+use crate::run::{Run, Stop, Task, make_stop, told_functions};
 use crate::starts;
 use crate::thresholds::thresholds;
 use crate::writes::Writes;
@@ -34,7 +34,7 @@ const CHECKED_AGAIN: u64 = 4;
 const MORE_CHECKED: u64 = 10_000;
 
 /// More than the starts that a program may have.
-const MOST_STARTS: u64 = 1 << 20;
+const STARTS_BOUND: u64 = 1 << 20;
 
 /// What was found for a program.
 #[derive(Drop)]
@@ -70,17 +70,6 @@ struct Trial<'a> {
     effort: Effort,
     /// The last refusal.
     has_refused: Option<CheckRefusal>,
-}
-
-/// How a run of a program ended.
-#[derive(Drop)]
-enum Ended {
-    /// Nothing waits any more.
-    Whole,
-    /// It stopped.
-    Stopped(Stop),
-    /// It made more steps than it may, or lists too many states.
-    TooLong,
 }
 
 impl Search {
@@ -197,25 +186,31 @@ impl Search {
     }
 
     /// Makes a run: until nothing waits, or until it stops.
+    ///
+    /// # Errors
+    /// `BudgetMet`, also where kept entries were written before; `OutOfMemory`.
     fn run(&mut self, trial: &Trial<'_>, before: u64) -> Result<(Run, Option<Stop>), CheckRefusal> {
+        let used = self.steps.saturating_sub(before);
         let task = Task {
             alloc: self.alloc,
             setting: trial.setting,
             kept: trial.kept,
             apart: self.apart.as_slice(),
             widest_compared: trial.effort.widest_compared,
+            most_steps: trial.effort.steps.saturating_sub(used),
             functions: told_functions(trial.setting, trial.starts),
         };
         let mut run = Run::begin(&task, trial.starts)?;
-        let used = self.steps.saturating_sub(before);
-        let most = trial.effort.steps.saturating_sub(used);
-        let (merges, writes) = (&mut self.merges, &mut self.writes);
-        let ended = run_on(&mut run, &task, merges, writes, most);
+        let stop = run_on(&mut run, &task, &mut self.merges, &mut self.writes);
         self.steps = self.steps.saturating_add(run.steps);
-        match ended {
-            Ended::Whole => Ok((run, None)),
-            Ended::Stopped(stop) => Ok((run, Some(stop))),
-            Ended::TooLong => Err(CheckRefusal::BudgetMet),
+        match &stop {
+            Some(
+                Stop {
+                    refusal: CheckRefusal::BudgetMet,
+                    ..
+                },
+            ) => Err(CheckRefusal::BudgetMet),
+            _ => Ok((run, stop)),
         }
     }
 
@@ -250,24 +245,27 @@ fn is_unknown(refusal: &CheckRefusal) -> bool {
     )
 }
 
-/// Carries on what waits in a run, until nothing does, or until more than so many steps were made.
+/// Carries on what waits in a run, until nothing does, or until it stops. Returns why it stopped.
 fn run_on(
     run: &mut Run,
     task: &Task<'_>,
     merges: &mut Merges,
     writes: &mut Writes,
-    most: u64,
-) -> Ended {
+) -> Option<Stop> {
     // A state is put down at most once before each step, and once at its end.
-    for _ in 0..most.saturating_mul(2).saturating_add(MOST_STARTS) {
+    for _ in 0..task
+        .most_steps
+        .saturating_mul(2)
+        .saturating_add(STARTS_BOUND)
+    {
         match run.advance(task, merges, writes) {
             Ok(true) => {}
-            Ok(false) => return Ended::Whole,
-            Err(stop) => return Ended::Stopped(stop),
+            Ok(false) => return None,
+            Err(stop) => return Some(stop),
         }
-        if run.steps > most || run.arrivals.are_too_many() {
-            return Ended::TooLong;
+        if run.arrivals.are_too_many() {
+            break;
         }
     }
-    Ended::TooLong
+    Some(make_stop(task.alloc, CheckRefusal::BudgetMet))
 }

@@ -42,7 +42,7 @@ impl Starts {
     /// Whether a start is covered already.
     fn covers(&self, track: &Track) -> bool {
         for other in self.tracks.iter() {
-            if have_same_frame(&track.state, &other.state, Functions::Told)
+            if have_same_frame(&track.state, &other.state, Functions::Untold)
                 && is_within(&track.state, &other.state)
             {
                 return true;
@@ -57,7 +57,7 @@ impl Starts {
         for (place, other) in self.tracks.iter().enumerate() {
             let is_same = self.signatures.get(place) == Some(&signature);
             if (is_full || is_same)
-                && have_same_frame(&track.state, &other.state, Functions::Told)
+                && have_same_frame(&track.state, &other.state, Functions::Untold)
             {
                 return Some(place);
             }
@@ -110,7 +110,8 @@ fn start_of(track: Track) -> Start {
     }
 }
 
-/// Makes the starts of glyph programs after the ends of the CVT program.
+/// Makes the starts of glyph programs after the ends of the CVT program. Ends are merged whatever
+/// functions they know: which of these the starts have is for the caller to say.
 pub(crate) fn starts_after(
     alloc: Global,
     merges: &mut Merges,
@@ -125,7 +126,7 @@ pub(crate) fn starts_after(
     for end in ends {
         let track = Track::start(alloc, state_after(alloc, end, writes)?)?;
         if !starts.covers(&track) {
-            let signature = signature(&track, Functions::Told, apart);
+            let signature = signature(&track, Functions::Untold, apart);
             starts.add(alloc, merges, track, signature)?;
         }
     }
