@@ -60,25 +60,28 @@ fn read_section<S: Source>(
 
 /// A reader of sections, one after the other: each is read in the memory of those before it, and
 /// each state is compared to the state before, which it mostly resembles. What is read doesn't
-/// depend on them. A reader holds the family that it read last, which it lends, and the last state;
-/// the next section is read in their memory. After a fault it holds neither.
+/// depend on them. A reader holds the family that it read last, which it lends, until it is cleared or
+/// reads the next one, and the last state. After a fault it holds neither.
 #[derive(Drop)]
 pub struct Decoder {
     /// The state that was read last.
     last: Option<LastState>,
-    /// The family that was read last, in whose memory the next one is made.
+    /// The family that was read last.
     family: Option<Certificate>,
+    /// An empty builder, in whose memory the next family is made.
+    spare: Option<Builder>,
 }
 
 impl Model for Decoder {
     ghost use Rattle.std.specs.Prelude.{IfSome};
+    ghost use Rattle.tt_cert.specs.Representation.Clauses.{IsEmptyBuilder};
     ghost use Rattle.tt_cert.specs.Representation.SharedCells.{IsLast};
 
     ghost Value = { Unit {0} };
 
     ghost view = { λ _. tt };
 
-    ghost invariant = { λ d. IfSome d.last IsLast };
+    ghost invariant = { λ d. IfSome d.last IsLast × IfSome d.spare IsEmptyBuilder };
 }
 
 impl Decoder {
@@ -87,6 +90,7 @@ impl Decoder {
         Decoder {
             last: None,
             family: None,
+            spare: None,
         }
     }
 
@@ -103,12 +107,20 @@ impl Decoder {
         }
     }
 
-    /// Makes an empty builder in the memory of the family that was read last, or a new one.
+    /// Empties the family that was read last: nothing is kept but its memory, for the next one.
+    pub fn clear(&mut self) {
+        if let Some(family) = self.family.take() {
+            self.spare = Some(family.into_builder());
+        }
+    }
+
+    /// Takes an empty builder, in the memory of the family that was read last, or a new one.
     fn take_builder(&mut self, alloc: Global) -> Builder
         ensures { IsEmptyBuilder result }
     {
-        match self.family.take() {
-            Some(family) => family.into_builder(),
+        self.clear();
+        match self.spare.take() {
+            Some(spare) => spare,
             None => Builder::new(alloc),
         }
     }
