@@ -1,22 +1,22 @@
 /* hintcheck: checks the hint programs of TrueType fonts before an interpreter runs them.
  *
  * A font is handed in as bytes, and the answer says whether its font program ('fpgm'), its CVT program ('prep') and each of its glyph
- * programs keep to the limits that its 'maxp' table declares. Where the status is HINTCHECK_ACCEPTED, no run of any of these programs
- * reaches a fault of the hint machine: no stack underflow, no stack above maxStackElements, no CVT, storage, function, zone, contour or
+ * programs keep to the limits that its 'maxp' table declares. Where hintcheck_verdict or hintcheck_check answers HINTCHECK_ACCEPTED, no run of
+ * any of these programs reaches a fault of the hint machine: no stack underflow, no stack above maxStackElements, no CVT, storage, function, zone, contour or
  * point number out of range, and no step outside the program's bytes. That is proved, for every font and every certificate
  * (crates/hintcheck_c/src/lib.rt, the clauses `accepted`), and so is the rest of the answer, except that `points` is how many were made
  * (the clauses `verdict` and `fault`).
  *
- * hintcheck_verdict_symbolic follows values that are computed, and accepts far more fonts. What it says is as much a theorem, but of a machine
- * that does more as interpreters do: it keeps control values, and computes exactly. docs/EMBEDDING.md says which premises that adds.
+ * hintcheck_verdict_symbolic follows values that are computed, and accepts far more fonts. Its acceptance is a theorem too, but about a machine
+ * that works more as interpreters do: it keeps control values, and computes exactly. docs/EMBEDDING.md says which premises that adds.
  *
  * Units: lengths, offsets and places are in bytes. Ownership: everything that is handed in stays the caller's, is only read (except for
  * `refusals` and `answer`, which are written), and isn't kept: there is no state between calls. What is handed in is aligned as C asks,
  * and `refusals` and `answer` overlap neither each other nor the bytes of the font or of the certificate. Memory is taken with malloc
  * while a call runs, and given back before it returns. Threads: calls may run at once in several threads, each with its own `refusals`
  * and `answer`; not from a signal handler, and not in the forked child of a process with threads. Time: `points` bounds how often a state
- * is carried on (that no more is counted is proved); docs/EMBEDDING.md says which numbers real fonts need, and what time that bounds. `steps` bounds the search of
- * hintcheck_verdict_symbolic.
+ * is carried on (that no more is counted is proved); docs/EMBEDDING.md says which numbers real fonts need, and what time that bounds.
+ * `steps` bounds the search of hintcheck_verdict_symbolic.
  */
 #ifndef HINTCHECK_H
 #define HINTCHECK_H
@@ -136,7 +136,7 @@ static inline uint32_t hintcheck_verdict(const uint8_t *font, size_t font_length
 
 /* Checks the programs of the font in `font_length` bytes at `font` by the symbolic profile, and returns the status. Its search makes at most
  * `steps` steps for the font (HINTCHECK_USUAL_STEPS is what the command allows), and at most 20,000,000 for a program: a program for which
- * that is too little is refused (46), and so are those after it where the font's steps are used up. No points are counted, and answer->points
+ * that is too little is refused (46), and so is each after it that needs a step, where the font's steps are used up. No points are counted, and answer->points
  * is 0; the status is never HINTCHECK_BUDGET. A program is refused where this search found no way to accept it, which says no more. All else is
  * as for hintcheck_verdict. */
 static inline uint32_t hintcheck_verdict_symbolic(const uint8_t *font, size_t font_length, uint64_t steps, hintcheck_refusal *refusals,

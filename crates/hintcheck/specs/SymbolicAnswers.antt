@@ -55,8 +55,9 @@ pub record HoldSymbolicSafeFont (bytes : List ℕ) : Type 0 where
   pub given : IsSymbolicVerdict font judgement
   pub none : judgement.refused ≡ []
 
--- The bytes hold a font, and a verdict by symbolic states names refused programs of it: as long as
--- none of these is run, no run of the others faults.
+-- The bytes hold a font, and a verdict by symbolic states names refused programs of it. Where these
+-- are glyph programs, no run of the others faults, as long as none of these is run; after a refused
+-- font program or CVT program nothing is said of those that follow.
 pub record HoldSymbolicRefusedFont (bytes : List ℕ) : Type 0 where
   pub font : FontData
   pub reads : Reads bytes font

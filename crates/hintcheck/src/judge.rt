@@ -23,7 +23,7 @@ pub(crate) trait Judge {
     /// What a program of a font with these limits may start with.
     ghost CanStart: { Limits → List Self.Known → Type 0 };
 
-    /// The program that starts with this is accepted: a family of the judge's kind is good for it.
+    /// The program that starts with this is accepted, in the judge's own sense.
     ghost Accepts: { Self → Subject → List Self.Known → List Instruction → Type 0 };
 
     /// It is accepted, and this is known where it ends.

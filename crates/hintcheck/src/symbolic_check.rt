@@ -15,11 +15,11 @@ use tt_code::Reason;
 use tt_family::{Budget, is_short};
 use tt_symbolic::{Kept, NOTHING_KEPT};
 use tt_symbolic_check::{CheckRefusal, Effort, Start};
-use tt_symbolic_font::{Ends, GlyphStarts, check_before_glyphs};
+use tt_symbolic_font::{Ends, GlyphStarts, check_before_glyphs, start_with};
 use tt_symbolic_search::{Search, USUAL_SEARCH};
 
-/// Judges a program by symbolic states, which are found and checked. What was learnt from a font's
-/// program serves those after it.
+/// Judges a program by symbolic states, which are found and checked. What was learnt from one program
+/// of a font serves the next ones.
 #[derive(Drop)]
 pub(crate) struct SymbolicCheck {
     search: Search,
@@ -59,8 +59,7 @@ fn check_to_end(
     ensures { IfOk result (IsEnded (setting_of setting.now) functions.now) }
 {
     let functions = SortedMap::from_slice(alloc, functions)?;
-    let mut start = Start::unknown(alloc);
-    start.functions.copy_from(&functions)?;
+    let start = start_with(alloc, &functions)?;
     let found = search.find(setting, &NOTHING_KEPT, &[start], effort)?;
     check_before_glyphs(
         alloc,
@@ -224,8 +223,8 @@ impl SymbolicCheck {
         Ok(())
     }
 
-    /// Whether a glyph program was refused, since they start so, because it may write what the
-    /// starts list.
+    /// Whether a glyph program was refused from the present starts because it may write what they
+    /// list.
     pub(crate) fn may_write_kept(&self) -> bool {
         self.may_write_kept
     }

@@ -137,8 +137,8 @@ fn refused_programs(alloc: Global, font: &Font<'_>, steps: u64) -> Result<Vec<Re
 
 /// Returns the verdict on the programs of a font file by symbolic states: on the font program, then
 /// on the CVT program, then on each glyph program. They follow values that `verdict` gives up, so
-/// that far more fonts are accepted; but what is promised is of a machine that keeps control values
-/// and computes with numbers as the machine of `verdict` needn't. A refused font program or CVT
+/// that far more fonts are accepted; but what is promised is about a machine that keeps control
+/// values, and whose arithmetic is fixed where `verdict`'s is left open. A refused font program or CVT
 /// program ends the verdict; a refused glyph program doesn't. That a program is refused says only
 /// that this search found no way to accept it. The search makes at most 20,000,000 steps for a
 /// program and 1,000,000,000 for a font.
@@ -155,7 +155,8 @@ pub fn verdict_symbolic(alloc: Global, font: &[u8]) -> Result<Verdict, FontFault
 /// Returns the verdict as `verdict_symbolic` does, where the search makes at most so many steps for
 /// the font: a step carries a state over an instruction. The check of what was found for a program
 /// takes up to four times the steps of its last trial, and 10,000 more. A program for which the
-/// steps that are left are too few is refused as `TooManySteps`, and so are those after it.
+/// steps that are left are too few is refused as `TooManySteps`, and so is each after it that needs a
+/// step.
 ///
 /// # Errors
 /// As `verdict_symbolic`.

@@ -98,8 +98,8 @@ pub extern "C" fn hintcheck_verdict_symbolic_of_bytes(
     answer: &mut HintcheckAnswer,
 ) -> u32
     // Where the status is 0, the bytes hold a font, and no run of any of its programs reaches a
-    // fault, on the machine that keeps control values; where it is 1, no run of those that aren't
-    // refused does, as long as none of the refused ones is run.
+    // fault, on the machine that keeps control values. Where it is 1, programs are refused: if these
+    // are glyph programs, no run of any other program does, as long as none of these is run.
     ensures accepted { result ≡ 0 → HoldSymbolicSafeFont font.now }
     ensures refused { result ≡ 1 → HoldSymbolicRefusedFont font.now }
     // The answer is a verdict by symbolic states in numbers, and its first refusals are listed; or

@@ -239,7 +239,7 @@ fn symbolic_option<'a>(alloc: Global) -> Arg<'a>
         .action(ArgAction::SetTrue)
         .help(
             "Follows values that are computed; its acceptances have further premises (see the \
-            manual). --points then bounds the steps of the search",
+            manual)",
         )
 }
 

@@ -43,5 +43,5 @@ StrictFontsAreSafe =
     → NeverFaults (font_setting f) (strict.StartsFontProgram f)
     → NeverFaults (cvt_setting f) (strict.StartsCvtProgram f)
     → ((glyph : ℕ) (s : Setting) → programs glyph ≡ Some s
-      → NeverFaults s (strict.StartsGlyphProgram f))
+    → NeverFaults s (strict.StartsGlyphProgram f))
     → IsFontSafe f programs

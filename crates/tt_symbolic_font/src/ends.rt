@@ -23,7 +23,10 @@ pub struct Ends {
 }
 
 /// Makes the start with these functions, and any memory.
-fn start_with(alloc: Global, functions: &SortedMap<u32>) -> Result<Start, AllocError>
+///
+/// # Errors
+/// If memory runs out.
+pub fn start_with(alloc: Global, functions: &SortedMap<u32>) -> Result<Start, AllocError>
     ensures { IfOk result (λ start. (m : CvtMachine) → StartsKnowing functions.now m
         → StartsAs start m) }
 {

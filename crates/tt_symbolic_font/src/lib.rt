@@ -6,5 +6,5 @@ mod ends;
 mod glyph_starts;
 pub mod laws;
 
-pub use ends::{Ends, check_before_glyphs};
+pub use ends::{Ends, check_before_glyphs, start_with};
 pub use glyph_starts::GlyphStarts;
