@@ -363,32 +363,23 @@ fn change_entries(entries: &mut SortedMap<Cell>, changes: &[Change]) -> Result<(
     Ok(())
 }
 
-/// Merges the storage areas.
-fn blend_storage(
+/// Merges the entries of a memory area.
+fn blend_entries(
     alloc: Global,
     blending: &mut Blending<'_>,
     merges: &mut Merges,
     track: &mut Track,
+    area: Area,
 ) -> Result<(), AllocError> {
-    let theirs = &blending.old.state.storage;
-    drop_old_entries(merges, track, Area::Storage, &track.state.storage, theirs)?;
-    let mine = &track.state.storage;
-    let changes = entry_changes(alloc, blending, merges, track, Area::Storage, mine, theirs)?;
-    change_entries(&mut track.state.storage, changes.as_slice())
-}
-
-/// Merges the control values.
-fn blend_controls(
-    alloc: Global,
-    blending: &mut Blending<'_>,
-    merges: &mut Merges,
-    track: &mut Track,
-) -> Result<(), AllocError> {
-    let theirs = &blending.old.state.controls;
-    drop_old_entries(merges, track, Area::Controls, &track.state.controls, theirs)?;
-    let mine = &track.state.controls;
-    let changes = entry_changes(alloc, blending, merges, track, Area::Controls, mine, theirs)?;
-    change_entries(&mut track.state.controls, changes.as_slice())
+    let old = blending.old;
+    let (mine, theirs) = (area.of(&track.state), area.of(&old.state));
+    drop_old_entries(merges, track, area, mine, theirs)?;
+    let changes = entry_changes(alloc, blending, merges, track, area, mine, theirs)?;
+    let state = &mut track.state;
+    match area {
+        Area::Storage => change_entries(&mut state.storage, changes.as_slice()),
+        Area::Controls => change_entries(&mut state.controls, changes.as_slice()),
+    }
 }
 
 /// Whether the place of the old track is the later one.
@@ -422,8 +413,8 @@ pub(crate) fn blend(
     blending.calls(merges, track)?;
     blending.graphics(merges, track)?;
     blending.stack(alloc, merges, track)?;
-    blend_storage(alloc, &mut blending, merges, track)?;
-    blend_controls(alloc, &mut blending, merges, track)?;
+    blend_entries(alloc, &mut blending, merges, track, Area::Storage)?;
+    blend_entries(alloc, &mut blending, merges, track, Area::Controls)?;
     if is_later(old, track) {
         track.levels = Vec::from_slice(alloc, old.levels.as_slice())?;
     }

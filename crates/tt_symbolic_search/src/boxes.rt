@@ -1,11 +1,12 @@
 //! States in which each cell has a symbol of its own, as listed states are, and states without the
 //! symbols that no cell has.
 
-use crate::origins::{NOWHERE, OriginNumber};
+use crate::origins::{OriginNumber, origin_in};
 use crate::track::Track;
 use std::alloc::{AllocError, Global};
 use std::mem;
 use tt_abs::SortedMap;
+use tt_symbolic_state::State;
 use tt_symbolic_state::cell::{Cell, Range, known, number};
 use tt_symbolic_state::stack::Stack;
 
@@ -59,15 +60,9 @@ impl Symbols {
         Ok(number)
     }
 
-    /// Returns the origin of a symbol.
+    /// Returns the origin of a cell's symbol.
     pub(crate) fn origin(&self, cell: Cell) -> OriginNumber {
-        if cell.factor == 0 {
-            return NOWHERE;
-        }
-        match self.origins.get(cell.symbol as usize) {
-            Some(origin) => *origin,
-            None => NOWHERE,
-        }
+        origin_in(self.origins.as_slice(), cell)
     }
 
     /// Returns the range of a cell's symbol.
@@ -201,7 +196,7 @@ pub(crate) fn is_wide(range: Option<Range>, width: i64) -> bool {
     }
 }
 
-/// How wide the range of an entry is that isn't listed.
+/// A memory area.
 #[derive(Clone, Copy, Debug, PartialEq, Eq)]
 pub(crate) enum Area {
     /// The storage area.
@@ -216,6 +211,14 @@ impl Area {
         match self {
             Area::Storage => STORAGE_WIDTH,
             Area::Controls => CONTROL_WIDTH,
+        }
+    }
+
+    /// Returns the entries that a state lists.
+    pub(crate) fn of(self, state: &State) -> &SortedMap<Cell> {
+        match self {
+            Area::Storage => &state.storage,
+            Area::Controls => &state.controls,
         }
     }
 }

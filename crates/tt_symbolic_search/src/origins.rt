@@ -4,12 +4,24 @@
 use crate::cell_names::CellName;
 use std::alloc::{AllocError, Global};
 use std::collections::HashMap;
+use tt_symbolic_state::cell::Cell;
 
 /// The number of an origin; `NOWHERE` is that of symbols that no merge made.
 pub(crate) type OriginNumber = u32;
 
 /// No merge.
 pub(crate) const NOWHERE: OriginNumber = 0;
+
+/// Returns the origin of a cell's symbol among those of all symbols.
+pub(crate) fn origin_in(origins: &[OriginNumber], cell: Cell) -> OriginNumber {
+    if cell.factor == 0 {
+        return NOWHERE;
+    }
+    match origins.get(cell.symbol as usize) {
+        Some(origin) => *origin,
+        None => NOWHERE,
+    }
+}
 
 /// What made a symbol.
 #[derive(Clone, Copy, Debug, PartialEq, Eq, Hash)]

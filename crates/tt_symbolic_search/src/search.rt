@@ -95,7 +95,8 @@ impl Search {
     }
 
     /// Makes the starts of glyph programs after the ends of the CVT program: few that cover all of
-    /// them, without the entries that glyph programs are known to write.
+    /// them, without the entries that glyph programs are known to write. Their functions are those of
+    /// some end: the caller gives them the functions that all ends have.
     ///
     /// # Errors
     /// If memory runs out.
@@ -204,12 +205,7 @@ impl Search {
         let stop = run_on(&mut run, &task, &mut self.merges, &mut self.writes);
         self.steps = self.steps.saturating_add(run.steps);
         match &stop {
-            Some(
-                Stop {
-                    refusal: CheckRefusal::BudgetMet,
-                    ..
-                },
-            ) => Err(CheckRefusal::BudgetMet),
+            Some(met) if is_budget_met(&met.refusal) => Err(CheckRefusal::BudgetMet),
             _ => Ok((run, stop)),
         }
     }
@@ -232,6 +228,11 @@ impl Search {
         trial.has_refused = Some(refusal);
         Ok(())
     }
+}
+
+/// Whether the refusal says that more would have to be done than may be.
+fn is_budget_met(refusal: &CheckRefusal) -> bool {
+    matches!(refusal, CheckRefusal::BudgetMet)
 }
 
 /// Whether the refusal says that too little is known.

@@ -69,19 +69,24 @@ fn mix_functions(hash: u64, state: &State) -> u64 {
     hash
 }
 
-/// Returns a hash of the known numbers of the elements of the stack that are the main program's
-/// own, after others.
-fn mix_main_elements(hash: u64, track: &Track) -> u64 {
-    let cells = track.state.stack.as_slice();
-    let mut height = cells.len();
+/// Returns the height below which the elements of the stack are the main program's own.
+fn main_height(track: &Track) -> usize {
+    let mut height = track.state.stack.len();
     for level in 1..track.levels.len() {
         height = height.min(track.levels[level].base as usize);
     }
+    height
+}
+
+/// Returns a hash of the known numbers of the elements of the stack that are the main program's
+/// own, after others.
+fn mix_main_elements(hash: u64, track: &Track) -> u64 {
+    let height = main_height(track);
     if let Some(noted) = track.noted_hash(height) {
         return mix(hash, i64::from_ne_bytes(noted.to_ne_bytes()));
     }
     let mut own = 0;
-    for cell in cells.iter().take(height) {
+    for cell in track.state.stack.as_slice().iter().take(height) {
         if cell.factor == 0 {
             own = mix(own, i64::from(cell.offset));
         }

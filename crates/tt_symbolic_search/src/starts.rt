@@ -9,25 +9,26 @@ use crate::signature::{Functions, signature};
 use crate::track::Track;
 use crate::writes::Writes;
 use std::alloc::{AllocError, Global};
+use tt_abs::SortedMap;
 use tt_symbolic_check::{Start, start_state};
 use tt_symbolic_state::State;
+use tt_symbolic_state::cell::Cell;
 
 /// How many starts are kept apart at most.
 const MOST_STARTS: usize = 8;
 
+/// Leaves out the entries with these indexes.
+fn leave_out(entries: &mut SortedMap<Cell>, indexes: &[u16]) {
+    for index in indexes {
+        entries.remove(*index);
+    }
+}
+
 /// Makes the state in which glyph programs start after an end, without the entries that they write.
 fn state_after(alloc: Global, end: &State, writes: &Writes) -> Result<State, AllocError> {
     let mut start = Start::after(alloc, end)?;
-    for (number, _) in end.storage.as_slice() {
-        if writes.has_storage(*number) {
-            start.storage.remove(*number);
-        }
-    }
-    for (number, _) in end.controls.as_slice() {
-        if writes.has_control(*number) {
-            start.controls.remove(*number);
-        }
-    }
+    leave_out(&mut start.storage, writes.storage.as_slice());
+    leave_out(&mut start.controls, writes.controls.as_slice());
     start_state(alloc, &start)
 }
 
@@ -90,6 +91,16 @@ impl Starts {
             }
         }
     }
+
+    /// Makes the list of what the starts show.
+    fn into_list(self, alloc: Global) -> Result<Vec<Start>, AllocError> {
+        let Starts { tracks, .. } = self;
+        let mut list = Vec::new(alloc);
+        for track in tracks {
+            list.push(start_of(track))?;
+        }
+        Ok(list)
+    }
 }
 
 /// Makes a start of what a state shows.
@@ -130,9 +141,5 @@ pub(crate) fn starts_after(
             starts.add(alloc, merges, track, signature)?;
         }
     }
-    let mut list = Vec::new(alloc);
-    for track in starts.tracks {
-        list.push(start_of(track))?;
-    }
-    Ok(list)
+    starts.into_list(alloc)
 }

@@ -15,10 +15,11 @@ pub(crate) const LEAST: i64 = -(1 << 31);
 /// The greatest number of the machine.
 pub(crate) const GREATEST: i64 = (1 << 31) - 1;
 
-/// From which rise on ends are widened.
+/// How often an end has risen before it is widened: from its fourth rise on.
 const FIRST_WIDENED: u32 = 3;
 
-/// After which rise ends are widened as far as they can be.
+/// How often an end has risen before at most where it is widened to a threshold only: from the
+/// twelfth rise on, it is widened as far as it can be.
 const LAST_MEASURED: u32 = 10;
 
 /// Which end of a range it is.
@@ -52,7 +53,8 @@ pub(crate) fn thresholds(alloc: Global, setting: &Setting<'_>) -> Result<Vec<i64
     Ok(list)
 }
 
-/// Returns the end of a range that had an end and rises to another, for the time of this number.
+/// Returns the end of a range that had an end and rises to another, after it has risen so
+/// many times before.
 pub(crate) fn widened(thresholds: &[i64], end: End, old: i64, new: i64, rises: u32) -> i64 {
     if old == new || rises < FIRST_WIDENED {
         return new;

@@ -1,7 +1,7 @@
 //! A state on its way, with what the search knows beside it.
 
 use crate::cell_names::{CellName, Part};
-use crate::origins::{NOWHERE, OriginNumber};
+use crate::origins::{NOWHERE, OriginNumber, origin_in};
 use crate::signature::mix;
 use std::alloc::{AllocError, Global};
 use std::mem;
@@ -12,7 +12,7 @@ use tt_symbolic_state::cell::Cell;
 use tt_symbolic_state::stack::Stack;
 
 /// How many splits a state remembers.
-const MOST_SPLITS: usize = 24;
+const MOST_REMEMBERED: usize = 24;
 
 /// What is known of the main program, or of a call that hasn't returned.
 #[derive(Clone, Copy, Debug, PartialEq, Eq)]
@@ -142,13 +142,7 @@ impl Track {
 
     /// Returns the origin of a cell's symbol.
     pub(crate) fn origin(&self, cell: Cell) -> OriginNumber {
-        if cell.factor == 0 {
-            return NOWHERE;
-        }
-        match self.origins.get(cell.symbol as usize) {
-            Some(origin) => *origin,
-            None => NOWHERE,
-        }
+        origin_in(self.origins.as_slice(), cell)
     }
 
     /// Remembers that a symbol of this origin was split.
@@ -157,7 +151,7 @@ impl Track {
             return Ok(());
         }
         self.splits.retain(|other| *other != origin);
-        if self.splits.len() >= MOST_SPLITS {
+        if self.splits.len() >= MOST_REMEMBERED {
             self.splits.remove(0);
         }
         self.splits.push(origin)?;
@@ -171,12 +165,17 @@ impl Track {
                 self.splits.push(*origin)?;
             }
         }
+        self.forget_splits();
+        Ok(())
+    }
+
+    /// Forgets the earliest splits, where it remembers too many.
+    fn forget_splits(&mut self) {
         for _ in 0..self.splits.len() {
-            if self.splits.len() > MOST_SPLITS {
+            if self.splits.len() > MOST_REMEMBERED {
                 self.splits.remove(0);
             }
         }
-        Ok(())
     }
 
     /// Returns the name of the innermost body; none in the main program.

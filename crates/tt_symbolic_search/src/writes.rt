@@ -1,5 +1,6 @@
 //! The memory entries that glyph programs write, although they are taken to start with them.
 
+use crate::boxes::Area;
 use std::alloc::{AllocError, Global};
 use tt_abs::{Kind, Setting};
 use tt_symbolic::kept::{Kept, keeps};
@@ -9,9 +10,9 @@ use tt_symbolic_state::State;
 #[derive(Drop)]
 pub(crate) struct Writes {
     /// Indexes of storage cells.
-    storage: Vec<u16>,
+    pub storage: Vec<u16>,
     /// Indexes of control values.
-    controls: Vec<u16>,
+    pub controls: Vec<u16>,
 }
 
 /// Whether an instruction of this code may write memory: WS, WCVTP, WCVTF, DELTAC1 to DELTAC3.
@@ -42,16 +43,6 @@ impl Writes {
         }
     }
 
-    /// Whether storage cells with this index are written.
-    pub(crate) fn has_storage(&self, index: u16) -> bool {
-        self.storage.contains(&index)
-    }
-
-    /// Whether control values with this index are written.
-    pub(crate) fn has_control(&self, index: u16) -> bool {
-        self.controls.contains(&index)
-    }
-
     /// Notes which of the kept entries the instruction may write at which the state is.
     pub(crate) fn note(
         &mut self,
@@ -59,26 +50,39 @@ impl Writes {
         state: &State,
         kept: &Kept<'_>,
     ) -> Result<(), AllocError> {
-        for index in kept.storage {
-            let storage = [*index];
-            let one = Kept {
-                storage: &storage,
-                controls: &[],
-            };
-            if !self.has_storage(*index) && !keeps(setting, state, &one) {
-                self.storage.push(*index)?;
-            }
-        }
-        for index in kept.controls {
-            let controls = [*index];
-            let one = Kept {
-                storage: &[],
-                controls: &controls,
-            };
-            if !self.has_control(*index) && !keeps(setting, state, &one) {
-                self.controls.push(*index)?;
-            }
-        }
-        Ok(())
+        let Kept { storage, controls } = *kept;
+        note_in(&mut self.storage, Area::Storage, storage, setting, state)?;
+        note_in(&mut self.controls, Area::Controls, controls, setting, state)
     }
+}
+
+/// Keeps entries of one memory area.
+fn kept_in(area: Area, indexes: &[u16]) -> Kept<'_> {
+    match area {
+        Area::Storage => Kept {
+            storage: indexes,
+            controls: &[],
+        },
+        Area::Controls => Kept {
+            storage: &[],
+            controls: indexes,
+        },
+    }
+}
+
+/// Notes which of these entries of a memory area the instruction may write at which the state is.
+fn note_in(
+    list: &mut Vec<u16>,
+    area: Area,
+    indexes: &[u16],
+    setting: &Setting<'_>,
+    state: &State,
+) -> Result<(), AllocError> {
+    for index in indexes {
+        let one = [*index];
+        if !list.contains(index) && !keeps(setting, state, &kept_in(area, &one)) {
+            list.push(*index)?;
+        }
+    }
+    Ok(())
 }
