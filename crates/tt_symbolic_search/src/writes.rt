@@ -56,7 +56,7 @@ impl Writes {
     }
 }
 
-/// Keeps entries of one memory area.
+/// Returns what is kept where only these entries of a memory area are.
 fn kept_in(area: Area, indexes: &[u16]) -> Kept<'_> {
     match area {
         Area::Storage => Kept {
