@@ -189,23 +189,23 @@ nothing_found d w s all is =
 
 -- no program is refused as it is found once more
 pub found_once_more : (d : FontData) (j : Finding) (s t : Stage) (answer : Option Outcome) (o : Outcome) → answer ≡ Some o → IsForCertificate j.search → AnswersFinding d j s answer t
-    → AreLeastFrom d s → IsOutcomeByFinding d s o j.found t × (is_some j.found ≡ true)
+    → AreLeastFrom d s → IsOutcomeByFinding d s o j.finder.found t × (is_some j.finder.found ≡ true)
 found_once_more d j s t answer o is certificate answers least =
     let A : Option Outcome → Type 0 = λ a. AnswersFinding d j s a t in
     let outcome = subst A is answers in
     go o.refused refl outcome
   where
-    go : (r : Option Refused) → o.refused ≡ r → IsOutcomeOf d j s o t → IsOutcomeByFinding d s o j.found t × (is_some j.found ≡ true)
-    go None none outcome = let found = found_outcome d j s t o certificate outcome none in (found, (least_on d s t o j.found found least).0)
+    go : (r : Option Refused) → o.refused ≡ r → IsOutcomeOf d j s o t → IsOutcomeByFinding d s o j.finder.found t × (is_some j.finder.found ≡ true)
+    go None none outcome = let found = found_outcome d j s t o certificate outcome none in (found, (least_on d s t o j.finder.found found least).0)
     go (Some r) some outcome =
         let lost = least_on d s t o None (unfound_outcome d j s t o outcome (λ none. let no : None ≡ Some r = sym none ∙ some in cc)) least in
         absurd (let no : false ≡ true = lost.0 in cc)
 
 pub found_next : (d : FontData) (first old new : Option (List ℕ)) (j : Finding) (s t : Stage) (answer : Option Outcome) (o : Outcome) (v : Contents)
-    → answer ≡ Some o → option_map (λ (y : Found). y.certificate) j.found ≡ Some v → IsForCertificate j.search → IsWrittenSoFar d first s old → AnswersFinding d j s answer t
+    → answer ≡ Some o → option_map (λ (y : Found). y.certificate) j.finder.found ≡ Some v → IsForCertificate j.search → IsWrittenSoFar d first s old → AnswersFinding d j s answer t
     → IsFinished v → (AreCallsInTurn v.contexts → Fits Four (section_of o.program v)) → Appends old new (section_text Four (section_of o.program v)) → IsWrittenSoFar d first t new
 found_next d first old new j s t answer o v is kept certificate so_far answers finished fits appends =
-    let (x, is_found, same) = mapped_from (λ (y : Found). y.certificate) j.found v kept in
+    let (x, is_found, same) = mapped_from (λ (y : Found). y.certificate) j.finder.found v kept in
     let written : IsSectionWritten o.program x.certificate = subst (λ (w : Contents). IsSectionWritten o.program w) (sym same) (record { finished = finished; fits = fits }) in
     let text : Appends old new (section_text Four (section_of o.program x.certificate)) =
     subst (λ (w : Contents). Appends old new (section_text Four (section_of o.program w))) (sym same) appends in
@@ -228,10 +228,10 @@ stopped d first now s so_far =
     (text, (s, are), begins_whole first now text appended)
 
 pub stopped_within : (d : FontData) (first old new : Option (List ℕ)) (j : Finding) (s t : Stage) (answer : Option Outcome) (o : Outcome) (v : Contents)
-    → answer ≡ Some o → option_map (λ (y : Found). y.certificate) j.found ≡ Some v → IsForCertificate j.search → IsWrittenSoFar d first s old → AnswersFinding d j s answer t
+    → answer ≡ Some o → option_map (λ (y : Found). y.certificate) j.finder.found ≡ Some v → IsForCertificate j.search → IsWrittenSoFar d first s old → AnswersFinding d j s answer t
     → AppendsBeginning old new (section_text Four (section_of o.program v)) → WritesBeginning first new (AreSomeSections d)
 stopped_within d first old new j s t answer o v is kept certificate so_far answers begun =
-    let (x, is_found, same) = mapped_from (λ (y : Found). y.certificate) j.found v kept in
+    let (x, is_found, same) = mapped_from (λ (y : Found). y.certificate) j.finder.found v kept in
     let part : AppendsBeginning old new (section_text Four (section_of o.program x.certificate)) =
     subst (λ (w : Contents). AppendsBeginning old new (section_text Four (section_of o.program w))) (sym same) begun in
     let (text, are, appended) = so_far.first_ones in

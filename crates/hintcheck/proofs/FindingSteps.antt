@@ -22,7 +22,7 @@ use Rattle.hintcheck.proofs.FontSafety.{good_end}
 use Rattle.hintcheck.proofs.ProgramSteps.{is_last}
 
 -- what is found for a certificate, where the program is accepted
-pub found_outcome : (d : FontData) (j : Finding) (s t : Stage) (o : Outcome) → IsForCertificate j.search → IsOutcomeOf d j s o t → o.refused ≡ None → IsOutcomeByFinding d s o j.found t
+pub found_outcome : (d : FontData) (j : Finding) (s t : Stage) (o : Outcome) → IsForCertificate j.search → IsOutcomeOf d j s o t → o.refused ≡ None → IsOutcomeByFinding d s o j.finder.found t
 found_outcome d j s t o certificate (font_done f known ends) none =
     let (x, kept, is) = ends.found certificate in
     let S : Option Found → Type 0 = λ y. IsOutcomeByFinding d at_start (accepted_as name.Font) y (after_font f known) in

@@ -1,6 +1,6 @@
 -- What the judges decide on a program.
-use Rattle.std.proofs.Common.{◌≡◌, ◌∙◌, ℕ, List, [], Bor, Option, Some, None, true, ap, inr, refl, subst, sym}
-use Rattle.std.specs.Prelude.{IfSome, is_some}
+use Rattle.std.proofs.Common.{◌≡◌, ◌∙◌, ℕ, List, [], Bor, Option, Some, None, Result, Ok, Err, true, ap, inr, refl, subst, sym}
+use Rattle.std.specs.Prelude.{IfErr, IfSome, is_some, option_map}
 use Rattle.tt_code.specs.Cut.{Instruction, size}
 use Rattle.tt_code.specs.Settings.{GlyphProgram, Setting as MachineSetting}
 use Rattle.tt_abs.specs.Settings.{setting_of}
@@ -15,10 +15,9 @@ use Rattle.tt_family.specs.Contents.{Contents, family_of}
 use Rattle.tt_find.specs.declared.finder.Found.{Found}
 use Rattle.hintcheck.specs.Certificates.{IsCheckRefusal}
 use Rattle.hintcheck.specs.Certificates as check
-use Rattle.hintcheck.specs.ProgramVerdicts.{IfRefused, IsAccepted, IsFaultOfProgram, IsSubjectOf, NoneIsGoodFor}
+use Rattle.hintcheck.specs.ProgramVerdicts.{IfRefused, IsFaultOfProgram, IsSubjectOf, NoneIsGoodFor}
 use Rattle.hintcheck.specs.Programs.{Subject}
 use Rattle.hintcheck.specs.Programs as cause
-use Rattle.hintcheck.specs.FindingSessions.{IsFoundFor}
 use Rattle.hintcheck.specs.Representation.Judges.{IsFoundIn, IsFoundToEndIn, IsRefusedFor}
 use Rattle.hintcheck.specs.Representation.FontVerdicts.{ComesToEnd}
 use Rattle.hintcheck.specs.Representation.ProgramOrder.{IsProgramOf, IsUncut, no_cut, no_structure, with_start}
@@ -26,6 +25,7 @@ use Rattle.hintcheck.specs.declared.finding.Finding.{Finding}
 use Rattle.hintcheck.specs.declared.report.Refused.{Refused}
 use Rattle.hintcheck.proofs.FontEnds.{found_at_end, found_to_end, known_of_accepted}
 use Rattle.hintcheck.proofs.CheckRefusals.{cannot_cut, check_refusal, has_fault}
+use Rattle.hintcheck.proofs.ProgramSteps.{mapped_from}
 use Rattle.hintcheck.proofs.ProgramVerdictLemmas.{known_cut, not_cut, not_structured, without_good}
 
 -- a program that can't be cut, or isn't structured, is refused by each judge
@@ -56,7 +56,7 @@ pub starts : (x : Subject) (s : Setting) (start : Bor (List (ℕ × ℕ))) → I
 starts x s start p = record { cut = record { is_cut = p.cut.is_cut; structured = p.cut.structured }; setting = p.setting; functions = refl }
 
 -- the finder's refusal, and that no family of a glyph program is good
-pub refused_for : (x : Subject) (s : Setting) (f : Refusal) → IsSubjectOf x s → IsFaultOfProgram x f
+refused_for : (x : Subject) (s : Setting) (f : Refusal) → IsSubjectOf x s → IsFaultOfProgram x f
     → ((points contours : ℕ) → (setting_of s).kind ≡ GlyphProgram points contours → NoneIsGoodFor x f) → IfRefused x.name f (IsRefusedFor x)
 refused_for x s (fault.OutOfMemory e) subject refusal none = tt
 refused_for x s (fault.Refused spot offset r) subject refusal none = record {
@@ -68,32 +68,44 @@ refused_for x s (fault.Refused spot offset r) subject refusal none = record {
       none points contours kind good;
 }
 
+-- whatever else comes of the search
+pub refused_by : (x : Subject) (s : Setting) (r : Result (Unit {0}) Refusal) → IsSubjectOf x s → IfErr r (IsFaultOfProgram x)
+    → ((points contours : ℕ) → (setting_of s).kind ≡ GlyphProgram points contours → IfErr r (NoneIsGoodFor x)) → IfErr r (λ f. IfRefused x.name f (IsRefusedFor x))
+refused_by x s (Ok v) subject refusal none = tt
+refused_by x s (Err f) subject refusal none = refused_for x s f subject refusal none
+
 -- what the machine's setting says of the program's kind
 pub comes_with : (x : Subject) (s : Setting) → IsProgramOf x s → ComesToEnd (setting_of s).kind → ComesToEnd (x.setting s.main.now).kind
 comes_with x s p comes = subst (λ (t : MachineSetting). ComesToEnd t.kind) (sym p.setting) comes
 
 -- what is known at the end of a program that was found
 
-same_found : (j : Finding) (a b : Found) → j.found ≡ Some a → j.found ≡ Some b → a ≡ b
-same_found j a b e f = let same : Some a ≡ Some b = sym e ∙ f in cc
+-- the certificate that is lent is that of what was found
+lent_found : (kept : Option Found) (found : Found) (lent : Contents) → kept ≡ Some found → option_map (λ (y : Found). y.certificate) kept ≡ Some lent → lent ≡ found.certificate
+lent_found kept found lent is_kept is_lent =
+    let (x, e, same) = mapped_from (λ (y : Found). y.certificate) kept lent is_lent in
+    let one : Some x ≡ Some found = sym e ∙ is_kept in
+    let x_is : x ≡ found = cc in
+    sym same ∙ ap (λ (y : Found). y.certificate) x_is
 
-pub known_in : (j : Finding) (x : Subject) (is : List Instruction) (found : Found) (n : ℕ) (o : Option (Bor (List (ℕ × ℕ)))) (functions : Bor (List (ℕ × ℕ))) (copy : List (ℕ × ℕ))
-    → IsFoundIn j x is → ComesToEnd (x.setting is).kind → j.found ≡ Some found → n ≡ size is
-    → IfSome o (λ fs. (end : State) × (family_of found.certificate ([], n) ≡ Some end) × (fs.now ≡ end.functions)) → o ≡ Some functions → copy ≡ functions.now → IsFoundToEndIn j x is copy
-known_in j x is found n o functions copy accepted comes kept size_is some e copied =
+pub known_in : (j : Finding) (x : Subject) (is : List Instruction) (lent : Contents) (n : ℕ) (o : Option (Bor (List (ℕ × ℕ)))) (functions : Bor (List (ℕ × ℕ))) (copy : List (ℕ × ℕ))
+    → IsFoundIn j x is → ComesToEnd (x.setting is).kind → option_map (λ (y : Found). y.certificate) j.finder.found ≡ Some lent → n ≡ size is
+    → IfSome o (λ fs. (end : State) × (family_of lent ([], n) ≡ Some end) × (fs.now ≡ end.functions)) → o ≡ Some functions → copy ≡ functions.now → IsFoundToEndIn j x is copy
+known_in j x is lent n o functions copy accepted comes is_lent size_is some e copied =
     let here = accepted.found (inr comes) in
-    let same : here.found ≡ found = same_found j here.found found here.is_kept kept in
-    let A : Found → Type 0 = λ y. IsAccepted x is (family_of y.certificate) in
-    let F : Found → Type 0 = λ y. IsFoundFor x is y in
+    let same : lent ≡ here.found.certificate = lent_found j.finder.found here.found lent here.is_kept is_lent in
+    let S : Contents → Type 0 = λ v. IfSome o (λ fs. (end : State) × (family_of v ([], n) ≡ Some end) × (fs.now ≡ end.functions)) in
+    let ends = subst S same some in
     record {
-      known = known_of_accepted x is (family_of found.certificate) n o functions copy (subst A same here.accepted) size_is some e copied;
-      found = λ certificate. (found, kept, found_to_end x is found n o functions copy (subst F same (here.for_certificate certificate)) size_is some e copied);
+      known = known_of_accepted x is (family_of here.found.certificate) n o functions copy here.accepted size_is ends e copied;
+      found = λ certificate. (here.found, here.is_kept, found_to_end x is here.found n o functions copy (here.for_certificate certificate) size_is ends e copied);
     }
 
-pub end_is_found : (j : Finding) (x : Subject) (s : Setting) (found : Found) (n : ℕ) (o : Option (Bor (List (ℕ × ℕ)))) → IsFoundIn j x s.main.now → x.setting s.main.now ≡ setting_of s
-    → ComesToEnd (setting_of s).kind → j.found ≡ Some found → n ≡ size s.main.now → (o ≡ None → family_of found.certificate ([], n) ≡ None) → is_some o ≡ true
-end_is_found j x s found n o accepted same comes kept size_is none =
+pub end_is_found : (j : Finding) (x : Subject) (s : Setting) (lent : Contents) (n : ℕ) (o : Option (Bor (List (ℕ × ℕ)))) → IsFoundIn j x s.main.now → x.setting s.main.now ≡ setting_of s
+    → ComesToEnd (setting_of s).kind → option_map (λ (y : Found). y.certificate) j.finder.found ≡ Some lent → n ≡ size s.main.now → (o ≡ None → family_of lent ([], n) ≡ None)
+    → is_some o ≡ true
+end_is_found j x s lent n o accepted same comes is_lent size_is none =
     let here = accepted.found (inr (subst (λ (t : MachineSetting). ComesToEnd t.kind) (sym same) comes)) in
-    let one : here.found ≡ found = same_found j here.found found here.is_kept kept in
-    let A : Found → Type 0 = λ y. IsAccepted x s.main.now (family_of y.certificate) in
-    found_at_end x s.main.now (family_of found.certificate) (setting_of s) n o (subst A one here.accepted) same comes size_is none
+    let one : lent ≡ here.found.certificate = lent_found j.finder.found here.found lent here.is_kept is_lent in
+    let N : Contents → Type 0 = λ v. o ≡ None → family_of v ([], n) ≡ None in
+    found_at_end x s.main.now (family_of here.found.certificate) (setting_of s) n o here.accepted same comes size_is (subst N one none)

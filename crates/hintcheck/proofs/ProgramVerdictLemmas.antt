@@ -1,6 +1,6 @@
 -- Why a program is accepted or refused.
-use Rattle.std.proofs.Common.{◌≡◌, ◌⊎◌, arith, inl, inr, ℕ, List, [], Option, Some, Result, Ok, Err, refl, sym, ◌∙◌, ap, subst}
-use Rattle.std.specs.Prelude.{IfErr, IfOk}
+use Rattle.std.proofs.Common.{◌≡◌, ◌⊎◌, arith, inl, inr, ℕ, List, [], Option, Some, None, Result, Ok, Err, refl, sym, ◌∙◌, ap, subst}
+use Rattle.std.specs.Prelude.{IfErr, IfSome, OnOk, option_map}
 use Rattle.std.specs.Result.{IsErrAnd}
 use Rattle.tt_code.specs.Cut.{Instruction, IsCut, CannotBeCut, size}
 use Rattle.tt_code.specs.Grammar.{IsFault}
@@ -34,12 +34,17 @@ use Rattle.tt_abs.specs.declared.refusal.Refusal.{Refusal}
 use Rattle.tt_abs.specs.declared.refusal.Refusal.TheVariants as fault
 use Rattle.tt_abs.specs.declared.spot.Spot.{Spot}
 use Rattle.tt_find.specs.Found.{AreLeastContexts, HasLeastFilling, IsJustified, IsLeast, IsNeverEnding, LacksEnd, NamesPlace, NeedsAll, NoneIsGood, too_long, refused, apart, too_many, never_ends}
+use Rattle.tt_find.specs.Finders.{HasFound}
+use Rattle.tt_find.specs.FoundSubjects.{HasLeastContexts, HasOnlyNeeded, IsLeastFor}
+use Rattle.tt_find.specs.declared.finder.Finder.{Finder}
 use Rattle.tt_find.specs.declared.finder.Found.{Found}
 use Rattle.hintcheck.specs.FindingSessions.{IsFoundFor}
 use Rattle.hintcheck.specs.Programs.{HasGoodFamily, HasLeastFamily, IsCause, IsCutInto, IsRefusal, Subject, no_family, program_at}
-use Rattle.hintcheck.specs.ProgramVerdicts.{IfRefused, IsAccepted, IsSubjectOf, reported_at}
+use Rattle.hintcheck.specs.ProgramVerdicts.{IfRefused, IsAccepted, IsFilledIn, IsForCertificate, IsSubjectOf, reported_at}
+use Rattle.hintcheck.specs.Representation.Judges.{IsFoundHere}
 use Rattle.tt_cert.specs.Rules.{AreCallsInTurn}
 use Rattle.tt_cert.specs.declared.name.Name.{Name}
+use Rattle.hintcheck.specs.declared.program.Search.{Search}
 use Rattle.hintcheck.specs.declared.report.Refused.{Refused as AnyRefused}
 
 -- what holds of a setting and its functions holds of a subject that has them
@@ -192,10 +197,46 @@ found_for x is s fs found es ef accepted least contexts needed = record {
   contexts = of_subject (λ t f. AreLeastContexts t f found.certificate.contexts) x is s fs es ef contexts;
 }
 
--- what passes the check is what was found
-pub still_found : (r : Result Found Refusal) (found : Found) (P : Found → Type 0) → IfOk r (λ a. a ≡ found) → P found → IfOk r P
-still_found (Ok a) found P same h = subst P (sym same) h
-still_found (Err e) found P same h = tt
+-- what the finder keeps is found for the program
+pub found_here : (finder : Finder) (search : Search) (x : Subject) (s : AnySetting) (updates : ℕ) → IsSubjectOf x s → HasFlow (setting_of s) s.start.now → HasFound finder updates
+    → IfSome finder.found (IsLeastFor s) → IfSome finder.found (HasLeastContexts s) → (IsForCertificate search → IfSome finder.found (HasOnlyNeeded s))
+    → IsFoundHere finder search x s.main.now
+found_here finder search x s updates subject h kept least contexts needed =
+    let is = s.main.now in
+    let t = setting_of s in
+    let fs = s.start.now in
+    let found = kept.found in
+    let L : Option Found → Type 0 = λ o. IfSome o (IsLeastFor s) in
+    let C : Option Found → Type 0 = λ o. IfSome o (HasLeastContexts s) in
+    let N : Option Found → Type 0 = λ o. IfSome o (HasOnlyNeeded s) in
+    let filling : IsLeastFor s found = subst L kept.is_kept least in
+    let accepted = accepted_found x is t fs found.updates found.certificate subject.cut subject.setting subject.functions h filling in
+    record {
+      found = found;
+      is_kept = kept.is_kept;
+      accepted = accepted;
+      for_certificate = λ certificate.
+          found_for x is t fs found subject.setting subject.functions accepted filling (subst C kept.is_kept contexts) (subst N kept.is_kept (needed certificate));
+    }
+
+-- the family that the finder lends has a good filling
+pub lent_filled : (kept : Option Found) (lent : Contents) (s : AnySetting) → IfSome kept (IsLeastFor s) → option_map (λ (y : Found). y.certificate) kept ≡ Some lent → IsFilledIn s lent
+lent_filled None lent s least is_lent = absurd cc
+lent_filled (Some found) lent s least is_lent =
+    let same : found.certificate ≡ lent = cc in
+    let F : Contents → Type 0 = λ v. IsFilledIn s v in
+    subst F same (least.filling, least.fills, least.good)
+
+-- so the check refuses nothing
+pub only_memory : {T : Type 0} (r : Result T Refusal) (called : Name) (Is : AnyRefused → Type 0) → IfErr r IsOutOfMemory → IfErr r (λ f. IfRefused called f Is)
+only_memory (Ok x) called Is h = tt
+only_memory (Err (fault.OutOfMemory e)) called Is h = tt
+only_memory (Err (fault.Refused spot offset r)) called Is h = absurd h
+
+-- what holds of the finder holds whatever the check says
+pub holds_anyway : {T E P : Type 0} (r : Result T E) → P → OnOk r P
+holds_anyway (Ok x) h = h
+holds_anyway (Err e) h = tt
 
 -- a refusal that is reported
 pub reported : (called : Name) (f : Refusal) (spot : Spot) (offset : ℕ) (r : Reason) (Is : AnyRefused → Type 0) → f ≡ fault.Refused spot offset r → Is (reported_at called spot offset r)

@@ -119,8 +119,7 @@ fn upgrade_section<S: Source, W: Sink>(
 {
     let name = name_of(number);
     let certificate = next_section(alloc, decoder, source, progress, name)?;
-    encoder.encode(name, &certificate, sink)?;
-    decoder.take_back(certificate);
+    encoder.encode(name, certificate, sink)?;
     Ok(())
 }
 

@@ -17,13 +17,11 @@ use tt_family::{Budget, Certificate};
 use tt_find::{Finder, Found};
 
 /// Judges a program by its least family, which is found and, where the search asks for that,
-/// checked. It keeps what it found last, and its memory is used again.
+/// checked. Its finder keeps what was found last, and uses its memory again.
 #[derive(Drop)]
 pub(crate) struct Finding {
     search: Search,
     finder: Finder,
-    /// What was found for the program that was judged last, if it is accepted.
-    found: Option<Found>,
 }
 
 /// Whether it is a glyph program without instructions, in which nothing can be refused.
@@ -45,36 +43,23 @@ impl Finding {
         Finding {
             search,
             finder: Finder::new(alloc),
-            found: None,
         }
     }
 
     /// Lends the certificate that was found last.
     pub(crate) fn certificate(&self) -> Option<&Certificate>
         ensures value { option_copied result
-            ≡ option_map (λ found. found.certificate) self.now.found }
-        ensures variant { is_some result ≡ is_some self.now.found }
+            ≡ option_map (λ found. found.certificate) self.now.finder.found }
+        ensures variant { is_some result ≡ is_some self.now.finder.found }
     {
-        match &self.found {
-            Some(found) => Some(&found.certificate),
-            None => None,
-        }
+        self.finder.certificate()
     }
 
     /// Returns what was found last.
     pub(crate) fn into_found(self) -> Option<Found>
-        ensures { result ≡ self.found }
+        ensures { result ≡ self.finder.found }
     {
-        self.found
-    }
-
-    /// Gives the memory of what was found last back to the finder.
-    fn clear(&mut self)
-        ensures { self.new.search ≡ self.old.search }
-    {
-        if let Some(found) = self.found.take() {
-            self.finder.take_back(found.certificate);
-        }
+        self.finder.into_found()
     }
 }
 
@@ -98,14 +83,11 @@ impl Judge for Finding {
         start: &[(u16, u32)],
         budget: &mut Budget,
     ) -> Result<(), Refusal> {
-        self.clear();
         if self.search.is_for_verdict() && is_empty_glyph(setting) {
             return Ok(());
         }
         let started = Setting { start, ..*setting };
-        let found = find_and_check(alloc, &mut self.finder, &started, self.search, budget)?;
-        self.found = Some(found);
-        Ok(())
+        find_and_check(alloc, &mut self.finder, &started, self.search, budget)
     }
 
     fn uncut_facts(&self) {}
@@ -117,8 +99,8 @@ impl Judge for Finding {
         _start: &[(u16, u32)],
     ) -> Result<Vec<(u16, u32)>, AllocError> {
         // A font program or a CVT program that is accepted has a family with a state at its end.
-        let found = self.found.as_ref().unwrap();
-        let functions = found.certificate.end_functions(setting.main.len()).unwrap();
+        let certificate = self.finder.certificate().unwrap();
+        let functions = certificate.end_functions(setting.main.len()).unwrap();
         Vec::from_slice(alloc, functions)
     }
 

@@ -1,7 +1,7 @@
 //! The verdict on one program: it is cut, a family of abstract states is found for it, and that
 //! family is checked, except where it is found once more to be written.
 
-ghost use Rattle.std.specs.Prelude.{◌≡◌, ◌⊎◌, ℕ, ◌<◌, ◌^◌, List, IfErr, IfOk, OnOk, length, true};
+ghost use Rattle.std.specs.Prelude.{◌≡◌, ◌⊎◌, ℕ, ◌<◌, ◌^◌, List, IfErr, IfOk, IfSome, OnOk, length, true};
 ghost use Rattle.tt_code.specs.Cut.{Instruction, IsCut};
 ghost use Rattle.tt_code.specs.Grammar.{IsStructured};
 ghost use Rattle.tt_code.specs.Settings.{GlyphProgram};
@@ -10,20 +10,21 @@ ghost use Rattle.tt_abs.specs.Settings.{setting_of};
 ghost use Rattle.tt_abs.specs.StateFlow.{FunctionsFit};
 ghost use Rattle.tt_family.specs.Budgets.{Spends};
 ghost use Rattle.tt_family.specs.Checks.{IsOutOfMemory};
-ghost use Rattle.tt_family.specs.Contents.{family_of};
 ghost use Rattle.tt_cert.specs.declared.name.Name.{Name as ProgramName};
-ghost use Rattle.tt_find.specs.Found.{AreLeastContexts, HasLeastFilling, IsJustified, IsNeverEnding, NamesPlace, NeedsAll, NoneIsGood};
-ghost use Rattle.hintcheck.specs.FindingSessions.{IsFoundFor};
+ghost use Rattle.tt_find.specs.Finders.{HasFound};
+ghost use Rattle.tt_find.specs.Found.{IsJustified, IsNeverEnding, NamesPlace, NoneIsGood};
+ghost use Rattle.tt_find.specs.FoundSubjects.{HasLeastContexts, HasOnlyNeeded, IsLeastFor};
 ghost use Rattle.hintcheck.specs.Programs.{Subject, program_at as program_at_spot};
-ghost use Rattle.hintcheck.specs.ProgramVerdicts.{IfRefused, IsAccepted, IsFaultOfProgram, IsFilledIn, IsForCertificate, IsSubjectOf, NoneIsGoodFor, reported_at};
+ghost use Rattle.hintcheck.specs.ProgramVerdicts.{IfRefused, IsFaultOfProgram, IsFilledIn, IsForCertificate, IsSubjectOf, NoneIsGoodFor, reported_at};
+ghost use Rattle.hintcheck.specs.Representation.Judges.{IsFoundHere};
 ghost use Rattle.hintcheck.specs.Representation.ProgramOrder.{IsUncut};
 
 use crate::report::{Name, Place, Refused};
 use std::alloc::Global;
 use tt_abs::{Refusal, Setting, Spot};
 use tt_code::{CodeFault, Program, Reason};
-use tt_family::{Budget, check_within};
-use tt_find::{Finder, Found};
+use tt_family::{Budget, Certificate, check_within};
+use tt_find::Finder;
 
 /// Returns which program holds a place of this spot, seen from the program of this name.
 fn program_at(name: Name, spot: Spot) -> Name
@@ -83,29 +84,23 @@ pub(crate) fn cut<'a>(alloc: Global, bytes: &'a [u8]) -> Result<Program<'a>, Ref
     }
 }
 
-/// Returns what is found for a program, if the check accepts its family. Otherwise the finder takes
-/// back the memory of what was found.
-fn checked(
+/// Checks the family that was found for a program.
+///
+/// # Errors
+/// `Refused` where it has no good filling; `OutOfMemory`.
+fn check_found(
     alloc: Global,
-    finder: &mut Finder,
     setting: &Setting<'_>,
-    found: Found,
+    certificate: &Certificate,
     budget: &mut Budget,
-) -> Result<Found, Refusal>
+) -> Result<(), Refusal>
     requires { Ascends setting.now.start.now }
-    ensures same { IfOk result (λ accepted. accepted ≡ found) }
     // The check accepts it: this relies on no promise of the finder's.
-    ensures good { OnOk result (IsFilledIn setting.now found.certificate) }
-    ensures exact { IsFilledIn setting.now found.certificate → IfErr result IsOutOfMemory }
+    ensures good { OnOk result (IsFilledIn setting.now certificate.now) }
+    ensures exact { IsFilledIn setting.now certificate.now → IfErr result IsOutOfMemory }
     ensures spends { Spends budget.old budget.new }
 {
-    match check_within(alloc, setting, &found.certificate, budget) {
-        Ok(()) => Ok(found),
-        Err(fault) => {
-            finder.take_back(found.certificate);
-            Err(fault)
-        }
-    }
+    check_within(alloc, setting, certificate, budget)
 }
 
 /// What a family is searched for.
@@ -133,8 +128,8 @@ impl Search {
     }
 }
 
-/// Finds the family of abstract states of the program of this setting: one that is for a
-/// certificate has no state that could be left out.
+/// Finds the family of abstract states of the program of this setting, which the finder keeps: one
+/// that is for a certificate has no state that could be left out. Returns how many updates it took.
 ///
 /// # Errors
 /// As `Finder::find_within`.
@@ -144,16 +139,14 @@ fn find(
     setting: &Setting<'_>,
     search: Search,
     budget: &mut Budget,
-) -> Result<Found, Refusal>
+) -> Result<u64, Refusal>
     requires ascends { Ascends setting.now.start.now }
     requires fits { FunctionsFit (setting_of setting.now) setting.now.start.now }
-    ensures filling { IfOk result (λ found. HasLeastFilling (setting_of setting.now)
-        setting.now.start.now found.updates (family_of found.certificate)) }
-    ensures contexts { IfOk result (λ found. AreLeastContexts (setting_of setting.now)
-        setting.now.start.now found.certificate.contexts) }
+    ensures kept { IfOk result (HasFound finder.new) }
+    ensures filling { OnOk result (IfSome finder.new.found (IsLeastFor setting.now)) }
+    ensures contexts { OnOk result (IfSome finder.new.found (HasLeastContexts setting.now)) }
     ensures needed { IsForCertificate search
-        → IfOk result (λ found. NeedsAll (setting_of setting.now) setting.now.start.now
-        (family_of found.certificate)) }
+        → OnOk result (IfSome finder.new.found (HasOnlyNeeded setting.now)) }
     ensures justified { IfErr result
         (NamesPlace (IsJustified (setting_of setting.now) setting.now.start.now)) }
     ensures none_good { IfErr result (λ fault. IsOutOfMemory fault ⊎ IsNeverEnding fault
@@ -169,8 +162,7 @@ fn find(
 }
 
 /// Finds the family of abstract states of the program of this setting, and checks it where that is
-/// asked. A family that is found passes the check. What is found has the finder's memory, which
-/// `Finder::take_back` gives back; where the program is refused, the finder keeps it.
+/// asked. A family that is found passes the check. The finder keeps it.
 ///
 /// # Errors
 /// `Refused` where no family is found; `OutOfMemory`.
@@ -180,13 +172,11 @@ pub(crate) fn find_and_check(
     setting: &Setting<'_>,
     search: Search,
     budget: &mut Budget,
-) -> Result<Found, Refusal>
+) -> Result<(), Refusal>
     requires ascends { Ascends setting.now.start.now }
     requires fits { FunctionsFit (setting_of setting.now) setting.now.start.now }
-    ensures accepted { (x : Subject) → IsSubjectOf x setting.now → IfOk result
-        (λ found. IsAccepted x setting.now.main.now (family_of found.certificate)) }
-    ensures found { IsForCertificate search → (x : Subject) → IsSubjectOf x setting.now
-        → IfOk result (IsFoundFor x setting.now.main.now) }
+    ensures accepted { (x : Subject) → IsSubjectOf x setting.now
+        → OnOk result (IsFoundHere finder.new search x setting.now.main.now) }
     ensures refused { (x : Subject) → IsSubjectOf x setting.now
         → IfErr result (IsFaultOfProgram x) }
     ensures none_good { (x : Subject) (points contours : ℕ) → IsSubjectOf x setting.now
@@ -195,9 +185,12 @@ pub(crate) fn find_and_check(
     ensures spends { Spends budget.old budget.new }
 {
     setting.range_facts();
-    let found = find(alloc, finder, setting, search, budget)?;
+    find(alloc, finder, setting, search, budget)?;
     match search {
-        Search::Writing => Ok(found),
-        Search::Verdict | Search::Certificate => { checked(alloc, finder, setting, found, budget) }
+        Search::Writing => Ok(()),
+        Search::Verdict | Search::Certificate => {
+            let certificate = finder.certificate().unwrap();
+            check_found(alloc, setting, certificate, budget)
+        }
     }
 }

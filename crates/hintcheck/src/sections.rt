@@ -35,21 +35,22 @@ fn is_same(one: Name, other: Name) -> bool
     one == other
 }
 
-/// Reads the section of the program with this name, and goes on to the next one.
+/// Reads the section of the program with this name, and goes on to the next one. The decoder lends
+/// the section's family.
 ///
 /// # Errors
 /// `Form` where the bytes are no section, or another program's; `Read` exactly where a read failed;
 /// `OutOfMemory`.
-pub(crate) fn next_section<S: Source>(
+pub(crate) fn next_section<'d, S: Source>(
     alloc: Global,
-    decoder: &mut Decoder,
+    decoder: &'d mut Decoder,
     source: &mut S,
     progress: &mut Progress,
     name: Name,
-) -> Result<Certificate, DecodeFault>
+) -> Result<&'d Certificate, DecodeFault>
     ensures section { IsTold (S.remaining source.old) → Decodes result
         (λ c. IsTold (S.remaining source.new) × IsSectionOf progress.old.form
-        (input_from progress.old (S.remaining source.old)) name c
+        (input_from progress.old (S.remaining source.old)) name c.now
         (input_from progress.new (S.remaining source.new)))
         (HasNoSection progress.old.form (input_from progress.old (S.remaining source.old)) name) }
     ensures form { progress.new.form ≡ progress.old.form }

@@ -148,11 +148,11 @@ fn check_section<'a, S: Source>(
     };
     let certificate = next_section(alloc, decoder, source, progress, next.name)?;
     let mut judge = SectionCheck {
-        certificate: &certificate,
+        certificate,
         form: progress.form,
     };
     let judged = programs.judge_next(alloc, &mut judge, budget);
-    decoder.take_back(certificate);
+    decoder.clear();
     Ok(judged?)
 }
 

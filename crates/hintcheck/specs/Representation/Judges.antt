@@ -7,6 +7,7 @@ use Rattle.tt_abs.specs.Entries.{listed}
 use Rattle.tt_cert.specs.declared.form.Form.{Form}
 use Rattle.tt_family.specs.Contents.{Contents, family_of}
 use Rattle.tt_family.specs.Fillings.{HasGoodFilling}
+use Rattle.tt_find.specs.declared.finder.Finder.{Finder}
 use Rattle.tt_find.specs.declared.finder.Found.{Found}
 use Rattle.tt_font.specs.Reading.{FontData}
 use Rattle.hintcheck.specs.Certificates.{IsCheckRefusal, Passes, PassesToEnd}
@@ -18,6 +19,7 @@ use Rattle.hintcheck.specs.Representation.FontVerdicts.{ComesToEnd, IsKnownAtEnd
 use Rattle.hintcheck.specs.Representation.ProgramOrder.{IsAnswerBy, IsOutcomeBy, with_start}
 use Rattle.hintcheck.specs.Sessions.{Stage}
 use Rattle.hintcheck.specs.declared.finding.Finding.{Finding}
+use Rattle.hintcheck.specs.declared.program.Search.{Search}
 use Rattle.hintcheck.specs.declared.report.Refused.{Refused}
 use Rattle.hintcheck.specs.declared.section_check.SectionCheck.{SectionCheck}
 use Rattle.hintcheck.specs.declared.session.Outcome.{Outcome}
@@ -27,25 +29,27 @@ abbrev pub AreWithin : Limits → List (ℕ × ℕ) → Type 0
 AreWithin limits functions =
     (n body : ℕ) → listed functions n ≡ Some body → (n < limits.functions) × (body < 2 ^ 32)
 
--- this was found last, and the program with these instructions is accepted by it
-pub record IsFoundHere (j : Finding) (x : Subject) (is : List Instruction) : Type 0 where
+-- the finder keeps what this search found, and the program with these instructions is accepted by it
+pub record IsFoundHere (finder : Finder) (search : Search) (x : Subject) (is : List Instruction)
+    : Type 0 where
   pub found : Found
-  pub is_kept : j.found ≡ Some found
+  pub is_kept : finder.found ≡ Some found
   pub accepted : IsAccepted x is (family_of found.certificate)
-  pub for_certificate : IsForCertificate j.search → IsFoundFor x is found
+  pub for_certificate : IsForCertificate search → IsFoundFor x is found
 
 -- The program with these instructions has its least family, and where that is asked for or a state
 -- at the end is, it was found.
 pub record IsFoundIn (j : Finding) (x : Subject) (is : List Instruction) : Type 0 where
   pub least : HasLeastFamily x
-  pub found : IsForCertificate j.search ⊎ ComesToEnd (x.setting is).kind → IsFoundHere j x is
+  pub found : IsForCertificate j.search ⊎ ComesToEnd (x.setting is).kind
+      → IsFoundHere j.finder j.search x is
 
 -- what is known where it ends, and what was found for a certificate
 pub record IsFoundToEndIn (j : Finding) (x : Subject) (is : List Instruction)
     (functions : List (ℕ × ℕ)) : Type 0 where
   pub known : IsKnownAtEnd x is functions
   pub found : IsForCertificate j.search
-      → (found : Found) × (j.found ≡ Some found) × IsFoundToEnd x is found functions
+      → (found : Found) × (j.finder.found ≡ Some found) × IsFoundToEnd x is found functions
 
 -- a refused program, which has no good family if it is a glyph's
 pub record IsRefusedFor (x : Subject) (r : Refused) : Type 0 where

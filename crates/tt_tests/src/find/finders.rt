@@ -6,7 +6,6 @@ use crate::find::programs::{
     STRAIGHT, TEN_JUMPS_BACK, THREE_TURNS,
 };
 use std::alloc::Global;
-use std::process::Abort;
 use tt_family::Certificate;
 use tt_find::Finder;
 use tt_test_fixtures::programs::POPPING;
@@ -36,12 +35,12 @@ fn has_all_of(one: &Certificate, other: &Certificate) -> bool {
 
 /// Whether a finder that has looked at other programs tells the same as one of the program's own.
 /// The first may list more states.
-fn is_told_alike(again: &Told, alone: &Told) -> bool {
+fn is_told_alike(again: &Told<'_>, alone: &Told<'_>) -> bool {
     if again.answer != alone.answer {
         return false;
     }
-    match &again.certificate {
-        Some(one) => match &alone.certificate {
+    match again.certificate {
+        Some(one) => match alone.certificate {
             Some(other) => has_all_of(one, other),
             None => false,
         },
@@ -49,30 +48,13 @@ fn is_told_alike(again: &Told, alone: &Told) -> bool {
     }
 }
 
-/// Gives the memory of a certificate back to a finder.
-fn give_back(finder: &mut Finder, told: Told) {
-    if let Some(certificate) = told.certificate {
-        finder.take_back(certificate);
-    }
-}
-
 /// Whether this finder tells the same of a glyph program that starts with function 0 as one of the
-/// program's own. Afterwards the finder may get back the memory of its certificate. Nothing where
-/// memory ran out.
-fn is_found_alike(
-    alloc: Global,
-    finder: &mut Finder,
-    font: &[u8],
-    program: &[u8],
-    gives_back: bool,
-) -> Option<bool> {
-    let alone = with_function_by(alloc, &mut Finder::new(alloc), font, program)?;
+/// program's own. Nothing where memory ran out.
+fn is_found_alike(alloc: Global, finder: &mut Finder, font: &[u8], program: &[u8]) -> Option<bool> {
+    let mut own = Finder::new(alloc);
+    let alone = with_function_by(alloc, &mut own, font, program)?;
     let again = with_function_by(alloc, finder, font, program)?;
-    let is_alike = is_told_alike(&again, &alone);
-    if gives_back {
-        give_back(finder, again);
-    }
-    Some(is_alike)
+    Some(is_told_alike(&again, &alone))
 }
 
 /// Font programs and glyph programs. Some are refused, two font programs are of one length, and one
@@ -90,21 +72,11 @@ const PROGRAMS: &[(&[u8], &[u8])] = &[
     (&STRAIGHT, &MAY_STOP_COUNTING),
 ];
 
-/// Asserts that one finder, which may get the memory of the certificates back, tells the same of
-/// these programs.
-fn assert_alike(rt: &impl Abort, alloc: Global, gives_back: bool) {
-    let mut finder = Finder::new(alloc);
-    for (font, program) in PROGRAMS {
-        let is_alike = is_found_alike(alloc, &mut finder, font, program, gives_back);
-        assert!(rt;
-            is_alike == Some(true),
-            "of {font:?} and {program:?}, {gives_back}"
-        );
-    }
-}
-
 #[test]
 fn one_finder_for_many_programs(rt: HostRuntime) {
-    assert_alike(&rt, rt.alloc(), true);
-    assert_alike(&rt, rt.alloc(), false);
+    let mut finder = Finder::new(rt.alloc());
+    for (font, program) in PROGRAMS {
+        let is_alike = is_found_alike(rt.alloc(), &mut finder, font, program);
+        assert!(rt; is_alike == Some(true), "of {font:?} and {program:?}");
+    }
 }

@@ -22,7 +22,7 @@ returns-in_err-encode-clause-begun g c = λ told.
     let section = c.in_ok-certificate.ensures.section told in
     rw p.1
     (one_begun progress.form c.args.number (input_at progress.place (g.S.Source.remaining c.args.source.now))
-    (input_at c.next_section.new.progress.place (g.S.Source.remaining c.next_section.new.source)) c.name_of-name.result c.in_ok-certificate.certificate (g.W.Sink.contents c.args.sink.now)
+    (input_at c.next_section.new.progress.place (g.S.Source.remaining c.next_section.new.source)) c.name_of-name.result c.in_ok-certificate.certificate.now (g.W.Sink.contents c.args.sink.now)
     (g.W.Sink.contents c.encode.new.sink) section.1 c.name_of-name.ensures c.in_err-encode.ensures.beginning)
 
 pub returns-clause-section : goal.returns-clause-section
@@ -31,7 +31,7 @@ returns-clause-section g c = λ told.
     let section = c.in_ok-certificate.ensures.section told in (
       section.0,
       one_upgraded progress.form c.args.number (input_at progress.place (g.S.Source.remaining c.args.source.now))
-          (input_at c.next_section.new.progress.place (g.S.Source.remaining c.next_section.new.source)) c.name_of-name.result c.in_ok-certificate.certificate
+          (input_at c.next_section.new.progress.place (g.S.Source.remaining c.next_section.new.source)) c.name_of-name.result c.in_ok-certificate.certificate.now
           (g.W.Sink.contents c.args.sink.now) (g.W.Sink.contents c.encode.new.sink) section.1 c.name_of-name.ensures c.in_ok-encode.ensures.written,
     )
 

@@ -15,7 +15,7 @@ returns-then-not-is_same-clause-section g c = λ told.
     let old = g.S.Source.remaining c.args.source.now in
     let new = g.S.Source.remaining c.decode.new.source in
     let progress = c.args.progress.now in
-    section_of_another progress.form old new progress.place c.in_ok-named.after c.args.name c.in_ok-named.named c.in_ok-named.certificate c.in_ok-named.ensures.exact
+    section_of_another progress.form old new progress.place c.in_ok-named.after c.args.name c.in_ok-named.named c.in_ok-named.certificate.now c.in_ok-named.ensures.exact
     (λ e. absurd (let t = c.is_same.ensures.1 e in let f = c.if-not-is_same.true in cc)) told
 
 pub returns-clause-section : goal.returns-clause-section
@@ -23,5 +23,5 @@ returns-clause-section g c = λ told.
     let old = g.S.Source.remaining c.args.source.now in
     let new = g.S.Source.remaining c.decode.new.source in
     let progress = c.args.progress.now in
-    section_read progress.form old new progress.place c.in_ok-named.after c.args.name c.in_ok-named.named c.in_ok-named.certificate c.in_ok-named.ensures.exact
+    section_read progress.form old new progress.place c.in_ok-named.after c.args.name c.in_ok-named.named c.in_ok-named.certificate.now c.in_ok-named.ensures.exact
     (c.is_same.ensures.0 c.if-not-is_same.false) c.order_facts.ensures told

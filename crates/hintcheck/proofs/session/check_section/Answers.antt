@@ -73,7 +73,7 @@ returns-clause-exact g c = λ told.
     let after = input_at c.next_section.new.progress.place (g.S.Source.remaining c.next_section.new.source) in
     let keeps = c.judge_next-judged.ensures.keeps in (
       section.0,
-      answer_of_section c.args.programs.now.font.now progress.form before after c.in_ok-certificate.certificate c.judge_next-judged.new.judge (stage_of c.args.programs.now)
+      answer_of_section c.args.programs.now.font.now progress.form before after c.in_ok-certificate.certificate.now c.judge_next-judged.new.judge (stage_of c.args.programs.now)
           (stage_of c.judge_next-judged.new.self) c.in-Some.next c.in_ok-judged.field-0 (ap (λ (j : SectionCheck). j.form) keeps ∙ c.in_ok-certificate.ensures.form)
           (ap (λ (j : SectionCheck). j.certificate.now) keeps) c.in-Some.ensures.some section.1 c.in_ok-judged.ensures.answer,
     )
