@@ -1,5 +1,5 @@
 -- A font whose programs never fault on the hint machine is safe on the machine with control values.
-use Rattle.std.proofs.Common.{◌≡◌, ℕ, List, Some}
+use Rattle.std.proofs.Common.{ℕ, List}
 use Rattle.tt_code.specs.Fonts as strict
 use Rattle.tt_code.specs.Fonts.{Font, cvt_setting, font_setting}
 use Rattle.tt_code.specs.Runs as machine_runs
@@ -7,7 +7,7 @@ use Rattle.tt_code.specs.Settings.{Setting}
 use Rattle.tt_code.specs.States.{Machine}
 use Rattle.tt_symbolic_state.specs.CvtMachine.{CvtMachine, CvtRuns, here, step}
 use Rattle.tt_symbolic_font.specs.Laws.{StrictFontsAreSafe}
-use Rattle.tt_symbolic_font.specs.Starts.{GlyphPrograms, LeavesFunctions, StartsCvtProgram, StartsFontProgram, StartsWithFunctions}
+use Rattle.tt_symbolic_font.specs.Starts.{LeavesFunctions, StartsCvtProgram, StartsFontProgram, StartsWithFunctions}
 
 -- each run is one of the hint machine
 strict_run : (s : Setting) (m n : CvtMachine) → CvtRuns s m n → machine_runs.Runs s m.machine n.machine
@@ -27,13 +27,13 @@ strict_leaves s Starts There is fs l = record {
 
 -- where programs start, they start on the hint machine too
 font_start : (f : Font) (m : CvtMachine) → StartsFontProgram m → strict.StartsFontProgram f m.machine
-font_start f m h = h.fresh, h.none
+font_start f m h = (h.fresh, h.none)
 
 cvt_start : (f : Font) (m : CvtMachine) → StartsCvtProgram f m → strict.StartsCvtProgram f m.machine
-cvt_start f m h = h.fresh, strict_leaves (font_setting f) StartsFontProgram (strict.StartsFontProgram f) (font_start f) m.machine.functions h.left
+cvt_start f m h = (h.fresh, strict_leaves (font_setting f) StartsFontProgram (strict.StartsFontProgram f) (font_start f) m.machine.functions h.left)
 
 glyph_start : (f : Font) (m : CvtMachine) → StartsWithFunctions f m → strict.StartsGlyphProgram f m.machine
-glyph_start f m h = h.fresh, strict_leaves (cvt_setting f) (StartsCvtProgram f) (strict.StartsCvtProgram f) (cvt_start f) m.machine.functions h.left
+glyph_start f m h = (h.fresh, strict_leaves (cvt_setting f) (StartsCvtProgram f) (strict.StartsCvtProgram f) (cvt_start f) m.machine.functions h.left)
 
 pub safe : StrictFontsAreSafe
 safe f programs font cvt glyphs = record {
