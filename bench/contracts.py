@@ -20,7 +20,7 @@ TOP = pathlib.Path(__file__).resolve().parent.parent
 PAGE = TOP / "docs/CONTRACTS.md"
 
 # What the tests share, which promises nothing to users.
-FIXTURES = ("tt_test_fixtures", "hintcheck_test_fixtures")
+FIXTURES = ("tt_test_fixtures",)
 
 # The crates of tests that the page names.
 TEST_CRATES = ("tt_tests", "hintcheck_tests")

@@ -1,9 +1,10 @@
 //! The library's calls on one glyph program, on fonts and on certificates.
 
+use crate::sessions::refused_in_session;
 use anyhow::{Result, anyhow, ensure};
 use hintcheck::{
-    Budget, CommandFault, Verdict, bare, check_font_within, find_font_within, upgrade, verdict,
-    verdict_symbolic, verdict_within,
+    Budget, CommandFault, Refused, UpgradeFault, Verdict, bare, check_font_within,
+    find_font_within, read_font, upgrade, verdict, verdict_symbolic, verdict_within,
 };
 use std::alloc::Global;
 use std::fmt::Write;
@@ -11,6 +12,13 @@ use tt_cases::context::Context;
 use tt_cases::files::{font_of, held, likeness, maxp};
 use tt_cases::words::{Words, bytes_of};
 use tt_stream::Counted;
+use tt_test_fixtures::streams::{ALL, Steps, Taker};
+
+/// Returns a refused program, the reason's number and the place.
+fn refused_text(alloc: Global, refused: &Refused) -> Result<String> {
+    let (name, number, place) = (refused.program, refused.reason.number(), refused.place);
+    Ok(format!(in alloc; "{name} {number} at {place}")?)
+}
 
 /// Returns how many programs there are, and that all are good, or each that is refused with the
 /// reason's number and the place.
@@ -22,8 +30,7 @@ fn told_of_verdict(alloc: Global, verdict: &Verdict) -> Result<String> {
     let mut text = format!(in alloc; "{programs}")?;
     let mut divider = ':';
     for refused in verdict.refused() {
-        let (name, number, place) = (refused.program, refused.reason.number(), refused.place);
-        write!(text, "{divider} {name} {number} at {place}")?;
+        write!(text, "{divider} {}", refused_text(alloc, refused)?)?;
         divider = ',';
     }
     Ok(text)
@@ -77,6 +84,65 @@ pub(crate) fn told_of_font(alloc: Global, font: &[u8], budget: &mut Budget) -> R
     told_of(alloc, verdict_within(alloc, font, budget))
 }
 
+/// How many calls of a reader and of a writer there may be before one fails, and whether that of a
+/// writer takes nothing in place of failing. Where one fails, a byte is read or written a call.
+#[derive(Clone, Copy)]
+pub(crate) struct Room {
+    pub(crate) reads: usize,
+    pub(crate) writes: usize,
+    pub(crate) takes_nothing: bool,
+}
+
+/// No call fails.
+pub(crate) const AMPLE: Room = Room {
+    reads: ALL,
+    writes: ALL,
+    takes_nothing: false,
+};
+
+/// Returns how many bytes a call reads or writes, of which there may be so many before one fails.
+fn step_of(calls: usize) -> usize {
+    if calls < ALL { 1 } else { ALL }
+}
+
+impl Room {
+    /// Returns the reader of these bytes.
+    fn reader<'a>(&self, bytes: &'a [u8]) -> Steps<'a> {
+        Steps {
+            bytes,
+            step: step_of(self.reads),
+            calls: self.reads,
+        }
+    }
+
+    /// Returns the writer.
+    fn writer(&self, alloc: Global) -> Taker {
+        Taker {
+            bytes: Vec::new(alloc),
+            step: step_of(self.writes),
+            calls: self.writes,
+            takes_nothing: self.takes_nothing,
+        }
+    }
+
+    /// Returns as many of the bytes that are to be written as may be.
+    fn wanted<'a>(&self, bytes: &'a [u8]) -> &'a [u8] {
+        bytes.get(..self.writes).unwrap_or(bytes)
+    }
+}
+
+/// Returns what the check of a font by a certificate tells, for which there is so much room.
+fn told_of_reading(
+    alloc: Global,
+    font: &[u8],
+    certificate: &[u8],
+    room: Room,
+    budget: &mut Budget,
+) -> Result<String> {
+    let mut source = Counted::new(room.reader(certificate));
+    told_of(alloc, check_font_within(alloc, font, &mut source, budget))
+}
+
 /// Returns what the check of a font by a certificate tells.
 pub(crate) fn told_of_check(
     alloc: Global,
@@ -84,29 +150,74 @@ pub(crate) fn told_of_check(
     certificate: &[u8],
     budget: &mut Budget,
 ) -> Result<String> {
-    let mut source = Counted::new(certificate);
-    told_of(alloc, check_font_within(alloc, font, &mut source, budget))
+    told_of_reading(alloc, font, certificate, AMPLE, budget)
 }
 
-/// Returns what the search for a font's certificate tells, and how it compares with this one.
-fn told_of_search(alloc: Global, font: &[u8], want: &[u8], budget: &mut Budget) -> Result<String> {
-    let mut sink = Counted::new(Vec::new(alloc));
+/// Returns what the search for a font's certificate tells, for which there is so much room, and how
+/// what is written compares with this one.
+fn told_of_search(
+    alloc: Global,
+    font: &[u8],
+    want: &[u8],
+    room: Room,
+    budget: &mut Budget,
+) -> Result<String> {
+    let mut sink = Counted::new(room.writer(alloc));
     let told = told_of(alloc, find_font_within(alloc, font, &mut sink, budget))?;
-    let likeness = likeness(&sink.into_inner(), want);
+    let likeness = likeness(&sink.into_inner().bytes, room.wanted(want));
     Ok(format!(in alloc; "{told}, {likeness}")?)
+}
+
+/// Returns what the upgrade of an old certificate tells, for which there is so much room, and what
+/// is written.
+fn upgraded(alloc: Global, old: &[u8], room: Room) -> (Result<u32, UpgradeFault>, Vec<u8>) {
+    let mut source = Counted::new(room.reader(old));
+    let mut sink = Counted::new(room.writer(alloc));
+    let told = upgrade(alloc, &mut source, &mut sink);
+    (told, sink.into_inner().bytes)
+}
+
+/// Returns what a fault of an upgrade tells that has written this. Where a read failed, that is what
+/// is written where the old certificate ends there.
+fn told_of_upgrade_fault(
+    alloc: Global,
+    old: &[u8],
+    room: Room,
+    written: &[u8],
+    fault: UpgradeFault,
+) -> Result<String> {
+    if let UpgradeFault::Read = fault {
+        let cut = old.get(..room.reads).unwrap_or(old);
+        let (_, of_cut) = upgraded(alloc, cut, AMPLE);
+        ensure!(written == of_cut.as_slice(), "another beginning");
+    }
+    told_of_fault(alloc, CommandFault::from(fault))
 }
 
 /// Returns how many sections an old certificate has, and how what its upgrade writes compares with
 /// the one that is wanted.
-pub(crate) fn told_of_upgrade(alloc: Global, old: &[u8], want: &[u8]) -> Result<String> {
-    let mut source = Counted::new(old);
-    let mut sink = Counted::new(Vec::new(alloc));
-    let told = match upgrade(alloc, &mut source, &mut sink) {
+fn told_of_upgrade(alloc: Global, old: &[u8], want: &[u8], room: Room) -> Result<String> {
+    let (answer, written) = upgraded(alloc, old, room);
+    let told = match answer {
         Ok(sections) => format!(in alloc; "{sections} sections")?,
-        Err(fault) => told_of_fault(alloc, CommandFault::from(fault))?,
+        Err(fault) => told_of_upgrade_fault(alloc, old, room, &written, fault)?,
     };
-    let likeness = likeness(&sink.into_inner(), want);
+    let likeness = likeness(&written, room.wanted(want));
     Ok(format!(in alloc; "{told}, {likeness}")?)
+}
+
+/// Returns what a session of a font tells, all of whose programs but one at most are accepted, as
+/// the check tells it.
+fn told_of_session(alloc: Global, file: &[u8], certificate: Steps<'_>) -> Result<String> {
+    let font = read_font(alloc, file)?;
+    let programs = u32::from(font.glyph_count()) + 2;
+    match refused_in_session(alloc, &font, certificate) {
+        Ok(None) => Ok(format!(in alloc; "{programs} good")?),
+        Ok(Some(refused)) => {
+            Ok(format!(in alloc; "{programs}: {}", refused_text(alloc, &refused)?)?)
+        }
+        Err(fault) => told_of_fault(alloc, CommandFault::from(fault)),
+    }
 }
 
 /// Calls the library with files: `verdict FONT`, `check_font FONT CERT`, `find_font FONT WANT` and
@@ -117,16 +228,32 @@ pub(crate) fn call(
     names: &[&str],
     budget: &mut Budget,
 ) -> Result<String> {
+    call_within(context, kind, names, AMPLE, budget)
+}
+
+/// Calls the library with files, where a reader and a writer have so much room.
+pub(crate) fn call_within(
+    context: &Context<'_>,
+    kind: &str,
+    names: &[&str],
+    room: Room,
+    budget: &mut Budget,
+) -> Result<String> {
     let alloc = context.rt.alloc();
     let Some((first, others)) = names.split_first() else {
         return Err(anyhow!("no file for {kind}"));
     };
     let first = held(context, first)?;
-    match (kind, others) {
-        ("verdict", []) => told_of_font(alloc, &first, budget),
-        ("check_font", [other]) => told_of_check(alloc, &first, &held(context, other)?, budget),
-        ("find_font", [other]) => told_of_search(alloc, &first, &held(context, other)?, budget),
-        ("upgrade", [other]) => told_of_upgrade(alloc, &first, &held(context, other)?),
+    let other = match others {
+        [other] => held(context, other)?,
+        _ => Vec::new(alloc),
+    };
+    match (kind, others.len()) {
+        ("verdict", 0) => told_of_font(alloc, &first, budget),
+        ("check_font", 1) => told_of_reading(alloc, &first, &other, room, budget),
+        ("session", 1) => told_of_session(alloc, &first, room.reader(&other)),
+        ("find_font", 1) => told_of_search(alloc, &first, &other, room, budget),
+        ("upgrade", 1) => told_of_upgrade(alloc, &first, &other, room),
         _ => Err(anyhow!("no call {kind} of these files")),
     }
 }

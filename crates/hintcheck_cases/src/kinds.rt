@@ -21,8 +21,11 @@ fn answer_of_hintcheck(context: &Context<'_>, kind: &str, words: &mut Words<'_>)
             calls::call(context, kind, &names, &mut Budget::unlimited())
         }
         "session" => sessions::session(context, words),
+        "first" => sessions::first(context, words),
         "search" => sessions::search(context, words),
         "within" => sweeps::within(context, words),
+        "budget" => sweeps::budgeted(context, words),
+        "failing" => sweeps::failing(context, words),
         "lengths" => sweeps::lengths(context, words),
         "answered" => sweeps::answered(context, words),
         _ => Err(anyhow!("no kind {kind}")),

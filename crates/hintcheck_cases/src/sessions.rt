@@ -1,8 +1,13 @@
 //! Sessions: the programs of a font checked one by one.
 
+ghost use Rattle.hintcheck.specs.FindingSessions.{IsForFinding};
+ghost use Rattle.hintcheck.specs.Sessions.{IsForChecking};
+
 use crate::calls::told_of_fault;
 use anyhow::Result;
-use hintcheck::{Budget, CommandFault, Outcome, Session, read_font};
+use hintcheck::{
+    Budget, CheckFontFault, CommandFault, FindFontFault, Name, Outcome, Refused, Session, read_font,
+};
 use std::alloc::Global;
 use std::fmt::Write;
 use tt_cases::context::Context;
@@ -12,6 +17,13 @@ use tt_cert::{NEWEST_FORM, encode, write_header};
 use tt_find::Found;
 use tt_font::Font;
 use tt_stream::{Bytes, Counted, Source};
+use tt_test_fixtures::streams::Steps;
+
+/// What a call answers that finds a program.
+type Answer = Result<Option<(Outcome, Option<Found>)>, FindFontFault>;
+
+/// Where sections are written.
+type Sections = Counted<Vec<u8>>;
 
 /// Returns what a call tells: the name of a program that is accepted, the line of one that is
 /// refused, or that none is left.
@@ -22,6 +34,49 @@ fn told_of_next(alloc: Global, next: Option<Outcome>) -> Result<String> {
     match outcome.refused {
         None => Ok(format!(in alloc; "{}", outcome.program)?),
         Some(refused) => Ok(format!(in alloc; "{refused}")?),
+    }
+}
+
+/// Returns the program that the calls of a session tell is refused, if one does, up to the end.
+fn refused_by_calls(
+    alloc: Global,
+    session: &mut Session<'_>,
+    programs: u32,
+    source: &mut Counted<Steps<'_>>,
+) -> Result<Option<Refused>, CheckFontFault>
+    requires { IsForChecking session.old }
+{
+    let mut refused = None;
+    for _ in 0..programs {
+        match session.check_next(alloc, source)? {
+            Some(outcome) if outcome.refused.is_some() => refused = outcome.refused,
+            Some(_) => {}
+            None => return Ok(refused),
+        }
+    }
+    Ok(refused)
+}
+
+/// Returns the program of a font that a session tells is refused, if one does.
+pub(crate) fn refused_in_session(
+    alloc: Global,
+    font: &Font<'_>,
+    certificate: Steps<'_>,
+) -> Result<Option<Refused>, CheckFontFault> {
+    let mut source = Counted::new(certificate);
+    let mut session = Session::new(font);
+    let calls = u32::from(font.glyph_count()) + 3;
+    refused_by_calls(alloc, &mut session, calls, &mut source)
+}
+
+/// Returns what a call answers, as text.
+fn told_of_answer<E>(alloc: Global, answer: Result<Option<Outcome>, E>) -> Result<String>
+where
+    CommandFault: From<E>,
+{
+    match answer {
+        Ok(next) => told_of_next(alloc, next),
+        Err(fault) => told_of_fault(alloc, CommandFault::from(fault)),
     }
 }
 
@@ -53,43 +108,113 @@ fn session_of(
     session_on(alloc, &font, certificate, words)
 }
 
-/// Returns what the calls on a font and its certificate tell.
+/// Returns what the calls on a font and its certificate tell. The session ends in one place, since
+/// each place where it did would have to be proved.
 fn session_on(
     alloc: Global,
     font: &Font<'_>,
     certificate: &[u8],
     words: &mut Words<'_>,
 ) -> Result<String> {
-    let mut source = Bytes::new(certificate);
     let mut session = Session::new(font);
+    told_by_checks(alloc, &mut session, certificate, words)
+}
+
+/// Returns what the calls of a session tell that check the programs by a certificate.
+fn told_by_checks(
+    alloc: Global,
+    session: &mut Session<'_>,
+    certificate: &[u8],
+    words: &mut Words<'_>,
+) -> Result<String>
+    requires { IsForChecking session.old }
+{
+    let mut source = Bytes::new(certificate);
     let mut budget = Budget::unlimited();
     let mut text = String::new(alloc);
-    for word in words.rest(alloc)? {
-        budget = budget_of(word, budget)?;
-        let told = match session.check_next_within(alloc, &mut source, &mut budget) {
-            Ok(next) => told_of_next(alloc, next)?,
-            Err(fault) => told_of_fault(alloc, CommandFault::from(fault))?,
-        };
-        let mark = if budget.is_exceeded() { "!" } else { "" };
-        let (made, left) = (budget.made(), source.ahead().len());
-        write!(text, "{told} [{made}{mark} {left}] ")?;
+    for _ in 0..words.len() {
+        budget = budget_of(words.next()?, budget)?;
+        add_check(alloc, &mut text, session, &mut source, &mut budget)?;
     }
     Ok(text)
 }
 
-/// Writes the section of a program that was found, if it was, and returns what happened to it.
-fn write_found(
+/// Adds what the next call tells that checks a program by a certificate.
+fn add_check(
     alloc: Global,
-    next: Option<(Outcome, Option<Found>)>,
-    sink: &mut Counted<Vec<u8>>,
-) -> Result<Option<Outcome>> {
-    let Some((outcome, found)) = next else {
-        return Ok(None);
-    };
-    if let Some(found) = found {
-        encode(alloc, outcome.program, &found.certificate, sink)?;
+    text: &mut String,
+    session: &mut Session<'_>,
+    source: &mut Bytes<'_>,
+    budget: &mut Budget,
+) -> Result<()>
+    requires { IsForChecking session.old }
+    ensures { IsForChecking session.new }
+{
+    let told = told_of_answer(alloc, session.check_next_within(alloc, source, budget))?;
+    let mark = if budget.is_exceeded() { "!" } else { "" };
+    let (made, left) = (budget.made(), source.ahead().len());
+    write!(text, "{told} [{made}{mark} {left}] ")?;
+    Ok(())
+}
+
+/// Returns the first refused program of a font by its certificate, of which nothing is read after
+/// that one's section; none where each is accepted.
+fn first_refused<S: Source>(
+    alloc: Global,
+    font: &Font<'_>,
+    source: &mut S,
+) -> Result<Option<Refused>, CheckFontFault> {
+    let mut session = Session::new(font);
+    for _ in 0..u32::from(font.glyph_count()) + 3 {
+        let Some(outcome) = session.check_next(alloc, source)? else {
+            return Ok(None);
+        };
+        if outcome.refused.is_some() {
+            return Ok(outcome.refused);
+        }
     }
-    Ok(Some(outcome))
+    Ok(None)
+}
+
+/// Returns the first refused program of a font by its certificate, and how many bytes aren't read.
+fn first_of(alloc: Global, file: &[u8], certificate: &[u8]) -> Result<String> {
+    let font = read_font(alloc, file)?;
+    let mut source = Bytes::new(certificate);
+    let first = first_refused(alloc, &font, &mut source);
+    let left = source.ahead().len();
+    match first {
+        Ok(None) => Ok(format!(in alloc; "none, {left} left")?),
+        Ok(Some(refused)) => Ok(format!(in alloc; "{refused}, {left} left")?),
+        Err(fault) => Ok(format!(in alloc; "fault {}, {left} left", CommandFault::from(fault))?),
+    }
+}
+
+/// `first FONT CERT`: the first refused program of a font by its certificate, and how many bytes of
+/// that aren't read.
+pub(crate) fn first(context: &Context<'_>, words: &mut Words<'_>) -> Result<String> {
+    let file = held(context, words.next()?)?;
+    let certificate = held(context, words.next()?)?;
+    first_of(context.rt.alloc(), &file, &certificate)
+}
+
+/// Writes the section of a program, if that was found.
+fn write_found(alloc: Global, name: Name, found: Option<Found>, sink: &mut Sections) -> Result<()> {
+    if let Some(found) = found {
+        encode(alloc, name, &found.certificate, sink)?;
+    }
+    Ok(())
+}
+
+/// Returns what a call answers that finds a program, whose section is written.
+fn told_of_found(alloc: Global, answer: Answer, sink: &mut Sections) -> Result<String> {
+    match answer {
+        Ok(Some((outcome, found))) => {
+            write_found(alloc, outcome.program, found, sink)?;
+            told_of_next(alloc, Some(outcome))
+        }
+        Ok(None) => told_of_next(alloc, None),
+        Err(fault) => told_of_fault(alloc, CommandFault::from(fault)),
+    }
 }
 
 /// `search FONT WANT BUDGET..`: what the calls tell that find the programs one by one, each within a
@@ -106,21 +231,50 @@ fn search_of(alloc: Global, file: &[u8], want: &[u8], words: &mut Words<'_>) -> 
     search_on(alloc, &font, want, words)
 }
 
-/// Returns what the calls that find a font's programs tell, and how their sections compare.
+/// Returns what the calls that find a font's programs tell, and how their sections compare. The
+/// session ends in one place, as in `session_on`.
 fn search_on(alloc: Global, font: &Font<'_>, want: &[u8], words: &mut Words<'_>) -> Result<String> {
-    let mut sink = Counted::new(Vec::new(alloc));
-    write_header(NEWEST_FORM, u32::from(font.glyph_count()) + 2, &mut sink)?;
+    let sections = u32::from(font.glyph_count()) + 2;
     let mut session = Session::new(font);
+    told_by_searches(alloc, &mut session, sections, want, words)
+}
+
+/// Returns what the calls of a session tell that find so many programs, and how the sections
+/// compare.
+fn told_by_searches(
+    alloc: Global,
+    session: &mut Session<'_>,
+    sections: u32,
+    want: &[u8],
+    words: &mut Words<'_>,
+) -> Result<String>
+    requires { IsForFinding session.old }
+{
+    let mut sink = Counted::new(Vec::new(alloc));
+    write_header(NEWEST_FORM, sections, &mut sink)?;
     let mut budget = Budget::unlimited();
     let mut text = String::new(alloc);
-    for word in words.rest(alloc)? {
-        budget = budget_of(word, budget)?;
-        let told = match session.find_next_within(alloc, &mut budget) {
-            Ok(found) => told_of_next(alloc, write_found(alloc, found, &mut sink)?)?,
-            Err(fault) => told_of_fault(alloc, CommandFault::from(fault))?,
-        };
-        write!(text, "{told} ")?;
+    for _ in 0..words.len() {
+        budget = budget_of(words.next()?, budget)?;
+        add_search(alloc, &mut text, session, &mut sink, &mut budget)?;
     }
     text.push_str(likeness(&sink.into_inner(), want))?;
     Ok(text)
+}
+
+/// Adds what the next call tells that finds a program, whose section is written.
+fn add_search(
+    alloc: Global,
+    text: &mut String,
+    session: &mut Session<'_>,
+    sink: &mut Sections,
+    budget: &mut Budget,
+) -> Result<()>
+    requires { IsForFinding session.old }
+    ensures { IsForFinding session.new }
+{
+    let answer = session.find_next_within(alloc, budget);
+    let told = told_of_found(alloc, answer, sink)?;
+    write!(text, "{told} ")?;
+    Ok(())
 }

@@ -1,14 +1,16 @@
 //! Cases that are many: each budget, each length of a file, each byte at each value.
 
-use crate::calls::{call, told_of_check, told_of_font};
+use crate::calls::{AMPLE, Room, call, call_within, told_of_check, told_of_font};
 use crate::commands::run_words;
-use anyhow::Result;
+use anyhow::{Result, anyhow, ensure};
 use hintcheck::Budget;
 use std::alloc::Global;
+use std::fmt::Write;
 use std::fs;
 use tt_cases::context::Context;
 use tt_cases::files::held;
-use tt_cases::words::Words;
+use tt_cases::words::{Words, number_of};
+use tt_test_fixtures::streams::ALL;
 
 /// Whether what is told within a budget of `most` points is what should be, where `points` are
 /// needed for what is told without a bound.
@@ -37,6 +39,119 @@ pub(crate) fn within(context: &Context<'_>, words: &mut Words<'_>) -> Result<Str
         }
     }
     Ok(format!(in alloc; "{points} points, {told}")?)
+}
+
+/// Takes the words of a call's files, up to `then`.
+fn files_of<'a>(alloc: Global, words: &mut Words<'a>) -> Result<Vec<&'a str>> {
+    let mut names = Vec::new(alloc);
+    for _ in 0..words.len() {
+        if words.is_empty() || words.take_word("then") {
+            break;
+        }
+        names.push(words.next()?)?;
+    }
+    Ok(names)
+}
+
+/// Adds what a call within a budget tells, and how much of the budget is left.
+fn show_call(
+    context: &Context<'_>,
+    text: &mut String,
+    words: &mut Words<'_>,
+    room: Room,
+    budget: &mut Budget,
+) -> Result<()> {
+    let kind = words.next()?;
+    let names = files_of(context.rt.alloc(), words)?;
+    let told = call_within(context, kind, &names, room, budget)?;
+    let mark = if budget.is_exceeded() { "!" } else { "" };
+    write!(text, "{told} [{}{mark}] ", budget.made())?;
+    Ok(())
+}
+
+/// `budget MOST CALL FILES then CALL FILES ..`: what calls tell within one budget, one after the
+/// other, each with how many points of it are made then, and `!` where it is exceeded. With
+/// `reads=9`, the call of a reader after 9 others fails, with `writes=9` that of a writer, and what
+/// is written is compared with 9 bytes: a byte is read or written a call.
+pub(crate) fn budgeted(context: &Context<'_>, words: &mut Words<'_>) -> Result<String> {
+    let room = Room {
+        reads: words.number("reads", ALL)?,
+        writes: words.number("writes", ALL)?,
+        ..AMPLE
+    };
+    let mut budget = Budget::of(number_of(words.next()?)?);
+    let mut text = String::new(context.rt.alloc());
+    for _ in 0..words.len() {
+        if words.is_empty() {
+            break;
+        }
+        show_call(context, &mut text, words, room, &mut budget)?;
+    }
+    Ok(text)
+}
+
+/// Returns what a call tells where a call of a writer after so many others fails, and the same where
+/// that takes nothing.
+fn told_of_writes(
+    context: &Context<'_>,
+    kind: &str,
+    names: &[&str],
+    writes: usize,
+) -> Result<String> {
+    let failing = Room { writes, ..AMPLE };
+    let told = call_within(context, kind, names, failing, &mut Budget::unlimited())?;
+    let taking = Room {
+        takes_nothing: true,
+        ..failing
+    };
+    let other = call_within(context, kind, names, taking, &mut Budget::unlimited())?;
+    ensure!(
+        told.as_str() == other.as_str(),
+        "{told}, but {other} where nothing is taken"
+    );
+    Ok(told)
+}
+
+/// Returns what a call tells where a call of a reader, or of a writer, after so many others fails.
+fn told_of_failure(
+    context: &Context<'_>,
+    side: &str,
+    kind: &str,
+    names: &[&str],
+    calls: usize,
+) -> Result<String> {
+    if side != "reads" {
+        return told_of_writes(context, kind, names, calls);
+    }
+    let room = Room {
+        reads: calls,
+        ..AMPLE
+    };
+    call_within(context, kind, names, room, &mut Budget::unlimited())
+}
+
+/// Whether a failed call is told, after a beginning of what is to be written.
+fn is_failure(told: &str) -> bool {
+    match told.strip_prefix("fault 44 read") {
+        Some(likeness) => likeness != ", other bytes",
+        None => told == "fault 45 write, same",
+    }
+}
+
+/// `failing reads CALL FILES`, `failing writes CALL FILES`: how many bytes are read or written, one a
+/// call, before it makes no difference that the next call fails, and what is told then. Up to there
+/// each failed call is told, after a beginning of what is to be written.
+pub(crate) fn failing(context: &Context<'_>, words: &mut Words<'_>) -> Result<String> {
+    let alloc = context.rt.alloc();
+    let (side, kind) = (words.next()?, words.next()?);
+    let names = words.rest(alloc)?;
+    for calls in 0..ALL {
+        let told = told_of_failure(context, side, kind, &names, calls)?;
+        if !is_failure(told.as_str()) {
+            return Ok(format!(in alloc; "{calls} calls, {told}")?);
+        }
+    }
+    Err(anyhow!("too many calls"))
 }
 
 /// Returns what a case on the file `cut` tells while that has `length` bytes, with `N` for this

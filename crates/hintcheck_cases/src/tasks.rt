@@ -35,11 +35,15 @@ pub(crate) fn task(context: &Context<'_>, words: &mut Words<'_>) -> Result<Strin
     task_text(alloc, &texts)
 }
 
-/// `hex WORD`: the bytes that the word spells, or `bad`.
+/// How many bytes are shown at most.
+const MOST_SHOWN: usize = 100;
+
+/// `hex WORD`: the bytes that the word spells, how many they are where they are many, or `bad`.
 pub(crate) fn hex_word(context: &Context<'_>, words: &mut Words<'_>) -> Result<String> {
     let alloc = context.rt.alloc();
     let word = spelled(context, words.next()?)?;
     match word_bytes(alloc, &word) {
+        Ok(bytes) if bytes.len() > MOST_SHOWN => Ok(format!(in alloc; "{} bytes", bytes.len())?),
         Ok(bytes) => Ok(format!(in alloc; "{:?}", bytes.as_slice())?),
         Err(_) => Ok(String::from_str(alloc, "bad")?),
     }

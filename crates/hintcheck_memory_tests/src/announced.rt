@@ -72,7 +72,7 @@ fn announced_numbers(rt: HostRuntime) -> Result<(), Fail> {
     for (announced, parts, end) in SECTIONS {
         let bytes = bytes_of(rt.alloc(), parts)?;
         heap.take_room();
-        let (_, told) = decoded(heap.alloc, steps_of(&bytes, false), 0, Form::Four);
+        let (_, told) = decoded(heap.alloc, steps_of(&bytes), 0, Form::Four);
         heap.give_back();
         assert_eq!(rt; told, Told::Form(*end), "{announced}");
     }

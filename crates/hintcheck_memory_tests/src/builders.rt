@@ -6,7 +6,7 @@ use std::alloc::Global;
 use std::test::Fail;
 use tt_code::Frame;
 use tt_family::{Builder, ContextFault, JoinFault};
-use tt_test_fixtures::families::{CALL, add, join, put, state_of};
+use tt_test_fixtures::families::{CALL, add, join, state_of};
 
 /// A call on a builder.
 #[derive(Clone, Copy, Debug)]
@@ -37,7 +37,8 @@ fn filled(alloc: Global, size: u32) -> Option<Builder> {
             },
         )
         .ok()?;
-        put(alloc, &mut builder, &[(0, 3)], (0, place, &[1, 2])).ok()?;
+        let state = state_of(alloc, &[(0, 3)], &[1, 2]).ok()?;
+        join(&mut builder, 0, place, &state).ok()?;
     }
     Some(builder)
 }

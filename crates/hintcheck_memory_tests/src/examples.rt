@@ -1,14 +1,14 @@
 //! The fonts on which the calls are made, all programs of which are accepted.
 
-use hintcheck_test_fixtures::font_calls::found;
+use hintcheck::find_font;
 use std::alloc::Global;
 use std::test::Fail;
 use tt_cert::Form;
+use tt_stream::Counted;
 use tt_test_fixtures::fonts::{NoFile, TWICE, font_of, font_with, square};
 use tt_test_fixtures::hex_bytes::bytes_of;
 use tt_test_fixtures::programs::{CALLS_WITH_A_NUMBER, POPPING};
 use tt_test_fixtures::section_calls::{Told, decoded};
-use tt_test_fixtures::stored_certificates::FORM_1;
 use tt_test_fixtures::streams::{ALL, steps_of};
 
 /// The programs of such a font.
@@ -78,6 +78,20 @@ pub(crate) const EXAMPLES: &[Programs<'static>] = &[
     COMPOSITE_POINTS,
 ];
 
+/// The certificate of `call-pops` in the first form, with all states: 414 bytes.
+const FORM_1: [&str; 10] = [
+    "4843525400010000000300000000000000000300000000000000000100000000010000000001000000000101",
+    "0101000000010000000000000002000101000000000100000000010000000001000000000101010100000001",
+    "0000000000000005000001000000000100000000010000000001010101000000010001000000000003010000",
+    "0000000000010000000000000000010000000001000000000100000000010101010000000100010000000000",
+    "0302000000010000000000030000000300000001000000010000000500000000000000000100000000010000",
+    "0000010000000001010101000000010001000000000003000000000003000201000000070100000000010000",
+    "0000010000000001000000000101010100000001000100000000000300000000000400000100000000010000",
+    "0000010000000001010101000000010001000000000003000100000003000101000000070100000000010000",
+    "0000010000000001010101000000010001000000000003000100000004000001000000000100000000010000",
+    "000001010101000000010001000000000003",
+];
+
 /// Returns the font file of these programs.
 pub(crate) fn file_of(alloc: Global, programs: &Programs<'_>) -> Result<Vec<u8>, NoFile> {
     if !programs.components.is_empty() {
@@ -91,7 +105,7 @@ pub(crate) fn file_of(alloc: Global, programs: &Programs<'_>) -> Result<Vec<u8>,
 fn last_section(alloc: Global, certificate: &[u8], form: Form) -> Option<usize> {
     let mut place = 10usize;
     for _ in 0..ALL {
-        let steps = steps_of(certificate.get(place..)?, false);
+        let steps = steps_of(certificate.get(place..)?);
         let (_, told) = decoded(alloc, steps, 0, form);
         let Told::Section { after, left } = told else {
             return None;
@@ -117,7 +131,11 @@ pub(crate) struct Files {
 /// Returns the files of these programs.
 pub(crate) fn files_of(alloc: Global, programs: &Programs<'_>) -> Result<Files, Fail> {
     let font = file_of(alloc, programs)?;
-    let (_, certificate) = found(alloc, &font, ALL);
+    let mut sink = Counted::new(Vec::new(alloc));
+    find_font(alloc, &font, &mut sink)
+        .ok()
+        .ok_or("a certificate")?;
+    let certificate = sink.into_inner();
     let last = last_section(alloc, &certificate, Form::Four).ok_or("a last section")?;
     Ok(Files {
         font,

@@ -4,10 +4,10 @@ ghost use Rattle.tt_abs.specs.Entries.{Ascends};
 ghost use Rattle.tt_abs.specs.Settings.{setting_of};
 ghost use Rattle.tt_abs.specs.StateFlow.{FunctionsFit};
 
-use crate::examples::{CALL_POPS, EXAMPLES, Example, example_of, files_of, files_with_all_states};
+use crate::examples::{CALL_POPS, Example, example_of, files_with_all_states};
 use crate::heap::Heap;
 use crate::sections::section_of;
-use crate::trials::{Told, Trial, assert_refused, refusals_of, told_of};
+use crate::trials::{Call, Told, Trial, assert_call_refused, assert_refused, told_of};
 use std::alloc::{AllocError, Global};
 use std::test::Fail;
 use tt_abs::Cell::Known;
@@ -18,24 +18,14 @@ use tt_find::find;
 use tt_test_fixtures::families::state_of;
 use tt_test_fixtures::programs::{LIMITS, cut};
 
-/// A call on the program of the last glyph.
-#[derive(Clone, Copy, Debug)]
-pub(crate) enum ProgramCall {
-    Cut,
-    Copy,
-    Transfer,
-    Check,
-    CheckFull,
-    Find,
-}
-
-const CALLS: [ProgramCall; 6] = [
-    ProgramCall::Cut,
-    ProgramCall::Copy,
-    ProgramCall::Transfer,
-    ProgramCall::Check,
-    ProgramCall::CheckFull,
-    ProgramCall::Find,
+/// The calls on the program of the last glyph.
+const CALLS: [Call; 6] = [
+    Call::Cut,
+    Call::Copy,
+    Call::Transfer,
+    Call::Check,
+    Call::CheckFull,
+    Call::Find,
 ];
 
 fn told_of_cut(heap: &mut Heap, bytes: &[u8]) -> Told {
@@ -150,22 +140,23 @@ fn told_of_search(heap: &mut Heap, setting: &Setting<'_>) -> Told
 }
 
 /// Returns what a call tells in a setting.
-fn told_in(heap: &mut Heap, call: ProgramCall, setting: &Setting<'_>, example: &Example<'_>) -> Told
+fn told_in(heap: &mut Heap, call: Call, setting: &Setting<'_>, example: &Example<'_>) -> Told
     requires ascends { Ascends setting.now.start.now }
     requires fits { FunctionsFit (setting_of setting.now) setting.now.start.now }
 {
     match call {
-        ProgramCall::Cut => told_of_cut(heap, example.programs.glyph),
-        ProgramCall::Copy => told_of_copy(heap),
-        ProgramCall::Transfer => told_of_transfer(heap, setting),
-        ProgramCall::Check => told_of_check(heap, setting, example, false),
-        ProgramCall::CheckFull => told_of_check(heap, setting, example, true),
-        ProgramCall::Find => told_of_search(heap, setting),
+        Call::Cut => told_of_cut(heap, example.programs.glyph),
+        Call::Copy => told_of_copy(heap),
+        Call::Transfer => told_of_transfer(heap, setting),
+        Call::Check => told_of_check(heap, setting, example, false),
+        Call::CheckFull => told_of_check(heap, setting, example, true),
+        Call::Find => told_of_search(heap, setting),
+        _ => Told::Wrong,
     }
 }
 
 /// Returns what a call on the program of the last glyph tells.
-pub(crate) fn told_of_program(heap: &mut Heap, call: ProgramCall, example: &Example<'_>) -> Told {
+pub(crate) fn told_of_program(heap: &mut Heap, call: Call, example: &Example<'_>) -> Told {
     let (points, contours) = example.programs.size;
     let (Some(main), Some(font)) = (
         cut(heap.alloc, example.programs.glyph),
@@ -196,15 +187,7 @@ pub(crate) fn told_of_program(heap: &mut Heap, call: ProgramCall, example: &Exam
 fn calls_on_programs(rt: HostRuntime) -> Result<(), Fail> {
     let mut heap = Heap::new(rt.alloc());
     for call in CALLS {
-        let mut count = 0u32;
-        for programs in EXAMPLES {
-            let files = files_of(rt.alloc(), programs)?;
-            let example = example_of(programs, &files).ok_or(programs.name)?;
-            let name = format!(in rt.alloc(); "{call:?} on {}", programs.name)?;
-            let trial = Trial::Program(call, example);
-            count = count.saturating_add(refusals_of(&rt, &mut heap, &name, &trial));
-        }
-        assert!(rt; count > 0 || !heap.is_used_up(), "{call:?}: no refusal");
+        assert_call_refused(&rt, &mut heap, call)?;
     }
     Ok(())
 }
@@ -214,7 +197,7 @@ fn full_check_that_accepts(rt: HostRuntime) -> Result<(), Fail> {
     let mut heap = Heap::new(rt.alloc());
     let files = files_with_all_states(rt.alloc())?;
     let example = example_of(&CALL_POPS, &files).ok_or("a section")?;
-    let trial = Trial::Program(ProgramCall::CheckFull, example);
+    let trial = Trial::Call(Call::CheckFull, example);
     assert_eq!(rt; told_of(&mut heap, &trial), Told::Answer(0));
     assert_refused(&rt, &mut heap, "full check", &trial);
     Ok(())

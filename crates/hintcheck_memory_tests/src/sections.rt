@@ -1,10 +1,10 @@
 //! Calls on one section of a certificate.
 
-use crate::examples::{EXAMPLES, Example, example_of, files_of};
+use crate::examples::Example;
 use crate::fonts::told_of_written;
 use crate::heap::Heap;
 use crate::matching::Matching;
-use crate::trials::{Told, Trial, refusals_of};
+use crate::trials::{Call, Told, assert_call_refused};
 use std::alloc::Global;
 use std::test::Fail;
 use tt_cert::{EncodeFault, encode};
@@ -12,26 +12,14 @@ use tt_stream::Counted;
 use tt_test_fixtures::section_calls::{Section, Told as Read, decoded};
 use tt_test_fixtures::streams::steps_of;
 
-/// A call on the section of the last glyph.
-#[derive(Clone, Copy, Debug)]
-pub(crate) enum SectionCall {
-    Decode,
-    Encode,
-}
-
 /// Returns the section of an example; nothing where it isn't read, or memory ran out.
 pub(crate) fn section_of(alloc: Global, example: &Example<'_>) -> Option<Section> {
-    decoded(alloc, steps_of(example.section, false), 0, example.form).0
+    decoded(alloc, steps_of(example.section), 0, example.form).0
 }
 
-fn told_of_decoding(heap: &mut Heap, example: &Example<'_>) -> Told {
+pub(crate) fn told_of_decoding(heap: &mut Heap, example: &Example<'_>) -> Told {
     heap.take_room();
-    let (section, told) = decoded(
-        heap.alloc,
-        steps_of(example.section, false),
-        0,
-        example.form,
-    );
+    let (section, told) = decoded(heap.alloc, steps_of(example.section), 0, example.form);
     heap.give_back();
     match (section, told) {
         (Some(section), Read::Section { .. }) => {
@@ -55,34 +43,18 @@ fn encode_over(heap: &mut Heap, section: &Section, want: &[u8]) -> Told {
     told_of_written(told, &sink.into_inner())
 }
 
-fn told_of_encoding(heap: &mut Heap, example: &Example<'_>) -> Told {
+pub(crate) fn told_of_encoding(heap: &mut Heap, example: &Example<'_>) -> Told {
     match section_of(heap.alloc, example) {
         Some(section) => encode_over(heap, &section, example.section),
         None => Told::Wrong,
     }
 }
 
-/// Returns what a call on the section of the last glyph tells.
-pub(crate) fn told_of_section(heap: &mut Heap, call: SectionCall, example: &Example<'_>) -> Told {
-    match call {
-        SectionCall::Decode => told_of_decoding(heap, example),
-        SectionCall::Encode => told_of_encoding(heap, example),
-    }
-}
-
 #[test]
 fn calls_on_sections(rt: HostRuntime) -> Result<(), Fail> {
     let mut heap = Heap::new(rt.alloc());
-    for call in [SectionCall::Decode, SectionCall::Encode] {
-        let mut count = 0u32;
-        for programs in EXAMPLES {
-            let files = files_of(rt.alloc(), programs)?;
-            let example = example_of(programs, &files).ok_or(programs.name)?;
-            let name = format!(in rt.alloc(); "{call:?} on {}", programs.name)?;
-            let trial = Trial::Section(call, example);
-            count = count.saturating_add(refusals_of(&rt, &mut heap, &name, &trial));
-        }
-        assert!(rt; count > 0 || !heap.is_used_up(), "{call:?}: no refusal");
+    for call in [Call::Decode, Call::Encode] {
+        assert_call_refused(&rt, &mut heap, call)?;
     }
     Ok(())
 }

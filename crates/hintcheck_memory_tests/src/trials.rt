@@ -2,13 +2,17 @@
 
 use crate::builders::{Change, told_of_change};
 use crate::commands::{Order, told_of_command};
-use crate::examples::Example;
-use crate::fonts::{FontCall, told_of_font};
+use crate::examples::{EXAMPLES, Example, Programs, example_of, files_of};
+use crate::fonts::{
+    told_of_bare, told_of_font_check, told_of_font_search, told_of_reading, told_of_upgrade,
+    told_of_verdict,
+};
 use crate::heap::Heap;
-use crate::programs::{ProgramCall, told_of_program};
-use crate::sections::{SectionCall, told_of_section};
+use crate::programs::told_of_program;
+use crate::sections::{told_of_decoding, told_of_encoding};
 use std::io::Print;
 use std::process::Abort;
+use std::test::Fail;
 
 /// How many bytes more a call is left from one trial to the next, as the C library's blocks grow.
 const STEP: usize = 16;
@@ -31,23 +35,53 @@ pub(crate) enum Told {
     Wrong,
 }
 
+/// A call on an example: on its font, on the section of its last glyph, or on that one's program.
+#[derive(Clone, Copy, Debug)]
+pub(crate) enum Call {
+    Read,
+    Verdict,
+    CheckFont,
+    FindFont,
+    Upgrade,
+    Bare,
+    Decode,
+    Encode,
+    Cut,
+    Copy,
+    Transfer,
+    Check,
+    CheckFull,
+    Find,
+}
+
 /// A call that is tried.
 #[derive(Clone, Copy)]
 pub(crate) enum Trial<'a> {
-    Font(FontCall, Example<'a>),
-    Program(ProgramCall, Example<'a>),
-    Section(SectionCall, Example<'a>),
+    Call(Call, Example<'a>),
     /// A builder with this many contexts and states is changed.
     Builder(Change, u32),
     Command(&'a HostRuntime, Order<'a>),
 }
 
+/// Returns what a call on an example tells.
+fn told_of_call(heap: &mut Heap, call: Call, example: &Example<'_>) -> Told {
+    match call {
+        Call::Read => told_of_reading(heap, example),
+        Call::Verdict => told_of_verdict(heap, example),
+        Call::CheckFont => told_of_font_check(heap, example),
+        Call::FindFont => told_of_font_search(heap, example),
+        Call::Upgrade => told_of_upgrade(heap, example),
+        Call::Bare => told_of_bare(heap, example),
+        Call::Decode => told_of_decoding(heap, example),
+        Call::Encode => told_of_encoding(heap, example),
+        call => told_of_program(heap, call, example),
+    }
+}
+
 /// Returns what the call of a trial tells.
 pub(crate) fn told_of(heap: &mut Heap, trial: &Trial<'_>) -> Told {
     match trial {
-        Trial::Font(call, example) => told_of_font(heap, *call, example),
-        Trial::Program(call, example) => told_of_program(heap, *call, example),
-        Trial::Section(call, example) => told_of_section(heap, *call, example),
+        Trial::Call(call, example) => told_of_call(heap, *call, example),
         Trial::Builder(change, size) => told_of_change(heap, *change, *size),
         Trial::Command(rt, order) => told_of_command(rt, heap, order),
     }
@@ -157,4 +191,31 @@ pub(crate) fn assert_refused(
 ) {
     let count = refusals_of(rt, heap, name, trial);
     assert!(rt; count > 0 || !heap.is_used_up(), "{name}: no refusal");
+}
+
+/// Returns how often a call on the example of these programs tells that memory ran out.
+fn refusals_on(
+    rt: &(impl Abort + Print),
+    heap: &mut Heap,
+    call: Call,
+    programs: &Programs<'_>,
+) -> Result<u32, Fail> {
+    let files = files_of(heap.alloc, programs)?;
+    let example = example_of(programs, &files).ok_or(programs.name)?;
+    let name = format!(in heap.alloc; "{call:?} on {}", programs.name)?;
+    Ok(refusals_of(rt, heap, &name, &Trial::Call(call, example)))
+}
+
+/// Asserts that a call is refused memory on an example, and tells so, until it is left enough.
+pub(crate) fn assert_call_refused(
+    rt: &(impl Abort + Print),
+    heap: &mut Heap,
+    call: Call,
+) -> Result<(), Fail> {
+    let mut count = 0u32;
+    for programs in EXAMPLES {
+        count = count.saturating_add(refusals_on(rt, heap, call, programs)?);
+    }
+    assert!(rt; count > 0 || !heap.is_used_up(), "{call:?}: no refusal");
+    Ok(())
 }

@@ -16,22 +16,33 @@ pub struct Block<'a> {
     pub lines: Vec<&'a str>,
 }
 
-/// Returns the block that a line begins. Without an answer it may end with a comment after ` #`.
+/// Returns what stands before a comment after ` #`.
+fn before_comment(line: &str) -> &str {
+    match line.split_once(" #") {
+        Some((text, _)) => text.trim_end(),
+        None => line.trim_end(),
+    }
+}
+
+/// Returns the block that a line begins. Without an answer it may end with a comment.
 fn block_of(alloc: Global, number: usize, line: &str) -> Block<'_> {
     let (asked, answer) = match line.split_once("->") {
         Some((asked, answer)) => (asked.trim_end(), Some(answer.trim())),
-        None => (
-            line.split_once(" #")
-                .map_or(line, |parts| parts.0)
-                .trim_end(),
-            None,
-        ),
+        None => (before_comment(line), None),
     };
     Block {
         number,
         asked,
         answer,
         lines: Vec::new(alloc),
+    }
+}
+
+/// Adds a line of an answer to the last block.
+fn add_answer<'a>(blocks: &mut Vec<Block<'a>>, number: usize, line: &'a str) -> Result<()> {
+    match blocks.last_mut() {
+        Some(block) => Ok(block.lines.push(line.trim_end())?),
+        None => Err(anyhow!("{number}: an answer to nothing")),
     }
 }
 
@@ -47,13 +58,9 @@ fn add_line<'a>(
     if first.is_empty() || first.starts_with('#') {
         return Ok(());
     }
-    if !line.starts_with('|') && !line.starts_with('!') {
-        blocks.push(block_of(alloc, number, line))?;
-        return Ok(());
-    }
-    match blocks.last_mut() {
-        Some(block) => Ok(block.lines.push(line.trim_end())?),
-        None => Err(anyhow!("{number}: an answer to nothing")),
+    match line.as_bytes() {
+        [b'|' | b'!', ..] => add_answer(blocks, number, line),
+        _ => Ok(blocks.push(block_of(alloc, number, line))?),
     }
 }
 

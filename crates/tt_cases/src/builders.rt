@@ -3,13 +3,14 @@
 use crate::context::Context;
 use crate::families::add_contexts;
 use crate::places::frame_text;
-use crate::states::{plain_state, state_text, usual};
+use crate::states::{plain_state, plain_text};
 use crate::words::{Words, number_of, pair_of};
 use anyhow::{Context as _, Result, bail, ensure};
 use std::alloc::Global;
+use std::mem;
 use tt_abs::State;
 use tt_family::{Builder, JoinFault};
-use tt_test_fixtures::families::{finished_if, join};
+use tt_test_fixtures::families::join;
 
 /// Joins the next state at its point, and returns what is told.
 fn put(alloc: Global, builder: &mut Builder, words: &mut Words<'_>) -> Result<&'static str> {
@@ -23,26 +24,34 @@ fn put(alloc: Global, builder: &mut Builder, words: &mut Words<'_>) -> Result<&'
     }
 }
 
-/// Takes the next step: `call 0:5>7` adds a context, `put 0:7 STATE` joins a state, `clear` clears
-/// the builder, and `finish` finishes the family and goes on in its memory.
+/// Finishes a builder's family, and goes on in its memory.
+fn finish(alloc: Global, builder: &mut Builder) -> Result<()> {
+    let whole = mem::replace(builder, Builder::new(alloc));
+    let family = whole.finish().ok().context("no memory for the family")?;
+    *builder = family.into_builder();
+    Ok(())
+}
+
+/// Takes the next step: `call 0:5>7` adds a context, unless there are too many, `put 0:7 STATE` joins
+/// a state, `clear` clears the builder, and `finish` finishes the family and goes on in its memory.
 fn step(
     alloc: Global,
-    builder: Builder,
+    builder: &mut Builder,
     words: &mut Words<'_>,
     text: &mut String,
-) -> Result<Builder> {
-    let mut builder = builder;
+) -> Result<()> {
     match words.next()? {
-        "call" => add_contexts(&mut builder, words.next()?)?,
-        "put" => text.push_str(put(alloc, &mut builder, words)?)?,
-        "clear" => builder.clear(),
-        "finish" => {
-            let family = finished_if(true, builder).context("no memory for the family")?;
-            return Ok(family.into_builder());
+        "call" => {
+            if !add_contexts(builder, words.next()?)? {
+                text.push_str(" 39")?;
+            }
         }
+        "put" => text.push_str(put(alloc, builder, words)?)?,
+        "clear" => builder.clear(),
+        "finish" => finish(alloc, builder)?,
         word => bail!("no step of a builder is called {word}"),
     }
-    Ok(builder)
+    Ok(())
 }
 
 /// Adds a state and its point. It is looked for at the point, and not beyond the last context.
@@ -61,25 +70,12 @@ fn show_state(
         builder.state(builder.contexts(), offset).is_none(),
         "a state beyond the contexts"
     );
-    write!(
-        text,
-        " {context}:{offset} {}",
-        state_text(alloc, state, &usual(alloc)?)?
-    )?;
+    write!(text, " {context}:{offset} {}", plain_text(alloc, state)?)?;
     Ok(())
 }
 
-/// `builder STEPS`: what each put tells, and then the contexts and the states that are held.
-pub(crate) fn builder(context: &Context<'_>, words: &mut Words<'_>) -> Result<String> {
-    let alloc = context.rt.alloc();
-    let mut text = String::from_str(alloc, "puts")?;
-    let mut builder = Builder::new(alloc);
-    for _ in 0..words.len() {
-        if words.is_empty() {
-            break;
-        }
-        builder = step(alloc, builder, words, &mut text)?;
-    }
+/// Adds the contexts and the states that a builder holds.
+fn show_builder(alloc: Global, text: &mut String, builder: &Builder) -> Result<()> {
     text.push_str(" contexts")?;
     for number in 1..builder.contexts() {
         if let Some((parent, frame)) = builder.context(number) {
@@ -90,8 +86,28 @@ pub(crate) fn builder(context: &Context<'_>, words: &mut Words<'_>) -> Result<St
     let mut states = builder.states();
     for _ in 0..builder.points() {
         if let Some((context, offset, state)) = states.take_first() {
-            show_state(alloc, &mut text, &builder, (context, offset), state)?;
+            show_state(alloc, text, builder, (context, offset), state)?;
         }
     }
+    Ok(())
+}
+
+/// Makes the steps that the words say, and returns what they tell and what the builder holds then.
+fn told_by_steps(alloc: Global, builder: &mut Builder, words: &mut Words<'_>) -> Result<String> {
+    let mut text = String::from_str(alloc, "puts")?;
+    for _ in 0..words.len() {
+        if words.is_empty() {
+            break;
+        }
+        step(alloc, builder, words, &mut text)?;
+    }
+    show_builder(alloc, &mut text, builder)?;
     Ok(text)
+}
+
+/// `builder STEPS`: what each put tells, and then the contexts and the states that are held.
+pub(crate) fn builder(context: &Context<'_>, words: &mut Words<'_>) -> Result<String> {
+    let alloc = context.rt.alloc();
+    let mut builder = Builder::new(alloc);
+    told_by_steps(alloc, &mut builder, words)
 }

@@ -10,13 +10,13 @@ use crate::places::{calls_of, frame_text, refusal_text};
 use crate::programs::cut;
 use crate::states::change_all;
 use crate::words::{Words, body_of, number_of, pair_of};
-use anyhow::{Context as _, Result, ensure};
+use anyhow::{Context as _, Result, bail, ensure};
 use std::alloc::Global;
 use tt_abs::{Kind, Refusal, Setting, State};
 use tt_code::Frame;
-use tt_family::{Builder, Certificate, check, check_full};
-use tt_find::{explore, find};
-use tt_test_fixtures::families::{add, finished_if, join};
+use tt_family::{Builder, Certificate, ContextFault, check, check_full};
+use tt_find::{Explored, Found, explore, find};
+use tt_test_fixtures::families::{add, join};
 
 /// The most contexts that a word may say.
 const MOST: u32 = 65_535;
@@ -24,15 +24,20 @@ const MOST: u32 = 65_535;
 /// How many points are listed before they are only counted.
 const MOST_LISTED: u32 = 20;
 
-/// Adds the contexts of a word: `0:3>7` below context 0.
-pub(crate) fn add_contexts(builder: &mut Builder, word: &str) -> Result<()> {
+/// Adds the contexts of a word: `0:3>7` below context 0. Whether there may be so many.
+pub(crate) fn add_contexts(builder: &mut Builder, word: &str) -> Result<bool> {
     let (parent, calls) = pair_of(word, ':')?;
+    let parent = number_of(parent)?;
+    ensure!(parent < builder.contexts(), "no such context");
     let (first, last) = calls_of(calls)?;
     for turn in first.turn..=last.min(MOST) {
-        let is_added = add(builder, number_of(parent)?, Frame { turn, ..first }).is_ok();
-        ensure!(is_added, "a context that can't be added");
+        match add(builder, parent, Frame { turn, ..first }) {
+            Ok(_) => {}
+            Err(ContextFault::TooManyContexts) => return Ok(false),
+            Err(ContextFault::OutOfMemory) => bail!("no memory for a context"),
+        }
     }
-    Ok(())
+    Ok(true)
 }
 
 /// Joins the next state, which begins with these functions, at its point, `1:3`; or in each of the
@@ -47,11 +52,11 @@ fn put_state(
 {
     let (contexts, offset) = pair_of(words.next()?, ':')?;
     let (first, last) = contexts.split_once('-').unwrap_or((contexts, contexts));
+    let (first, last): (u32, u32) = (number_of(first)?, number_of(last)?);
+    let offset = number_of(offset)?;
     let mut state = State::start(alloc, start)?;
     change_all(&mut state, words, alloc)?;
-    let offset = number_of(offset)?;
-    let last: u32 = number_of(last)?;
-    for context in number_of(first)?..=last.min(MOST) {
+    for context in first..=last.min(MOST) {
         ensure!(
             join(builder, context, offset, &state).is_ok(),
             "a state that can't be joined"
@@ -67,14 +72,17 @@ fn family_of(alloc: Global, words: &mut Words<'_>, start: &[(u16, u32)]) -> Resu
     let mut builder = Builder::new(alloc);
     for _ in 0..MOST {
         if words.take_word("call") {
-            add_contexts(&mut builder, words.next()?)?;
+            ensure!(
+                add_contexts(&mut builder, words.next()?)?,
+                "too many contexts"
+            );
         } else if words.is_empty() {
             break;
         } else {
             put_state(alloc, &mut builder, words, start)?;
         }
     }
-    finished_if(true, builder).context("no memory for the family")
+    builder.finish().ok().context("no memory for the family")
 }
 
 /// Adds the points of the states that a family lists; where there are many, how many.
@@ -99,17 +107,12 @@ fn check_text(alloc: Global, told: Result<(), Refusal>) -> Result<String> {
     }
 }
 
-/// Returns how large the least family is, and which of its states are listed.
-fn find_text(alloc: Global, setting: &Setting<'_>) -> Result<String>
-    requires ascends { Ascends setting.now.start.now }
-    requires fits { FunctionsFit (setting_of setting.now) setting.now.start.now }
+/// Returns how large a family is that was found, and which of its states are listed; also why it
+/// isn't good, if it isn't.
+fn found_text(alloc: Global, setting: &Setting<'_>, found: &Found, points: u32) -> Result<String>
+    requires { Ascends setting.now.start.now }
 {
-    let found = match find(alloc, setting) {
-        Ok(found) => found,
-        Err(refusal) => return refusal_text(alloc, &refusal),
-    };
     let family = &found.certificate;
-    let points = explore(alloc, setting)?.found.certificate.points();
     let mut text = format!(in alloc; "contexts {} points {points}", family.contexts())?;
     write!(text, " updates {} listed", found.updates)?;
     show_points(&mut text, family)?;
@@ -119,18 +122,35 @@ fn find_text(alloc: Global, setting: &Setting<'_>) -> Result<String>
     Ok(text)
 }
 
-/// Returns which states a search lists, and why it has ended, where the program is refused.
+/// Returns how large the least family is, and which of its states are listed.
+fn find_text(alloc: Global, setting: &Setting<'_>) -> Result<String>
+    requires ascends { Ascends setting.now.start.now }
+    requires fits { FunctionsFit (setting_of setting.now) setting.now.start.now }
+{
+    let points = explore(alloc, setting)?.found.certificate.points();
+    match find(alloc, setting) {
+        Ok(found) => found_text(alloc, setting, &found, points),
+        Err(refusal) => refusal_text(alloc, &refusal),
+    }
+}
+
+/// Returns which states a search has listed, and why it has ended, where the program is refused.
+fn explored_text(alloc: Global, explored: &Explored) -> Result<String> {
+    let mut text = String::from_str(alloc, "listed")?;
+    show_points(&mut text, &explored.found.certificate)?;
+    if let Some(refusal) = &explored.fault {
+        write!(text, ", {}", refusal_text(alloc, refusal)?)?;
+    }
+    Ok(text)
+}
+
+/// Returns which states a search lists, and why it ends, where the program is refused.
 fn explore_text(alloc: Global, setting: &Setting<'_>) -> Result<String>
     requires ascends { Ascends setting.now.start.now }
     requires fits { FunctionsFit (setting_of setting.now) setting.now.start.now }
 {
     let explored = explore(alloc, setting)?;
-    let mut text = String::from_str(alloc, "listed")?;
-    show_points(&mut text, &explored.found.certificate)?;
-    if let Some(refusal) = explored.fault {
-        write!(text, ", {}", refusal_text(alloc, &refusal)?)?;
-    }
-    Ok(text)
+    explored_text(alloc, &explored)
 }
 
 /// Returns what is told of a program in a setting.
@@ -212,10 +232,33 @@ pub(crate) fn told_of(context: &Context<'_>, kind: &str, words: &mut Words<'_>) 
     told_from(alloc, &setting, words, kind)
 }
 
-/// `family FAMILY`: the contexts and the points of a finished family, in its order.
-pub(crate) fn family(context: &Context<'_>, words: &mut Words<'_>) -> Result<String> {
-    let alloc = context.rt.alloc();
-    let family = family_of(alloc, words, &[])?;
+/// Adds the calls that are open in a context of a family, the outermost first.
+fn show_frames(alloc: Global, text: &mut String, family: &Certificate, number: u32) -> Result<()> {
+    ensure!(number < family.contexts(), "no such context");
+    text.push_str(" calls")?;
+    let frames = family.frames(alloc, number)?;
+    for frame in &frames {
+        write!(text, " {}", frame_text(alloc, frame)?)?;
+    }
+    Ok(())
+}
+
+/// Adds the functions that a family knows where the program ends, if it has a state there.
+fn show_end(text: &mut String, family: &Certificate, end: u32) -> Result<()> {
+    match family.end_functions(end) {
+        Some(functions) => write!(text, " {} functions at the end", functions.len())?,
+        None => text.push_str(" no end")?,
+    }
+    Ok(())
+}
+
+/// Returns the contexts and the points of a family, and what else is asked for.
+fn family_text(
+    alloc: Global,
+    family: &Certificate,
+    calls: Option<&str>,
+    end: Option<&str>,
+) -> Result<String> {
     let mut text = String::from_str(alloc, "contexts")?;
     for number in 1..family.contexts() {
         if let Some((parent, frame)) = family.context(number) {
@@ -223,6 +266,21 @@ pub(crate) fn family(context: &Context<'_>, words: &mut Words<'_>) -> Result<Str
         }
     }
     text.push_str(" points")?;
-    show_points(&mut text, &family)?;
+    show_points(&mut text, family)?;
+    if let Some(number) = calls {
+        show_frames(alloc, &mut text, family, number_of(number)?)?;
+    }
+    if let Some(end) = end {
+        show_end(&mut text, family, number_of(end)?)?;
+    }
     Ok(text)
+}
+
+/// `family FAMILY`: the contexts and the points of a finished family, in its order; with `calls=3`
+/// the calls of context 3, with `end=9` how many functions are known where a program of 9 bytes ends.
+pub(crate) fn family(context: &Context<'_>, words: &mut Words<'_>) -> Result<String> {
+    let alloc = context.rt.alloc();
+    let (calls, end) = (words.take("calls"), words.take("end"));
+    let family = family_of(alloc, words, &[])?;
+    family_text(alloc, &family, calls, end)
 }

@@ -5,8 +5,7 @@ use crate::words::{Words, bytes_of, number_of, pair_of};
 use anyhow::{Result, anyhow, ensure};
 use std::alloc::{AllocError, Global};
 use std::fs;
-use tt_test_fixtures::composites::many_times;
-use tt_test_fixtures::fonts::{Glyphs, file_of, square};
+use tt_test_fixtures::fonts::{Glyphs, MADE, file_of, square};
 
 /// Returns a `maxp` table with the context's limits, for this many glyphs.
 pub fn maxp(context: &Context<'_>, glyphs: u16) -> Result<Vec<u8>, AllocError> {
@@ -20,6 +19,17 @@ pub fn maxp(context: &Context<'_>, glyphs: u16) -> Result<Vec<u8>, AllocError> {
         table.extend_from_slice(&field.to_be_bytes())?;
     }
     Ok(table)
+}
+
+/// Returns a composite glyph that has a glyph this many times as a component.
+fn many_times(alloc: Global, id: u16, times: u16) -> Result<Vec<u8>, AllocError> {
+    let [high, low] = id.to_be_bytes();
+    let mut glyph = MADE.to_vec(alloc)?;
+    for i in 0..times {
+        let flags = if i + 1 < times { 0x20 } else { 0 };
+        glyph.extend_from_slice(&[0, flags, high, low, 0, 0])?;
+    }
+    Ok(glyph)
 }
 
 /// Returns the glyph that a word tells: `g=` one of 4 points with this program, `glyph=` one with

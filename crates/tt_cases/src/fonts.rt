@@ -41,10 +41,18 @@ fn show_glyphs(alloc: Global, text: &mut String, font: &Font<'_>) -> Result<()> 
     Ok(())
 }
 
+/// How often components of a font are read at most: those of sixteen glyphs with a thousand each,
+/// made one of another, at most as often as there are glyphs.
+const MOST_READS: u64 = 17 * 16_000;
+
 /// Returns what a font has.
 fn font_text(alloc: Global, font: &Font<'_>) -> Result<String> {
     let mut text = String::new(alloc);
     show_limits(&mut text, &font.limits())?;
+    ensure!(
+        font.component_reads() <= MOST_READS,
+        "too many reads of components"
+    );
     let has_components = font.component_reads() > 0;
     write!(
         text,

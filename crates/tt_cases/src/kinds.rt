@@ -23,6 +23,8 @@ pub fn answer(context: &Context<'_>, kind: &str, words: &mut Words<'_>) -> Resul
         "family" => families::family(context, words),
         "section" | "whole" | "header" | "end" => sections::told(context, kind, words),
         "cuts" => sections::cuts(context, words),
+        "calls" => sections::calls(context, words),
+        "ahead" => sections::ahead(context, words),
         "content" => sections::content(context, words),
         "written" => sections::written(context, words),
         "head" => sections::head(context, words),

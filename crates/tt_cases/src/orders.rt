@@ -1,18 +1,20 @@
 //! Cases of states: what their calls tell, how they compare, and what a join makes of them.
 
+ghost use Rattle.std.specs.Prelude.{IfOk};
 ghost use Rattle.tt_abs.specs.States.{state_order};
 
 use crate::context::Context;
-use crate::states::{state_of, state_text, usual};
+use crate::states::{plain_text, state_of};
 use crate::words::Words;
 use anyhow::{Result, ensure};
+use std::alloc::Global;
 use tt_abs::{Order, State};
 
 /// `state STATE`: what the state tells.
 pub(crate) fn state(context: &Context<'_>, words: &mut Words<'_>) -> Result<String> {
     let alloc = context.rt.alloc();
     let state = state_of(alloc, words)?;
-    state_text(alloc, &state, &usual(alloc)?)
+    plain_text(alloc, &state)
 }
 
 /// Returns how one state compares with another.
@@ -26,18 +28,30 @@ fn relation(one: &State, other: &State) -> &'static str {
     }
 }
 
+/// Returns how one state compares with another, and whether the functions are the same.
+fn order_text(alloc: Global, one: &State, other: &State) -> Result<String> {
+    let relation = relation(one, other);
+    if one.has_same_functions(other) {
+        return Ok(String::from_str(alloc, relation)?);
+    }
+    Ok(format!(in alloc; "{relation}, other functions")?)
+}
+
+/// Returns the state that the words say after `|`.
+fn other_of(alloc: Global, words: &mut Words<'_>) -> Result<State>
+    ensures { IfOk result (λ state. state_order.InRange state) }
+{
+    ensure!(words.take_word("|"), "| is missing");
+    state_of(alloc, words)
+}
+
 /// `order STATE | STATE`: how the one compares with the other, and whether the functions are the
 /// same.
 pub(crate) fn order(context: &Context<'_>, words: &mut Words<'_>) -> Result<String> {
     let alloc = context.rt.alloc();
     let one = state_of(alloc, words)?;
-    ensure!(words.take_word("|"), "| is missing");
-    let other = state_of(alloc, words)?;
-    let relation = relation(&one, &other);
-    if one.has_same_functions(&other) {
-        return Ok(String::from_str(alloc, relation)?);
-    }
-    Ok(format!(in alloc; "{relation}, other functions")?)
+    let other = other_of(alloc, words)?;
+    order_text(alloc, &one, &other)
 }
 
 /// Joins a state with another twice, and returns what is told.
@@ -55,16 +69,24 @@ fn joined(one: &mut State, other: &State) -> &'static str
     }
 }
 
+/// Joins a state with another, and returns how they compared, what is told, how they compare
+/// afterwards, and the state.
+fn join_text(alloc: Global, one: &mut State, other: &State) -> Result<String>
+    requires one { state_order.InRange one.old }
+    requires other { state_order.InRange other.now }
+{
+    let before = relation(one, other);
+    let told = joined(one, other);
+    let after = relation(one, other);
+    let state = plain_text(alloc, one)?;
+    Ok(format!(in alloc; "{before}, {told}, {after} {state}")?)
+}
+
 /// `join STATE | STATE`: how the one compared with the other, what the join tells, how it compares
 /// afterwards, and the state.
 pub(crate) fn join(context: &Context<'_>, words: &mut Words<'_>) -> Result<String> {
     let alloc = context.rt.alloc();
     let mut one = state_of(alloc, words)?;
-    ensure!(words.take_word("|"), "| is missing");
-    let other = state_of(alloc, words)?;
-    let before = relation(&one, &other);
-    let told = joined(&mut one, &other);
-    let after = relation(&one, &other);
-    let state = state_text(alloc, &one, &usual(alloc)?)?;
-    Ok(format!(in alloc; "{before}, {told}, {after} {state}")?)
+    let other = other_of(alloc, words)?;
+    join_text(alloc, &mut one, &other)
 }

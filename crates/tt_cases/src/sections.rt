@@ -4,15 +4,16 @@
 use crate::context::Context;
 use crate::files::pieces_of;
 use crate::places::frame_text;
-use crate::states::{state_text, usual};
+use crate::states::plain_text;
 use crate::words::{Words, number_of};
-use anyhow::{Context as _, Result, bail, ensure};
+use anyhow::{Context as _, Result, anyhow, bail, ensure};
 use std::alloc::Global;
 use tt_cert::Form;
 use tt_test_fixtures::section_calls::{
-    Section, Told, decoded, encoded, told_of_end, told_of_file_by, told_of_header, written_header,
+    Section, Told, decoded, encoded, read_ahead, told_of_end, told_of_file_by, told_of_header,
+    written_header,
 };
-use tt_test_fixtures::streams::{ALL, Steps, Taker};
+use tt_test_fixtures::streams::{ALL, Steps, Taker, steps_of};
 
 /// What is read from bytes.
 #[derive(Clone, Copy)]
@@ -60,9 +61,27 @@ fn told_by(alloc: Global, reading: Reading, steps: Steps<'_>, start: u64) -> Res
 /// How many bytes a call gives, and where a section begins.
 const WAYS: [(usize, u64); 6] = [(1000, 0), (1000, 1000), (1, 0), (2, 7), (3, 0), (5, 0)];
 
+/// Returns what reading a section ahead tells: the same however many bytes a call gives.
+fn told_ahead(alloc: Global, form: Form, bytes: &[u8], steps: &[usize]) -> Result<String> {
+    let mut told = String::new(alloc);
+    for &step in steps {
+        let steps = Steps {
+            bytes,
+            step,
+            calls: ALL,
+        };
+        let next = told_text(alloc, &read_ahead(alloc, steps, form), 0)?;
+        if !told.is_empty() && told.as_str() != next.as_str() {
+            return Ok(format!(in alloc; "{told}, but {next} by {step}")?);
+        }
+        told = next;
+    }
+    Ok(told)
+}
+
 /// Returns what reading bytes tells: the same however many a call gives, and wherever a section
 /// begins.
-fn told_alike(alloc: Global, reading: Reading, bytes: &[u8], calls: usize) -> Result<String> {
+fn told_in_steps(alloc: Global, reading: Reading, bytes: &[u8], calls: usize) -> Result<String> {
     let mut told = String::new(alloc);
     for (step, start) in WAYS {
         let next = told_by(alloc, reading, Steps { bytes, step, calls }, start)?;
@@ -72,6 +91,22 @@ fn told_alike(alloc: Global, reading: Reading, bytes: &[u8], calls: usize) -> Re
         told = next;
     }
     Ok(told)
+}
+
+/// Returns what reading bytes tells: where no call fails, a section tells the same ahead.
+fn told_alike(alloc: Global, reading: Reading, bytes: &[u8], calls: usize) -> Result<String> {
+    let told = told_in_steps(alloc, reading, bytes, calls)?;
+    let Reading::Section(form) = reading else {
+        return Ok(told);
+    };
+    if calls < ALL {
+        return Ok(told);
+    }
+    let ahead = told_ahead(alloc, form, bytes, &[1, 7, 1000])?;
+    if told.as_str() == ahead.as_str() {
+        return Ok(told);
+    }
+    Ok(format!(in alloc; "{told}, but ahead {ahead}")?)
 }
 
 /// Returns the form that the words give, if they do.
@@ -121,18 +156,84 @@ fn bytes_said(context: &Context<'_>, words: &mut Words<'_>) -> Result<Vec<u8>> {
 }
 
 /// `section BYTES`, `whole BYTES`, `header BYTES`, `end PLACE BYTES`: what reading tells, where the
-/// call after `calls=0` others fails.
+/// call after `calls=0` others fails; with `from=9` that of a section which begins there alone.
 pub(crate) fn told(context: &Context<'_>, kind: &str, words: &mut Words<'_>) -> Result<String> {
     let alloc = context.rt.alloc();
     let calls = words.number("calls", ALL)?;
+    let start = words.take("from");
     let [reading, other] = readings_of(kind, words)?;
     let bytes = bytes_said(context, words)?;
+    if let Some(start) = start {
+        let steps = Steps {
+            bytes: &bytes,
+            step: ALL,
+            calls,
+        };
+        return told_by(alloc, other, steps, number_of(start)?);
+    }
     let told = told_alike(alloc, reading, &bytes, calls)?;
     let told_otherwise = told_alike(alloc, other, &bytes, calls)?;
     if told.as_str() == told_otherwise.as_str() {
         return Ok(told);
     }
     Ok(format!(in alloc; "{told} in form 3, {told_otherwise} in form 4")?)
+}
+
+/// What is told of a failed read.
+const FAILED: &str = "44";
+
+/// Returns what reading a byte a call tells, where the call after so many others fails; ahead too,
+/// if a section is read, where that is a failed read.
+fn told_of_calls(alloc: Global, reading: Reading, bytes: &[u8], calls: usize) -> Result<String> {
+    let told = told_by(
+        alloc,
+        reading,
+        Steps {
+            bytes,
+            step: 1,
+            calls,
+        },
+        0,
+    )?;
+    if let (FAILED, Reading::Section(form)) = (told.as_str(), reading) {
+        let ahead = read_ahead(
+            alloc,
+            Steps {
+                bytes,
+                step: 1,
+                calls,
+            },
+            form,
+        );
+        return told_text(alloc, &ahead, 0);
+    }
+    Ok(told)
+}
+
+/// `calls section BYTES` and the like: how many bytes are read, one a call, before another failed
+/// call makes no difference, and what they tell then. Each one before tells a failed read.
+pub(crate) fn calls(context: &Context<'_>, words: &mut Words<'_>) -> Result<String> {
+    let alloc = context.rt.alloc();
+    let [_, reading] = readings_of(words.next()?, words)?;
+    let bytes = bytes_said(context, words)?;
+    for calls in 0..ALL {
+        let told = told_of_calls(alloc, reading, &bytes, calls)?;
+        if told.as_str() != FAILED {
+            return Ok(format!(in alloc; "{calls} calls, {told}")?);
+        }
+    }
+    Err(anyhow!("too many calls"))
+}
+
+/// `ahead BYTES`: what reading a section ahead tells, up to as many bytes a call as there are.
+pub(crate) fn ahead(context: &Context<'_>, words: &mut Words<'_>) -> Result<String> {
+    let bytes = bytes_said(context, words)?;
+    told_ahead(
+        context.rt.alloc(),
+        Form::Four,
+        &bytes,
+        &[1000, 262_144, ALL],
+    )
 }
 
 /// `cuts section BYTES` and the like: whether each beginning of the bytes tells that it is cut
@@ -157,12 +258,7 @@ pub(crate) fn cuts(context: &Context<'_>, words: &mut Words<'_>) -> Result<Strin
 fn section_of(context: &Context<'_>, words: &mut Words<'_>, start: u64) -> Result<(Section, Told)> {
     let form = form_of(words)?.unwrap_or(Form::Four);
     let bytes = bytes_said(context, words)?;
-    let steps = Steps {
-        bytes: &bytes,
-        step: ALL,
-        calls: ALL,
-    };
-    let (section, told) = decoded(context.rt.alloc(), steps, start, form);
+    let (section, told) = decoded(context.rt.alloc(), steps_of(&bytes), start, form);
     Ok((section.context("no section")?, told))
 }
 
@@ -174,12 +270,10 @@ fn show_content(alloc: Global, text: &mut String, section: &Section) -> Result<(
             write!(text, "\n| call {parent}:{}", frame_text(alloc, &frame)?)?;
         }
     }
-    let before = usual(alloc)?;
     let mut states = family.states();
     for _ in 0..family.points() {
         if let Some((context, offset, state)) = states.take_first() {
-            let state = state_text(alloc, state, &before)?;
-            write!(text, "\n| {context}:{offset} {state}")?;
+            write!(text, "\n| {context}:{offset} {}", plain_text(alloc, state)?)?;
         }
     }
     Ok(())
@@ -195,7 +289,28 @@ pub(crate) fn content(context: &Context<'_>, words: &mut Words<'_>) -> Result<St
     Ok(text)
 }
 
-/// `written BYTES as BYTES`: whether the section is written as these bytes.
+/// Whether a writer that takes a byte a call, and of which a call fails or takes nothing, is told of
+/// and has taken a beginning of the bytes, as long as it should be.
+fn is_told_of_failure((told, taken): &(Told, Vec<u8>), beginning: &[u8]) -> bool {
+    *told == Told::Write && taken.as_slice() == beginning
+}
+
+/// Returns how many calls of a writer are made before one fails, untold, where a section is written
+/// as these bytes; nothing where each is told.
+fn untold_call(alloc: Global, section: &Section, want: &[u8]) -> Option<usize> {
+    for calls in 0..want.len() {
+        for takes_nothing in [false, true] {
+            let taker = Taker::failing(alloc, calls, takes_nothing);
+            if !is_told_of_failure(&encoded(alloc, section, taker), &want[..calls]) {
+                return Some(calls);
+            }
+        }
+    }
+    None
+}
+
+/// `written BYTES as BYTES`: whether the section is written as these bytes, and each failed call of
+/// the writer is told.
 pub(crate) fn written(context: &Context<'_>, words: &mut Words<'_>) -> Result<String> {
     let alloc = context.rt.alloc();
     let (section, _) = section_of(context, words, 0)?;
@@ -207,14 +322,27 @@ pub(crate) fn written(context: &Context<'_>, words: &mut Words<'_>) -> Result<St
             return Ok(format!(in alloc; "other bytes by {step}")?);
         }
     }
-    Ok(String::from_str(alloc, "same")?)
+    match untold_call(alloc, &section, &want) {
+        Some(calls) => Ok(format!(in alloc; "another answer after {calls}")?),
+        None => Ok(String::from_str(alloc, "same")?),
+    }
 }
 
-/// `head SECTIONS`: the header that is written.
+/// `head SECTIONS`: the header that is written. Each failed call of the writer is told.
 pub(crate) fn head(context: &Context<'_>, words: &mut Words<'_>) -> Result<String> {
     let alloc = context.rt.alloc();
     let sections = number_of(words.next()?)?;
     let (told, bytes) = written_header(sections, Taker::new(alloc, 4, ALL));
     ensure!(told == Told::Done, "no header is written");
+    for calls in 0..bytes.len() {
+        for takes_nothing in [false, true] {
+            let taker = Taker::failing(alloc, calls, takes_nothing);
+            let written = written_header(sections, taker);
+            ensure!(
+                is_told_of_failure(&written, &bytes[..calls]),
+                "another answer after {calls}"
+            );
+        }
+    }
     Ok(hex::encode_upper(alloc, &bytes)?)
 }

@@ -178,7 +178,7 @@ fn zone_text(zone: ZoneCell) -> &'static str {
 }
 
 /// Returns the state with which every program starts, each part of which is set here.
-pub(crate) fn usual(alloc: Global) -> Result<State> {
+fn usual(alloc: Global) -> Result<State> {
     let mut state = State::start(alloc, &[])?;
     for number in 0..3 {
         state.set_rp(number, Known(0));
@@ -254,6 +254,12 @@ fn show_storage(text: &mut String, state: &State, before: &State) -> Result<()> 
         }
     }
     Ok(())
+}
+
+/// Returns a state's stack, and what else isn't as where a program starts.
+pub(crate) fn plain_text(alloc: Global, state: &State) -> Result<String> {
+    let before = usual(alloc)?;
+    state_text(alloc, state, &before)
 }
 
 /// Returns a state's stack, and what else isn't as it was before.

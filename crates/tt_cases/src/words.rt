@@ -68,19 +68,39 @@ fn repeated(word: &str) -> Result<(&str, usize)> {
     Ok((part, times))
 }
 
+/// Adds as many numbers of 16 bits, from 0 up, as a word says, each followed by the bytes of these
+/// digits.
+fn push_numbered(bytes: &mut Vec<u8>, alloc: Global, digits: &str, times: &str) -> Result<()> {
+    let part = hex::decode(alloc, digits)?;
+    for number in 0..number_of::<u16>(times)? {
+        bytes.extend_from_slice(&number.to_be_bytes())?;
+        bytes.extend_from_slice(&part)?;
+    }
+    Ok(())
+}
+
+/// Adds the bytes of a part, as often as it says.
+fn push_part(bytes: &mut Vec<u8>, alloc: Global, part: &str) -> Result<()> {
+    if let Some((digits, times)) = part.split_once('^') {
+        return push_numbered(bytes, alloc, digits, times);
+    }
+    let (digits, times) = repeated(part)?;
+    let part = hex::decode(alloc, digits)?;
+    for _ in 0..times {
+        bytes.extend_from_slice(&part)?;
+    }
+    Ok(())
+}
+
 /// Returns the bytes of hexadecimal digits; of `B000.2060*16` those of `B000`, and 16 times `2060`;
-/// of `""` none.
+/// of `07^3` three numbers from 0 up, with a 7 after each: `000007000107000207`; of `""` none.
 pub fn bytes_of(alloc: Global, word: &str) -> Result<Vec<u8>> {
     let mut bytes = Vec::new(alloc);
     if word == "\"\"" {
         return Ok(bytes);
     }
     for part in word.split('.') {
-        let (digits, times) = repeated(part)?;
-        let part = hex::decode(alloc, digits)?;
-        for _ in 0..times {
-            bytes.extend_from_slice(&part)?;
-        }
+        push_part(&mut bytes, alloc, part)?;
     }
     Ok(bytes)
 }

@@ -29,21 +29,3 @@ pub fn bytes_of(alloc: Global, parts: &[&str]) -> Result<Vec<u8>, AllocError> {
     }
     Ok(bytes)
 }
-
-/// Returns the bytes of parts of which one is another text.
-///
-/// # Errors
-/// If memory runs out.
-pub fn bytes_but(
-    alloc: Global,
-    parts: &[&str],
-    changed: usize,
-    text: &str,
-) -> Result<Vec<u8>, AllocError> {
-    let mut bytes = Vec::new(alloc);
-    for (number, part) in parts.iter().enumerate() {
-        let digits = if number == changed { text } else { *part };
-        push_digits(&mut bytes, digits)?;
-    }
-    Ok(bytes)
-}

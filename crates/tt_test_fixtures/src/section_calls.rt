@@ -1,14 +1,14 @@
 //! What the calls of `tt_cert` tell of readers and writers that pass little at a time, or
 //! fail.
 
-use crate::streams::{ALL, Steps, Taker};
+use crate::streams::{Steps, Taker};
 use std::alloc::Global;
 use tt_cert::{
     DecodeFault, EncodeFault, Form, NEWEST_FORM, Name, decode, encode, read_end, read_header,
     write_header,
 };
 use tt_family::Certificate;
-use tt_stream::Counted;
+use tt_stream::{Buffered, Counted, read_all};
 
 /// What is known of the graphics state where a program starts: the reference points are 0, the
 /// zones 1, the loop number 1. 23 bytes.
@@ -73,24 +73,22 @@ pub fn decoded(alloc: Global, steps: Steps<'_>, start: u64, form: Form) -> (Opti
     }
 }
 
-/// Returns what reading a section in steps of this many bytes tells.
-pub fn told_in_steps(alloc: Global, bytes: &[u8], step: usize, start: u64, form: Form) -> Told {
-    let steps = Steps {
-        bytes,
-        step,
-        calls: ALL,
+/// Returns what reading a section tells where the bytes are read ahead.
+pub fn read_ahead(alloc: Global, steps: Steps<'_>, form: Form) -> Told {
+    let counted = Counted::new(steps);
+    let Ok(mut source) = Buffered::new(alloc, counted) else {
+        return Told::OutOfMemory;
     };
-    decoded(alloc, steps, start, form).1
-}
-
-/// Returns what reading a section byte by byte tells, where a call fails after this many.
-pub fn told_of_calls(alloc: Global, bytes: &[u8], calls: usize, form: Form) -> Told {
-    let steps = Steps {
-        bytes,
-        step: 1,
-        calls,
-    };
-    decoded(alloc, steps, 0, form).1
+    match decode(alloc, &mut source, 0, form.number()) {
+        Ok((_, _, after)) => match read_all(alloc, &mut source) {
+            Ok(rest) => Told::Section {
+                after,
+                left: rest.len(),
+            },
+            Err(_) => Told::Read,
+        },
+        Err(fault) => told_by_decode_fault(fault),
+    }
 }
 
 /// Returns what reading a header tells.

@@ -51,6 +51,15 @@ impl Taker {
             takes_nothing: false,
         }
     }
+
+    /// Makes the writer that takes a byte a call, of which the one after `calls` others fails, or
+    /// takes nothing.
+    pub fn failing(alloc: Global, calls: usize, takes_nothing: bool) -> Taker {
+        Taker {
+            takes_nothing,
+            ..Taker::new(alloc, 1, calls)
+        }
+    }
 }
 
 impl Write for Taker {
@@ -73,41 +82,8 @@ impl Write for Taker {
     }
 }
 
-/// Takes one byte a call, as long as there is room, and then fails.
-#[derive(Drop)]
-pub struct Narrow {
-    pub bytes: Vec<u8>,
-    pub room: usize,
-}
-
-impl Write for Narrow {
-    fn write(&mut self, buf: &[u8]) -> io::Result<usize> {
-        if self.bytes.len() >= self.room {
-            return Err(io::Error::from(ErrorKind::StorageFull));
-        }
-        match buf.first() {
-            Some(byte) => {
-                self.bytes.push(*byte)?;
-                Ok(1)
-            }
-            None => Ok(0),
-        }
-    }
-
-    fn flush(&mut self) -> io::Result<()> {
-        Ok(())
-    }
-}
-
-/// Returns these bytes, after which a read fails where it should.
-pub fn steps_of(bytes: &[u8], fails: bool) -> Steps<'_> {
-    if fails {
-        return Steps {
-            bytes,
-            step: 1,
-            calls: bytes.len(),
-        };
-    }
+/// Returns these bytes, all of which a call may give.
+pub fn steps_of(bytes: &[u8]) -> Steps<'_> {
     Steps {
         bytes,
         step: ALL,

@@ -3,18 +3,8 @@
 #![tactic(auto)]
 
 #[cfg(test)]
-mod abs;
-#[cfg(test)]
-mod cert;
-#[cfg(test)]
-mod cert_file;
-#[cfg(test)]
 mod code;
 #[cfg(test)]
 mod find;
-#[cfg(test)]
-mod font;
-#[cfg(test)]
-mod hex_words;
 #[cfg(test)]
 mod stream;

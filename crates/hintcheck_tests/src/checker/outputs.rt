@@ -3,7 +3,7 @@
 use hintcheck::command;
 use std::rt::Files;
 use tt_stream::Counted;
-use tt_test_fixtures::streams::Narrow;
+use tt_test_fixtures::streams::Taker;
 
 /// More bytes than are printed.
 pub(crate) const ROOM: usize = 10_000;
@@ -16,14 +16,8 @@ pub(crate) fn printed<R: Files + AllocGlobal>(
     out_room: usize,
     err_room: usize,
 ) -> (u8, Vec<u8>, Vec<u8>) {
-    let mut out = Counted::new(Narrow {
-        bytes: Vec::new(rt.alloc()),
-        room: out_room,
-    });
-    let mut err = Counted::new(Narrow {
-        bytes: Vec::new(rt.alloc()),
-        room: err_room,
-    });
+    let mut out = Counted::new(Taker::new(rt.alloc(), 1, out_room));
+    let mut err = Counted::new(Taker::new(rt.alloc(), 1, err_room));
     let status = command(rt, words, &mut out, &mut err);
     (status, out.into_inner().bytes, err.into_inner().bytes)
 }

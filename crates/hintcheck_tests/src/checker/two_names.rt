@@ -3,9 +3,20 @@
 use crate::checker::outputs::{ROOM, printed};
 use std::fs;
 use std::test::Fail;
+use tt_test_fixtures::fonts::{font_of, square};
 use tt_test_fixtures::hex_bytes::bytes_of;
 use tt_test_fixtures::paths::path_of;
-use tt_test_fixtures::stored_certificates::{FONT, FORM_2};
+
+/// A certificate of the second form.
+const FORM_2: [&str; 7] = [
+    "4843525400020000000300000000000000000200000000000000000100000000010000000001000000000101",
+    "0101000000010000000000000005000001000000000100000000010000000001010101000000010001000000",
+    "0000030100000000000000010000000000000000010000000001000000000100000000010101010000000100",
+    "0100000000000302000000010000000000030000000300000001000000010000000300000000000000000100",
+    "0000000100000000010000000001010101000000010001000000000003000000000004000001000000000100",
+    "0000000100000000010101010000000100010000000000030001000000030001010000000701000000000100",
+    "000000010000000001010101000000010001000000000003",
+];
 
 /// Whether the command tells that the second file is the first one, by this line, and leaves the
 /// first as it is.
@@ -26,7 +37,8 @@ fn is_kept(
 fn one_font_by_two_names(rt: HostRuntime) -> Result<(), Fail> {
     let font = path_of(&rt, "twice.ttf").ok_or("a path")?;
     let link = path_of(&rt, "link.ttf").ok_or("a path")?;
-    let bytes = bytes_of(rt.alloc(), &FONT)?;
+    let glyph = square(rt.alloc(), &[])?;
+    let bytes = font_of(rt.alloc(), &[], &[], &[&glyph])?;
     fs::write(&rt, font.as_str(), &bytes)?;
     fs::hard_link(&rt, font.as_str(), link.as_str())?;
     let line = "fault: words: CERT\n";

@@ -1,14 +1,14 @@
 //! Readers and writers that take or give little at a time, or fail.
 
 use std::alloc::Global;
-use std::io::{ErrorKind, Write};
+use std::fmt;
+use std::io::Write;
 use std::test::Fail;
-use std::{fmt, io};
 use tt_stream::{
     Buffered, Bytes, Counted, PrintFailed, ReadFailed, Sink, Source, WriteFailed, read_all,
     write_all,
 };
-use tt_test_fixtures::streams::Narrow;
+use tt_test_fixtures::streams::{ALL, Steps, Taker};
 
 /// A text of some letters, written one at a time.
 #[derive(Drop)]
@@ -40,26 +40,9 @@ fn reads_and_writes(rt: HostRuntime) {
     assert_eq!(rt; sink.into_inner().as_slice(), b"abc\0".as_slice());
 }
 
-/// All bytes of a reader that gives no more than `step` at a time and fails at the end where it is
-/// told to.
-#[derive(Drop)]
-struct Steps<'a> {
-    bytes: &'a [u8],
-    step: usize,
-    fails: bool,
-}
-
-impl io::Read for Steps<'_> {
-    fn read(&mut self, buf: &mut [u8]) -> io::Result<usize> {
-        if self.bytes.is_empty() && self.fails {
-            return Err(io::Error::from(ErrorKind::UnexpectedEof));
-        }
-        let count = self.step.min(self.bytes.len()).min(buf.len());
-        let (front, rest) = self.bytes.split_at(count);
-        buf[..count].copy_from_slice(front);
-        self.bytes = rest;
-        Ok(count)
-    }
+/// Returns a reader of these bytes that gives no more than `step` a call, and fails after `calls`.
+fn steps(bytes: &[u8], step: usize, calls: usize) -> Steps<'_> {
+    Steps { bytes, step, calls }
 }
 
 fn read_steps(alloc: Global, steps: Steps<'_>) -> Option<Vec<u8>> {
@@ -71,20 +54,10 @@ fn read_steps(alloc: Global, steps: Steps<'_>) -> Option<Vec<u8>> {
 fn reads_all(rt: HostRuntime) -> Result<(), Fail> {
     let bytes = b"ab".repeat(rt.alloc(), 40_000)?;
     for step in [1, 32_767, 32_768, 100_000] {
-        let steps = Steps {
-            bytes: &bytes,
-            step,
-            fails: false,
-        };
-        let all = read_steps(rt.alloc(), steps).ok_or("all bytes")?;
+        let all = read_steps(rt.alloc(), steps(&bytes, step, ALL)).ok_or("all bytes")?;
         assert!(rt; all.as_slice() == bytes.as_slice(), "by {step}");
     }
-    let steps = Steps {
-        bytes: &bytes,
-        step: 100,
-        fails: true,
-    };
-    assert!(rt; read_steps(rt.alloc(), steps).is_none());
+    assert!(rt; read_steps(rt.alloc(), steps(&bytes, 100, 800)).is_none());
     Ok(())
 }
 
@@ -98,19 +71,12 @@ fn read_steps_ahead(alloc: Global, steps: Steps<'_>) -> Option<Vec<u8>> {
 #[test]
 fn reads_all_ahead(rt: HostRuntime) -> Result<(), Fail> {
     let bytes = b"ab".repeat(rt.alloc(), 160_000)?;
-    for step in [1, 262_143, 262_144, 400_000] {
-        for fails in [false, true] {
-            let steps = Steps {
-                bytes: &bytes,
-                step,
-                fails,
-            };
-            let all = read_steps_ahead(rt.alloc(), steps);
-            match all {
-                Some(all) => assert!(rt; !fails && all.as_slice() == bytes.as_slice(), "by {step}"),
-                None => assert!(rt; fails, "by {step}"),
-            }
-        }
+    // A step, and after how many calls all bytes are read, as many at a time as are read ahead.
+    for (step, calls) in [(1, 320_000), (262_143, 2), (262_144, 2), (400_000, 2)] {
+        let all = read_steps_ahead(rt.alloc(), steps(&bytes, step, ALL)).ok_or("all bytes")?;
+        assert!(rt; all.as_slice() == bytes.as_slice(), "by {step}");
+        let failed = read_steps_ahead(rt.alloc(), steps(&bytes, step, calls));
+        assert!(rt; failed.is_none(), "by {step}");
     }
     Ok(())
 }
@@ -137,12 +103,8 @@ fn look_ahead(alloc: Global, steps: Steps<'_>, skipped: usize) -> Option<(Vec<u8
 fn skips_what_is_ahead(rt: HostRuntime) -> Result<(), Fail> {
     // Where all that is ahead is skipped, the next byte is that of the next call.
     for (skipped, next) in [(0, b'b'), (2, b'd'), (3, b'e')] {
-        let steps = Steps {
-            bytes: b"abcdefgh",
-            step: 4,
-            fails: false,
-        };
-        let (ahead, byte) = look_ahead(rt.alloc(), steps, skipped).ok_or("a byte")?;
+        let letters = steps(b"abcdefgh", 4, ALL);
+        let (ahead, byte) = look_ahead(rt.alloc(), letters, skipped).ok_or("a byte")?;
         assert_eq!(rt; ahead.as_slice(), b"bcd".as_slice());
         assert_eq!(rt; byte, next, "after {skipped}");
     }
@@ -237,13 +199,9 @@ fn prints_texts_longer_than_a_window(rt: HostRuntime) -> Result<(), Fail> {
 #[test]
 fn stops_at_the_first_failure(rt: HostRuntime) -> Result<(), Fail> {
     for room in [0, 1, 256, 299, 300] {
-        let narrow = Narrow {
-            bytes: Vec::new(rt.alloc()),
-            room,
-        };
-        let (result, narrow) = write_letters(narrow, 300);
+        let (result, taker) = write_letters(Taker::new(rt.alloc(), 1, room), 300);
         assert_eq!(rt; result.is_ok(), room == 300, "room for {room}");
-        assert_eq!(rt; narrow.bytes.len(), room);
+        assert_eq!(rt; taker.bytes.len(), room);
     }
     Ok(())
 }

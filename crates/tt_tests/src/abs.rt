@@ -1,3 +1,0 @@
-//! Tests of `tt_abs`: lists of entries.
-
-mod sorted_map;

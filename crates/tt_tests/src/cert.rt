@@ -1,4 +1,0 @@
-//! Tests of `tt_family`: builders, and finished families.
-
-mod builders;
-mod certificates;
