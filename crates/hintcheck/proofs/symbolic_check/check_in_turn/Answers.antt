@@ -10,7 +10,7 @@ returns c = on_ok_weaker c.check_glyph.result (λ run. record {
   second = c.in_ok-second.second;
   starts = c.in_ok-starts.starts;
   font_ended = c.in_ok-first.ensures;
-  cvt_ended = subst (λ (fs : List (ℕ × ℕ)). IsEnded (setting_of c.args.cvt.now) fs c.in_ok-second.second) c.as_slice.ensures.value c.in_ok-second.ensures;
+  cvt_ended = subst (λ (fs : List (ℕ × ℕ)). IsEnded (setting_of c.args.cvt.now) fs c.in_ok-second.second) c.as_slice-functions.ensures.value c.in_ok-second.ensures;
   begun = c.in_ok-starts.ensures;
   runnable = run;
 }) c.check_glyph.ensures

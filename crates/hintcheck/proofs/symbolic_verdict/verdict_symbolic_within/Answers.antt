@@ -2,7 +2,7 @@ use Rattle.std.proofs.Common.{◌≡◌, ◌+◌, ◌∙◌, length, subst, sym}
 use Rattle.hintcheck.specs.FontPrograms.{judgement_on}
 use Rattle.hintcheck.specs.SymbolicVerdicts.{IsSymbolicVerdict}
 use Rattle.hintcheck.specs.Verdicts.{Judgement}
-use Rattle.hintcheck.proofs.symbolic_verdict.verdict_symbolic.Goals as goal
+use Rattle.hintcheck.proofs.symbolic_verdict.verdict_symbolic_within.Goals as goal
 
 pub returns-clause-exact : goal.returns-clause-exact
 returns-clause-exact c =
