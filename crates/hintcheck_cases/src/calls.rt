@@ -3,7 +3,7 @@
 use crate::sessions::refused_in_session;
 use anyhow::{Result, anyhow, ensure};
 use hintcheck::{
-    Budget, CommandFault, Refused, UpgradeFault, Verdict, bare, check_font_within,
+    Budget, CheckFontFault, CommandFault, Refused, UpgradeFault, Verdict, bare, check_font_within,
     find_font_within, read_font, upgrade, verdict, verdict_symbolic, verdict_within,
 };
 use std::alloc::Global;
@@ -206,18 +206,27 @@ fn told_of_upgrade(alloc: Global, old: &[u8], want: &[u8], room: Room) -> Result
     Ok(format!(in alloc; "{told}, {likeness}")?)
 }
 
-/// Returns what a session of a font tells, all of whose programs but one at most are accepted, as
-/// the check tells it.
-fn told_of_session(alloc: Global, file: &[u8], certificate: Steps<'_>) -> Result<String> {
-    let font = read_font(alloc, file)?;
-    let programs = u32::from(font.glyph_count()) + 2;
-    match refused_in_session(alloc, &font, certificate) {
+/// Returns what a session of so many programs tells, of which one at most is refused.
+fn told_of_programs(
+    alloc: Global,
+    programs: u32,
+    answer: Result<Option<Refused>, CheckFontFault>,
+) -> Result<String> {
+    match answer {
         Ok(None) => Ok(format!(in alloc; "{programs} good")?),
         Ok(Some(refused)) => {
             Ok(format!(in alloc; "{programs}: {}", refused_text(alloc, &refused)?)?)
         }
         Err(fault) => told_of_fault(alloc, CommandFault::from(fault)),
     }
+}
+
+/// Returns what a session of a font tells, as its check tells it.
+fn told_of_session(alloc: Global, file: &[u8], certificate: Steps<'_>) -> Result<String> {
+    let font = read_font(alloc, file)?;
+    let programs = u32::from(font.glyph_count()) + 2;
+    let answer = refused_in_session(alloc, &font, certificate);
+    told_of_programs(alloc, programs, answer)
 }
 
 /// Calls the library with files: `verdict FONT`, `check_font FONT CERT`, `find_font FONT WANT` and
@@ -231,6 +240,25 @@ pub(crate) fn call(
     call_within(context, kind, names, AMPLE, budget)
 }
 
+/// Calls the library with what a file holds, and another one if there are two.
+fn call_on(
+    alloc: Global,
+    kind: &str,
+    first: &[u8],
+    other: Option<&[u8]>,
+    room: Room,
+    budget: &mut Budget,
+) -> Result<String> {
+    match (kind, other) {
+        ("verdict", None) => told_of_font(alloc, first, budget),
+        ("check_font", Some(other)) => told_of_reading(alloc, first, other, room, budget),
+        ("session", Some(other)) => told_of_session(alloc, first, room.reader(other)),
+        ("find_font", Some(other)) => told_of_search(alloc, first, other, room, budget),
+        ("upgrade", Some(other)) => told_of_upgrade(alloc, first, other, room),
+        _ => Err(anyhow!("no call {kind} of these files")),
+    }
+}
+
 /// Calls the library with files, where a reader and a writer have so much room.
 pub(crate) fn call_within(
     context: &Context<'_>,
@@ -240,20 +268,13 @@ pub(crate) fn call_within(
     budget: &mut Budget,
 ) -> Result<String> {
     let alloc = context.rt.alloc();
-    let Some((first, others)) = names.split_first() else {
-        return Err(anyhow!("no file for {kind}"));
-    };
-    let first = held(context, first)?;
-    let other = match others {
-        [other] => held(context, other)?,
-        _ => Vec::new(alloc),
-    };
-    match (kind, others.len()) {
-        ("verdict", 0) => told_of_font(alloc, &first, budget),
-        ("check_font", 1) => told_of_reading(alloc, &first, &other, room, budget),
-        ("session", 1) => told_of_session(alloc, &first, room.reader(&other)),
-        ("find_font", 1) => told_of_search(alloc, &first, &other, room, budget),
-        ("upgrade", 1) => told_of_upgrade(alloc, &first, &other, room),
-        _ => Err(anyhow!("no call {kind} of these files")),
+    match names {
+        [first] => call_on(alloc, kind, &held(context, first)?, None, room, budget),
+        [first, other] => {
+            let first = held(context, first)?;
+            let other = held(context, other)?;
+            call_on(alloc, kind, &first, Some(&other), room, budget)
+        }
+        _ => Err(anyhow!("no call {kind} of so many files")),
     }
 }

@@ -108,8 +108,8 @@ fn session_of(
     session_on(alloc, &font, certificate, words)
 }
 
-/// Returns what the calls on a font and its certificate tell. The session ends in one place, since
-/// each place where it did would have to be proved.
+/// Returns what the calls on a font and its certificate tell. The session is owned here, where
+/// nothing else can fail: each place where it may be dropped has a long proof.
 fn session_on(
     alloc: Global,
     font: &Font<'_>,
@@ -176,17 +176,25 @@ fn first_refused<S: Source>(
     Ok(None)
 }
 
-/// Returns the first refused program of a font by its certificate, and how many bytes aren't read.
-fn first_of(alloc: Global, file: &[u8], certificate: &[u8]) -> Result<String> {
-    let font = read_font(alloc, file)?;
-    let mut source = Bytes::new(certificate);
-    let first = first_refused(alloc, &font, &mut source);
-    let left = source.ahead().len();
+/// Returns what is told of the first refused program, and how many bytes are left.
+fn told_of_first(
+    alloc: Global,
+    first: Result<Option<Refused>, CheckFontFault>,
+    left: usize,
+) -> Result<String> {
     match first {
         Ok(None) => Ok(format!(in alloc; "none, {left} left")?),
         Ok(Some(refused)) => Ok(format!(in alloc; "{refused}, {left} left")?),
         Err(fault) => Ok(format!(in alloc; "fault {}, {left} left", CommandFault::from(fault))?),
     }
+}
+
+/// Returns the first refused program of a font by its certificate, and how many bytes aren't read.
+fn first_of(alloc: Global, file: &[u8], certificate: &[u8]) -> Result<String> {
+    let font = read_font(alloc, file)?;
+    let mut source = Bytes::new(certificate);
+    let first = first_refused(alloc, &font, &mut source);
+    told_of_first(alloc, first, source.ahead().len())
 }
 
 /// `first FONT CERT`: the first refused program of a font by its certificate, and how many bytes of
@@ -232,7 +240,7 @@ fn search_of(alloc: Global, file: &[u8], want: &[u8], words: &mut Words<'_>) -> 
 }
 
 /// Returns what the calls that find a font's programs tell, and how their sections compare. The
-/// session ends in one place, as in `session_on`.
+/// session is owned here, as in `session_on`.
 fn search_on(alloc: Global, font: &Font<'_>, want: &[u8], words: &mut Words<'_>) -> Result<String> {
     let sections = u32::from(font.glyph_count()) + 2;
     let mut session = Session::new(font);
