@@ -34,8 +34,8 @@ fn answer_of_hintcheck(context: &Context<'_>, kind: &str, words: &mut Words<'_>)
 
 /// Returns the answer to a case of this kind.
 pub(crate) fn answer(context: &Context<'_>, kind: &str, words: &mut Words<'_>) -> Result<String> {
-    match kinds::answer(context, kind, words)? {
-        Some(answer) => Ok(answer),
+    match kinds::answer(context, kind, words) {
+        Some(answer) => answer,
         None => answer_of_hintcheck(context, kind, words),
     }
 }

@@ -12,16 +12,22 @@ use tt_abs::State;
 use tt_family::{Builder, JoinFault};
 use tt_test_fixtures::families::join;
 
-/// Joins the next state at its point, and returns what is told.
-fn put(alloc: Global, builder: &mut Builder, words: &mut Words<'_>) -> Result<&'static str> {
-    let (context, offset) = pair_of(words.next()?, ':')?;
-    let state = plain_state(alloc, words)?;
-    match join(builder, number_of(context)?, number_of(offset)?, &state) {
+/// Returns what a join tells.
+fn told_of_join(joined: Result<bool, JoinFault>) -> Result<&'static str> {
+    match joined {
         Ok(true) => Ok(" changed"),
         Ok(false) => Ok(" same"),
         Err(JoinFault::DepthMismatch) => Ok(" 38"),
         Err(_) => bail!("a state that can't be joined"),
     }
+}
+
+/// Joins the next state at its point, and returns what is told.
+fn put(alloc: Global, builder: &mut Builder, words: &mut Words<'_>) -> Result<&'static str> {
+    let (context, offset) = pair_of(words.next()?, ':')?;
+    let (context, offset) = (number_of(context)?, number_of(offset)?);
+    let state = plain_state(alloc, words)?;
+    told_of_join(join(builder, context, offset, &state))
 }
 
 /// Finishes a builder's family, and goes on in its memory.

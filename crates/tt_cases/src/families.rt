@@ -4,6 +4,7 @@ ghost use Rattle.std.specs.Prelude.{◌≡◌, []};
 ghost use Rattle.tt_abs.specs.Entries.{Ascends};
 ghost use Rattle.tt_abs.specs.Settings.{setting_of};
 ghost use Rattle.tt_abs.specs.StateFlow.{FunctionsFit};
+ghost use Rattle.tt_abs.specs.States.{state_order};
 
 use crate::context::Context;
 use crate::places::{calls_of, frame_text, refusal_text};
@@ -40,6 +41,18 @@ pub(crate) fn add_contexts(builder: &mut Builder, word: &str) -> Result<bool> {
     Ok(true)
 }
 
+/// Joins a state at an offset of each of these contexts; whether it can be joined.
+fn join_each(builder: &mut Builder, first: u32, last: u32, offset: u32, state: &State) -> bool
+    requires { state_order.InRange state.now }
+{
+    for context in first..=last.min(MOST) {
+        if join(builder, context, offset, state).is_err() {
+            return false;
+        }
+    }
+    true
+}
+
 /// Joins the next state, which begins with these functions, at its point, `1:3`; or in each of the
 /// contexts of `1-9:3`.
 fn put_state(
@@ -52,16 +65,11 @@ fn put_state(
 {
     let (contexts, offset) = pair_of(words.next()?, ':')?;
     let (first, last) = contexts.split_once('-').unwrap_or((contexts, contexts));
-    let (first, last): (u32, u32) = (number_of(first)?, number_of(last)?);
-    let offset = number_of(offset)?;
+    let (first, last, offset) = (number_of(first)?, number_of(last)?, number_of(offset)?);
     let mut state = State::start(alloc, start)?;
     change_all(&mut state, words, alloc)?;
-    for context in first..=last.min(MOST) {
-        ensure!(
-            join(builder, context, offset, &state).is_ok(),
-            "a state that can't be joined"
-        );
-    }
+    let is_joined = join_each(builder, first, last, offset, &state);
+    ensure!(is_joined, "a state that can't be joined");
     Ok(())
 }
 

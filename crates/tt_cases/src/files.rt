@@ -125,6 +125,18 @@ pub(crate) fn pieces_of(context: &Context<'_>, words: &mut Words<'_>) -> Result<
     Ok(bytes)
 }
 
+/// Returns the bytes of a file that a line of this kind makes.
+fn bytes_of_file(context: &Context<'_>, kind: &str, words: &mut Words<'_>) -> Result<Vec<u8>> {
+    match kind {
+        "font" => font_of(context, words),
+        "tables" => file_of_tables(context, words),
+        _ => {
+            ensure!(words.take_word("="), "= is missing");
+            pieces_of(context, words)
+        }
+    }
+}
+
 /// Takes a line that makes a file; whether it is one.
 pub(crate) fn make_file(context: &Context<'_>, words: &mut Words<'_>) -> Result<bool> {
     let Some(kind @ ("font" | "tables" | "file")) = words.first() else {
@@ -132,14 +144,7 @@ pub(crate) fn make_file(context: &Context<'_>, words: &mut Words<'_>) -> Result<
     };
     words.next()?;
     let name = words.next()?;
-    let bytes = match kind {
-        "font" => font_of(context, words)?,
-        "tables" => file_of_tables(context, words)?,
-        _ => {
-            ensure!(words.take_word("="), "= is missing");
-            pieces_of(context, words)?
-        }
-    };
+    let bytes = bytes_of_file(context, kind, words)?;
     fs::write(context.rt, name, &bytes)?;
     Ok(true)
 }

@@ -7,20 +7,14 @@ use crate::{
 };
 use anyhow::Result;
 
-/// Returns the answer to a case of this kind; none where it is no kind of these.
-pub fn answer(context: &Context<'_>, kind: &str, words: &mut Words<'_>) -> Result<Option<String>> {
-    let answer = match kind {
-        "state" => orders::state(context, words),
-        "order" => orders::order(context, words),
-        "join" => orders::join(context, words),
-        "stack" => stacks::stack(context, words),
-        "share" => stacks::share(context, words),
-        "cut" => programs::cut_text(context, words),
-        "at" => programs::at(context, words),
-        "step" => steps::step(context, words),
-        "full" | "sparse" | "find" | "explore" => families::told_of(context, kind, words),
-        "builder" => builders::builder(context, words),
-        "family" => families::family(context, words),
+/// Returns the answer to a case on certificates, font files or other files; none where it is no kind
+/// of these.
+fn answer_on_files(
+    context: &Context<'_>,
+    kind: &str,
+    words: &mut Words<'_>,
+) -> Option<Result<String>> {
+    Some(match kind {
         "section" | "whole" | "header" | "end" => sections::told(context, kind, words),
         "cuts" => sections::cuts(context, words),
         "calls" => sections::calls(context, words),
@@ -32,10 +26,40 @@ pub fn answer(context: &Context<'_>, kind: &str, words: &mut Words<'_>) -> Resul
         "limits_of" => fonts::limits_of(context, words),
         "compare" => files::compare(context, words),
         "size" => files::size(context, words),
+        _ => return None,
+    })
+}
+
+/// Returns the answer to a case on programs and what is known in them; none where it is no kind of
+/// these.
+fn answer_on_programs(
+    context: &Context<'_>,
+    kind: &str,
+    words: &mut Words<'_>,
+) -> Option<Result<String>> {
+    Some(match kind {
+        "state" => orders::state(context, words),
+        "order" => orders::order(context, words),
+        "join" => orders::join(context, words),
+        "stack" => stacks::stack(context, words),
+        "share" => stacks::share(context, words),
+        "cut" => programs::cut_text(context, words),
+        "at" => programs::at(context, words),
+        "step" => steps::step(context, words),
+        "full" | "sparse" | "find" | "explore" => families::told_of(context, kind, words),
+        "builder" => builders::builder(context, words),
+        "family" => families::family(context, words),
         "symbolic" => symbolic::symbolic(context, words),
         "turns" => symbolic::turns(context, words),
         "kept" => symbolic::kept(context, words),
-        _ => return Ok(None),
-    };
-    Ok(Some(answer?))
+        _ => return None,
+    })
+}
+
+/// Returns the answer to a case of this kind; none where it is no kind of these.
+pub fn answer(context: &Context<'_>, kind: &str, words: &mut Words<'_>) -> Option<Result<String>> {
+    match answer_on_files(context, kind, words) {
+        Some(answer) => Some(answer),
+        None => answer_on_programs(context, kind, words),
+    }
 }

@@ -3,7 +3,7 @@
 use crate::context::Context;
 use crate::states::Shown;
 use crate::words::{Words, bytes_of, number_of};
-use anyhow::{Result, bail, ensure};
+use anyhow::{Context as _, Result, bail, ensure};
 use std::alloc::Global;
 use tt_abs::Stack;
 
@@ -43,29 +43,28 @@ fn stack_of(alloc: Global, words: &mut Words<'_>) -> Result<Stack> {
     Ok(stack)
 }
 
+/// Returns the cells of a stack, counted from below and from above.
+fn stack_text(alloc: Global, stack: &Stack) -> Result<String> {
+    let depth = stack.len();
+    let mut text = String::from_str(alloc, "[")?;
+    for place in 0..depth {
+        let cell = stack.above(place).context("a cell is missing")?;
+        let others = depth.saturating_sub(place).saturating_sub(1);
+        ensure!(stack.under(others) == Some(cell), "another cell");
+        let divider = if place > 0 { " " } else { "" };
+        write!(text, "{divider}{}", Shown(cell))?;
+    }
+    let is_end = stack.above(depth).is_none() && stack.under(depth).is_none();
+    ensure!(is_end, "a cell too many");
+    text.push(']')?;
+    Ok(text)
+}
+
 /// `stack CHANGES`: the cells that an empty stack has then, counted from below and from above.
 pub(crate) fn stack(context: &Context<'_>, words: &mut Words<'_>) -> Result<String> {
     let alloc = context.rt.alloc();
     let stack = stack_of(alloc, words)?;
-    let depth = stack.len();
-    let mut text = String::from_str(alloc, "[")?;
-    for place in 0..depth {
-        let (Some(cell), divider) = (stack.above(place), if place > 0 { " " } else { "" }) else {
-            bail!("no cell at {place}");
-        };
-        write!(text, "{divider}{}", Shown(cell))?;
-        let others = depth.saturating_sub(place).saturating_sub(1);
-        ensure!(
-            stack.under(others) == Some(cell),
-            "another cell under {others}"
-        );
-    }
-    ensure!(
-        stack.above(depth).is_none() && stack.under(depth).is_none(),
-        "a cell too many"
-    );
-    text.push(']')?;
-    Ok(text)
+    stack_text(alloc, &stack)
 }
 
 /// `share COUNT CHANGES | CHANGES`: whether two stacks have that many cells at the bottom, and the

@@ -33,6 +33,18 @@ fn successor_text(alloc: Global, next: &Successor, before: &State) -> Result<Str
     Ok(format!(in alloc; "{way} {state}")?)
 }
 
+/// Returns where two successors lead.
+fn both_texts(
+    alloc: Global,
+    next: &Successor,
+    other: &Successor,
+    before: &State,
+) -> Result<String> {
+    let one = successor_text(alloc, next, before)?;
+    let other = successor_text(alloc, other, before)?;
+    Ok(format!(in alloc; "{one} or {other}")?)
+}
+
 /// Returns what an instruction tells at a point, if one starts there.
 fn told(alloc: Global, setting: &Setting<'_>, point: &Point<'_>, state: &State) -> Result<String>
     requires in_range { state_order.InRange state.now }
@@ -41,11 +53,7 @@ fn told(alloc: Global, setting: &Setting<'_>, point: &Point<'_>, state: &State) 
     ensure!(setting.starts(point, point.offset), "no instruction there");
     match transfer(setting, point, state) {
         Ok(Successors::One(next)) => successor_text(alloc, &next, state),
-        Ok(Successors::Two(next, other)) => {
-            let one = successor_text(alloc, &next, state)?;
-            let other = successor_text(alloc, &other, state)?;
-            Ok(format!(in alloc; "{one} or {other}")?)
-        }
+        Ok(Successors::Two(next, other)) => both_texts(alloc, &next, &other, state),
         Err(refusal) => refusal_text(alloc, &refusal),
     }
 }
