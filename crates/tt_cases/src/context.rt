@@ -6,16 +6,7 @@ use anyhow::Result;
 use std::alloc::AllocError;
 use tt_abs::Kind;
 use tt_code::Limits;
-
-/// The limits where no line says others: those of the small fonts.
-const LIMITS: Limits = Limits {
-    storage: 4,
-    functions: 2,
-    stack: 8,
-    program_size: 64,
-    zones: 2,
-    twilight: 4,
-};
+use tt_test_fixtures::programs::LIMITS;
 
 /// What a file's lines have said so far.
 #[derive(Drop)]
@@ -57,7 +48,7 @@ impl<'a> Context<'a> {
         }
     }
 
-    /// Takes the limits that words give, and the usual ones for the others.
+    /// Takes the limits that words give, and those of the small fonts for the others.
     fn set_limits(&mut self, words: &mut Words<'a>) -> Result<()> {
         self.limits = Limits {
             storage: words.number("storage", LIMITS.storage)?,
