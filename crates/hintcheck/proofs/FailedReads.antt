@@ -6,7 +6,6 @@ use Rattle.std.specs.Io.KnownBytes.{Consumes, Keeps}
 use Rattle.std.proofs.KnownBytes.{Consumes-trans}
 use Rattle.std.proofs.lemmas.List.{length-append}
 use Rattle.tt_family.specs.Contents.{Contents}
-use Rattle.tt_abs.specs.declared.refusal.Refusal.TheVariants as program
 use Rattle.tt_cert.specs.Answers.{StopsAtEnd, input_at}
 use Rattle.tt_cert.specs.declared.fault.DecodeFault.{DecodeFault}
 use Rattle.tt_cert.specs.declared.fault.DecodeFault.TheVariants as decode

@@ -1,5 +1,5 @@
 -- The outcomes of the programs that are found, one by one.
-use Rattle.std.proofs.Common.{◌≡◌, ℕ, ◌+◌, List, [], Option, Some, None, refl, sym, subst, arith, inl}
+use Rattle.std.proofs.Common.{◌≡◌, ℕ, ◌+◌, List, Option, Some, None, refl, sym, subst, arith, inl}
 use Rattle.std.proofs.lemmas.Option.{slice_get_within}
 use Rattle.tt_code.specs.Cut.{Instruction}
 use Rattle.tt_cert.specs.declared.form.Form.{Form}

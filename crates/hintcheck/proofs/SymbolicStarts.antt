@@ -1,5 +1,5 @@
 -- The start of glyph programs of which only functions are known.
-use Rattle.std.proofs.Common.{◌≡◌, ℕ, zero, suc, ℤ, List, [], ◌∷◌, Some, refl, subst, sym}
+use Rattle.std.proofs.Common.{◌≡◌, ℕ, zero, suc, ℤ, List, [], ◌∷◌, Some, subst, sym}
 use Rattle.std.specs.Prelude.{slice_get}
 use Rattle.tt_code.specs.Control.{body_named}
 use Rattle.tt_code.specs.States.{IsNumber}

@@ -1,7 +1,6 @@
 -- What a session keeps of a font's programs. (Representation: no public clause cites it.)
 use Rattle.std.specs.Prelude.{◌≡◌, ℕ, ◌+◌, ◌≤◌, List, [], ◌∷◌, ◌++◌, Option, Some, None, alloc_error, length, Result, Ok, slice_get}
 use Rattle.tt_code.specs.Cut.{Instruction}
-use Rattle.tt_abs.specs.declared.refusal.Refusal.TheVariants as program
 use Rattle.tt_cert.specs.Answers.{input_at}
 use Rattle.tt_cert.specs.Reading.{header_at}
 use Rattle.tt_cert.specs.declared.form.Form.{Form}

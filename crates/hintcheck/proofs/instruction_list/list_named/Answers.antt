@@ -1,7 +1,7 @@
 -- proofs/listing/list_named/Answers.antt
 use Rattle.std.specs.Prelude.{codes}
 use Rattle.std.specs.Io.KnownBytes.{Appends}
-use Rattle.std.proofs.Common.{ℕ, List, [], ◌++◌, refl, subst}
+use Rattle.std.proofs.Common.{ℕ, List, [], ◌++◌, subst}
 use Rattle.tt_font.specs.Reading.{no_glyph}
 use Rattle.hintcheck.specs.FontPrograms.{font_of, glyph_subject, one_glyph_font}
 use Rattle.hintcheck.specs.Programs.{IsRefusal, Subject}
