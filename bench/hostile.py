@@ -121,6 +121,11 @@ def symbolic_cases() -> dict[str, bytes]:
     loop = clamped + b"\xb0\x00\x2a"
     compared = b"\x4b\xb0\x10\x8c\xb0\x00\x8b\x20\xb0\x08\x50\x58\x21\x1b\x21\x59"
     counting = FDEF + b"\xb0\x00\xb0\x00\x43\xb0\x01\x60\x42" + ENDF
+    # Function 0 moves an element from the middle of the stack to its top; function 1 calls it 999 times.
+    moving = FDEF + b"\xb8\x75\x30\x26" + ENDF + b"\xb0\x01\x2c\xb8\x03\xe7\xb0\x00\x2a" + ENDF
+    moves = deep(65_000) + b"\xb8\x03\xe7\xb0\x01\x2a"
+    # Numbers that decide far below where they are lost: one of 30 measured ones is a point after all have met.
+    late = choice * 30 + b"\xb0\x1d\x26\x2e" + b"\x21" * 29
     return {
         "a sum of 1,000 measured numbers": font([b"\x4b" + b"\x4b\x60" * 1_000 + b"\x21"]),
         "200 choices, each popped": font([(choice + b"\x21") * 200]),
@@ -128,6 +133,9 @@ def symbolic_cases() -> dict[str, bytes]:
         "64 numbers compared": font([compared * 64]),
         "a measured count of turns": font([loop], FDEF + b"\xb0\x01\x21" + ENDF),
         "a cell counted up in such turns": font([b"\xb0\x00\xb0\x00\x42" + loop], counting),
+        "65,000 cells, 998,001 MINDEX": font([moves], moving, stack=65_535),
+        "30 choices, used after all": font([late]),
+        "1,000 glyphs of 30 choices": font([late] * 1_000),
     }
 
 
