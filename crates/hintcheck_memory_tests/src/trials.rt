@@ -198,7 +198,7 @@ fn refusals_on(
     rt: &(impl Abort + Print),
     heap: &mut Heap,
     call: Call,
-    programs: &Programs<'_>,
+    programs: &Programs<'static>,
 ) -> Result<u32, Fail> {
     let files = files_of(heap.alloc, programs)?;
     let example = example_of(programs, &files).ok_or(programs.name)?;
