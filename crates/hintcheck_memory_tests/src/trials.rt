@@ -2,7 +2,7 @@
 
 use crate::builders::{Change, told_of_change};
 use crate::commands::{Order, told_of_command};
-use crate::examples::{EXAMPLES, Example, Programs, example_of, files_of};
+use crate::examples::{EXAMPLES, Example, example_of, files_of};
 use crate::fonts::{
     told_of_bare, told_of_font_check, told_of_font_search, told_of_reading, told_of_upgrade,
     told_of_verdict,
@@ -193,19 +193,6 @@ pub(crate) fn assert_refused(
     assert!(rt; count > 0 || !heap.is_used_up(), "{name}: no refusal");
 }
 
-/// Returns how often a call on the example of these programs tells that memory ran out.
-fn refusals_on(
-    rt: &(impl Abort + Print),
-    heap: &mut Heap,
-    call: Call,
-    programs: &Programs<'static>,
-) -> Result<u32, Fail> {
-    let files = files_of(heap.alloc, programs)?;
-    let example = example_of(programs, &files).ok_or(programs.name)?;
-    let name = format!(in heap.alloc; "{call:?} on {}", programs.name)?;
-    Ok(refusals_of(rt, heap, &name, &Trial::Call(call, example)))
-}
-
 /// Asserts that a call is refused memory on an example, and tells so, until it is left enough.
 pub(crate) fn assert_call_refused(
     rt: &(impl Abort + Print),
@@ -214,7 +201,11 @@ pub(crate) fn assert_call_refused(
 ) -> Result<(), Fail> {
     let mut count = 0u32;
     for programs in EXAMPLES {
-        count = count.saturating_add(refusals_on(rt, heap, call, programs)?);
+        let files = files_of(heap.alloc, programs)?;
+        let example = example_of(programs, &files).ok_or(programs.name)?;
+        let name = format!(in heap.alloc; "{call:?} on {}", programs.name)?;
+        let trial = Trial::Call(call, example);
+        count = count.saturating_add(refusals_of(rt, heap, &name, &trial));
     }
     assert!(rt; count > 0 || !heap.is_used_up(), "{call:?}: no refusal");
     Ok(())
