@@ -15,6 +15,10 @@ use tt_symbolic_state::State;
 /// How many cells listed states may have in all.
 const MOST_CELLS: usize = 8_000_000;
 
+/// How many cells they may have once those are dropped to which no other state has come: fewer, so
+/// that they aren't looked through too often.
+const MOST_CELLS_LEFT: usize = 7_000_000;
+
 /// How many tracks are kept at most whose memory is used again.
 const MOST_SPARE: usize = 32;
 
@@ -43,6 +47,15 @@ struct Item {
     arrivals: u32,
     /// Whether states come to it from behind.
     is_back: bool,
+    /// Its signature, once it is listed.
+    signature: u64,
+}
+
+impl Item {
+    /// Whether it was carried on, and no other state has come to it.
+    fn is_lone(&self) -> bool {
+        self.standing == Standing::Walked && self.arrivals <= 1 && !self.is_back
+    }
 }
 
 /// The states that are listed so far, and those that wait to be carried on.
@@ -133,9 +146,36 @@ impl Arrivals {
         Ok(())
     }
 
-    /// Whether the states take more memory than they may.
-    pub(crate) fn are_too_many(&self) -> bool {
-        self.cells > MOST_CELLS
+    /// Makes room for more states, where they have too many cells: drops those to which no other state
+    /// has come. One that comes there later is listed anew. Returns whether there is room now.
+    pub(crate) fn make_room(&mut self, alloc: Global) -> Result<bool, AllocError> {
+        if self.cells <= MOST_CELLS {
+            return Ok(true);
+        }
+        for number in self.lone_numbers(alloc)? {
+            self.drop_listed(number);
+        }
+        Ok(self.cells <= MOST_CELLS_LEFT)
+    }
+
+    /// Returns the numbers of the items that were carried on and to which no other state has come.
+    fn lone_numbers(&self, alloc: Global) -> Result<Vec<usize>, AllocError> {
+        let mut numbers = Vec::new(alloc);
+        for (number, item) in self.items.iter() {
+            if item.is_lone() {
+                numbers.push(number)?;
+            }
+        }
+        Ok(numbers)
+    }
+
+    /// Drops a listed item.
+    fn drop_listed(&mut self, number: usize) {
+        if let Some(item) = self.remove(number) {
+            if self.by_signature.get(&item.signature) == Some(&number) {
+                self.by_signature.remove(&item.signature);
+            }
+        }
     }
 
     /// Whether a state is listed that has a signature.
@@ -165,6 +205,7 @@ impl Arrivals {
             rises: 0,
             arrivals: 0,
             is_back: false,
+            signature: 0,
         })?;
         self.waiting.put(place, number)
     }
@@ -218,6 +259,7 @@ impl Arrivals {
             rises: before.0,
             arrivals: before.1.saturating_add(1),
             is_back: arrival == Arrival::Back,
+            signature,
         })?;
         self.by_signature.insert(signature, number)?;
         match place {

@@ -93,7 +93,7 @@ pub(crate) fn make_stop(alloc: Global, refusal: CheckRefusal) -> Stop {
 }
 
 /// Makes the stop of a run for want of memory.
-fn out_of_memory(task: &Task<'_>, error: AllocError) -> Stop {
+pub(crate) fn out_of_memory(task: &Task<'_>, error: AllocError) -> Stop {
     make_stop(task.alloc, CheckRefusal::OutOfMemory(error))
 }
 

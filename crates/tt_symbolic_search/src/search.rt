@@ -3,7 +3,7 @@
 use crate::blending::Merges;
 use crate::cell_names::CellName;
 use crate::origins::Origins;
-use crate::run::{Run, Stop, Task, make_stop, told_functions};
+use crate::run::{Run, Stop, Task, make_stop, out_of_memory, told_functions};
 use crate::starts;
 use crate::thresholds::thresholds;
 use crate::writes::Writes;
@@ -264,8 +264,10 @@ fn run_on(
             Ok(false) => return None,
             Err(stop) => return Some(stop),
         }
-        if run.arrivals.are_too_many() {
-            break;
+        match run.arrivals.make_room(task.alloc) {
+            Ok(true) => {}
+            Ok(false) => break,
+            Err(error) => return Some(out_of_memory(task, error)),
         }
     }
     Some(make_stop(task.alloc, CheckRefusal::BudgetMet))
