@@ -33,8 +33,8 @@ def font(programs: list[bytes], fpgm: bytes = b"", stack: int = 1100, functions:
 
 
 def font_of_glyphs(glyphs: list[bytes], fpgm: bytes = b"", stack: int = 1100, functions: int = 2, storage: int = 4,
-                   prep: bytes = b"") -> bytes:
-    """A font file with a font program, a CVT program and these glyphs."""
+                   prep: bytes = b"", size: int = 65535) -> bytes:
+    """A font file with a font program, a CVT program and these glyphs, whose programs have at most so many bytes."""
     head = bytearray(54)
     head[50:52] = b"\0\1"
     glyf = b"".join(glyphs)
@@ -43,7 +43,7 @@ def font_of_glyphs(glyphs: list[bytes], fpgm: bytes = b"", stack: int = 1100, fu
     for glyph in glyphs:
         end += len(glyph)
         loca += struct.pack(">I", end)
-    maxp = struct.pack(">I14H", 0x00010000, len(glyphs), 4, 1, 0, 0, 2, 4, storage, functions, 0, stack, 65535, 0, 0)
+    maxp = struct.pack(">I14H", 0x00010000, len(glyphs), 4, 1, 0, 0, 2, 4, storage, functions, 0, stack, size, 0, 0)
     tables = {b"cvt ": bytes(20), b"fpgm": fpgm, b"glyf": glyf, b"head": bytes(head), b"loca": bytes(loca), b"maxp": maxp, b"prep": prep}
     directory = struct.pack(">IHHHH", 0x00010000, len(tables), 0, 0, 0)
     body = bytearray()

@@ -65,14 +65,14 @@ typedef struct hintcheck_refusal {
     uint32_t program;      /* which program: a glyph's number, or HINTCHECK_FONT_PROGRAM, or HINTCHECK_CVT_PROGRAM */
     uint32_t place;        /* the program in which the place is: for a function's instruction the one that defines the function */
     uint32_t offset;       /* the place's offset there */
-    uint32_t reason;       /* the reason's number, 20 to 42, 46 or 47; README.md lists them */
+    uint32_t reason;       /* the reason's number, 20 to 42, 46 or 47; docs/REASONS.md lists them */
     uint32_t reason_class; /* an enum hintcheck_reason_class */
 } hintcheck_refusal;
 
 /* What a call answers. */
 typedef struct hintcheck_answer {
     uint32_t status;   /* an enum hintcheck_status */
-    uint32_t fault;    /* the fault's number, as README.md lists them; 0 where there is a verdict, and at HINTCHECK_USAGE */
+    uint32_t fault;    /* the fault's number, as docs/REASONS.md lists them; 0 where there is a verdict, and at HINTCHECK_USAGE */
     uint64_t place;    /* at fault 43, the first byte of the certificate that is wrong; otherwise 0 */
     uint64_t points;   /* how many points were made, also where there is no verdict: one each time that a state was carried on */
     uint32_t programs; /* how many programs the font has: its glyphs and 2; 0 where there is no verdict */
