@@ -94,6 +94,12 @@ fn advice_on_stack(reason: Reason) -> &'static str {
     }
 }
 
+/// Returns what to do about a number that isn't known well enough by the symbolic profile.
+pub(crate) fn advice_on_range() -> &'static str {
+    "where the program is right, bring the number into its range before it is used: by MIN and MAX, or \
+    by comparisons with its bounds, on every way that comes here."
+}
+
 /// Returns what to do about what a program is made of, or where it leads.
 fn advice_on_program(reason: Reason) -> &'static str {
     match reason {
