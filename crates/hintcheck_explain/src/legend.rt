@@ -121,6 +121,7 @@ impl fmt::Display for Legend<'_> {
             let range = Bounded {
                 cell: symbol(*named),
                 ranges: self.ranges,
+                unknown: "any number",
             };
             write!(f, "{before}{name} is {range}")?;
             before = ", ";
@@ -148,6 +149,8 @@ impl fmt::Display for SymbolName {
 struct Bounded<'a> {
     cell: Cell,
     ranges: &'a [Range],
+    /// What is printed where nothing is known.
+    unknown: &'static str,
 }
 
 impl fmt::Display for Bounded<'_> {
@@ -156,7 +159,7 @@ impl fmt::Display for Bounded<'_> {
             Some((low, high)) if high.saturating_sub(low) < ALL_NUMBERS => {
                 write!(f, "{low}..{high}")
             }
-            _ => write!(f, "?"),
+            _ => f.write_str(self.unknown),
         }
     }
 }
@@ -179,6 +182,7 @@ impl fmt::Display for CellText<'_> {
             let range = Bounded {
                 cell: self.cell,
                 ranges: self.ranges,
+                unknown: "?",
             };
             return write!(f, "{range}");
         };

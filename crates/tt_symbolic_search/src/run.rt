@@ -324,7 +324,8 @@ impl Run {
             self.has_more = true;
             return Ok(());
         }
-        self.seen.push(Box::new(alloc, track.copied(alloc)?)?)
+        self.seen.push(Box::new(alloc, track.copied(alloc)?)?)?;
+        Ok(())
     }
 
     /// Takes out what is told of the run to explain it: also of the last state, if that was refused.
