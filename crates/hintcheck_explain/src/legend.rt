@@ -2,6 +2,7 @@
 //! symbol whose range is told once.
 
 use crate::knowledge::SHOWN_CELLS;
+use crate::view::ALL_NUMBERS;
 use std::alloc::{AllocError, Global};
 use std::fmt;
 use tt_abs::SortedMap;
@@ -10,9 +11,6 @@ use tt_symbolic_state::state::State;
 
 /// The names of the first symbols.
 const NAMES: [&str; 6] = ["x", "y", "z", "u", "v", "w"];
-
-/// The width from which on nothing is known of a number.
-const ALL_NUMBERS: i64 = (1 << 32) - 1;
 
 /// Adds those of memory entries that are printed to the cells.
 fn add_entries(cells: &mut Vec<Cell>, entries: &SortedMap<Cell>) -> Result<(), AllocError> {

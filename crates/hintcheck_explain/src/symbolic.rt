@@ -11,7 +11,7 @@ use crate::effect_text::tell_effect;
 use crate::instruction_text::name_of;
 use crate::legend::Legend;
 use crate::listing::{Code, Listing};
-use crate::meaning::{advice_of, advice_on_range, class_of, class_text};
+use crate::meaning::{ADVICE_ON_RANGE, advice_of, class_of, class_text};
 use crate::place::{Place, Refused};
 use crate::symbolic_calls::SymbolicCalls;
 use crate::symbolic_case::{instruction_at, trouble_of};
@@ -108,8 +108,7 @@ fn tell_accepted<O: Sink>(searched: Searched<'_>, out: &mut O) -> Result<(), Pri
     writeln!(out, "Steps of the check: at most {checked}")
 }
 
-/// Prints what is known in a state of the search: the instruction there, the open calls, the stack and so
-/// on.
+/// Prints the open calls of a state of the search, and what is known in it.
 fn tell_state<O: Sink>(
     alloc: Global,
     searched: Searched<'_>,
@@ -210,7 +209,7 @@ fn tell_reason<O: Sink>(
     };
     let kind = class_text(reason, class);
     let advice = match trouble {
-        Trouble::Range { .. } => advice_on_range(),
+        Trouble::Range { .. } => ADVICE_ON_RANGE,
         _ => advice_of(reason, class, name),
     };
     writeln!(out, "Why: {why}")?;

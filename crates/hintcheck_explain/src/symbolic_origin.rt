@@ -86,6 +86,17 @@ impl fmt::Display for SourceText<'_> {
                 )?;
                 write!(f, "before the program runs.")
             }
+            Source::Met {
+                at,
+                first: None,
+                second: None,
+            } => {
+                let place = self.place(at);
+                write!(
+                    f,
+                    "ways that meet at {place} bring numbers that aren't known."
+                )
+            }
             Source::Met { at, first, second } => {
                 let place = self.place(at);
                 let first = MetNumber(first);

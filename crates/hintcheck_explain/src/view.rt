@@ -2,12 +2,12 @@
 
 use crate::element::Element;
 use tt_abs::{Cell, State, ZoneCell};
-use tt_code::kinds::{Pointer, Reference};
+use tt_code::kinds::Pointer;
 use tt_symbolic_state::cell::{Cell as SymbolicCell, bounds};
 use tt_symbolic_state::state::{State as SymbolicState, Zone};
 
-/// How many numbers the machine has, less 1.
-const ALL_NUMBERS: i64 = (1 << 32) - 1;
+/// How many numbers the machine has, less 1: nothing is known of one whose range is as wide.
+pub(crate) const ALL_NUMBERS: i64 = (1 << 32) - 1;
 
 /// What is known of a number.
 #[derive(Clone, Copy, PartialEq, Eq)]
@@ -108,11 +108,6 @@ impl<'a> View<'a> {
                 None => Known::Nothing,
             },
         }
-    }
-
-    /// Returns what is known of a reference point.
-    pub(crate) fn reference(self, reference: Reference) -> Known {
-        self.known(Element::of_reference(reference))
     }
 
     /// Returns the zone that a pointer names.
