@@ -10,10 +10,10 @@ _hintcheck() {
     case $command in
         verdict | scan) options='--symbolic --points --help' ;;
         find | check) options='--points --help' ;;
-        bare) options='--symbolic --help' ;;
+        explain | bare) options='--symbolic --help' ;;
     esac
     case $command in
-        verdict | scan | find | check)
+        verdict | scan | explain | find | check)
             if [[ $word == -* ]]; then
                 mapfile -t COMPREPLY < <(compgen -W "$options" -- "$word")
                 return
@@ -29,7 +29,7 @@ _hintcheck() {
                 fi
             done
             ;;
-        explain | list | upgrade | bare)
+        list | upgrade | bare)
             if [[ $word == -* ]]; then
                 mapfile -t COMPREPLY < <(compgen -W "$options" -- "$word")
                 return

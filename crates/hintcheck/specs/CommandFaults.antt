@@ -171,7 +171,7 @@ IsFaultOfRequest (bare maxp cvt points contours program profile) reported =
 IsFaultOfRequest (verdict font budget profile) reported =
     IsFaultOfFontFile reported × IsWithin budget reported
 IsFaultOfRequest (scan fonts budget profile) reported = IsFaultOfScan reported
-IsFaultOfRequest (explain font program offset) reported =
+IsFaultOfRequest (explain font program offset profile) reported =
     IsFaultOfFileExplaining program offset reported
 IsFaultOfRequest (find font certificate budget) reported =
     IsFaultOfFinding font certificate reported × IsWithin budget reported
@@ -187,7 +187,7 @@ HasNoFault (bare maxp cvt points contours program profile) =
     SpellNoFault maxp (unwrap_or program [])
 HasNoFault (verdict font budget profile) = Unit {0}
 HasNoFault (scan fonts budget profile) = Unit {0}
-HasNoFault (explain font program offset) = (bytes : List ℕ) × HoldPlace bytes program offset
+HasNoFault (explain font program offset profile) = (bytes : List ℕ) × HoldPlace bytes program offset
 HasNoFault (find font certificate budget) = font ≢ certificate
 HasNoFault (check font certificate budget) = Unit {0}
 HasNoFault (list font program) = Unit {0}

@@ -119,7 +119,7 @@ abbrev pub IsForVerdict : Request → Type 0
 IsForVerdict (bare maxp cvt points contours program profile) = Unit {0}
 IsForVerdict (verdict font budget profile) = Unit {0}
 IsForVerdict (scan fonts budget profile) = ⊥
-IsForVerdict (explain font program offset) = ⊥
+IsForVerdict (explain font program offset profile) = ⊥
 IsForVerdict (find font certificate budget) = Unit {0}
 IsForVerdict (check font certificate budget) = Unit {0}
 IsForVerdict (list font program) = ⊥

@@ -8,6 +8,7 @@ pub mod Listing
 pub mod Explanations
 pub mod Commands
 pub mod SymbolicAnswers
+pub mod SymbolicExplanations
 pub mod MeansSafe
 pub mod Printed
 pub mod CommandFaults

@@ -13,6 +13,7 @@ use Rattle.hintcheck.specs.Explanations.{HoldAcceptedProgram, HoldRefusedProgram
 use Rattle.hintcheck.specs.FontPrograms.{IsSafeFont, IsSafeGlyph, IsVerdict}
 use Rattle.hintcheck.specs.Listing.{HoldUnlistedProgram}
 use Rattle.hintcheck.specs.Programs.{HasGoodFamily, IsRefusal}
+use Rattle.hintcheck.specs.SymbolicExplanations.{HoldSymbolicAcceptedProgram, HoldSymbolicRefusedProgram}
 use Rattle.hintcheck.specs.SymbolicAnswers.{HoldSymbolicRefusedFont, HoldSymbolicSafeFont, IsSymbolicVerdictOn, SpellGlyph, SpellSymbolicSafeGlyph, SpellSymbolicVerdict}
 use Rattle.hintcheck.specs.Verdicts.{Judgement}
 
@@ -53,6 +54,11 @@ abbrev pub HoldSafeBy : Profile → List ℕ → Type 0
 HoldSafeBy Strict bytes = HoldSafeFont bytes
 HoldSafeBy Symbolic bytes = HoldSymbolicSafeFont bytes
 
+-- the bytes hold a font, and the word is the name of a program of it that is accepted by this profile
+abbrev pub HoldAcceptedBy : Profile → List ℕ → List ℕ → Type 0
+HoldAcceptedBy Strict bytes word = HoldAcceptedProgram bytes word
+HoldAcceptedBy Symbolic bytes word = HoldSymbolicAcceptedProgram bytes word
+
 -- the verdict is that of this profile on the font that is in the bytes
 abbrev pub IsVerdictBy : Profile → List ℕ → Judgement → Type 0
 IsVerdictBy Strict bytes judgement = IsVerdictOn bytes judgement
@@ -70,7 +76,8 @@ IsSafeRequest (bare maxp cvt points contours program profile) =
 IsSafeRequest (verdict font budget profile) = (bytes : List ℕ) × HoldSafeBy profile bytes
 IsSafeRequest (scan fonts budget profile) =
     All (λ font. (bytes : List ℕ) × HoldSafeBy profile bytes) fonts
-IsSafeRequest (explain font program offset) = (bytes : List ℕ) × HoldAcceptedProgram bytes program
+IsSafeRequest (explain font program offset profile) =
+    (bytes : List ℕ) × HoldAcceptedBy profile bytes program
 IsSafeRequest (find font certificate budget) = (bytes : List ℕ) × HoldSafeFont bytes
 IsSafeRequest (check font certificate budget) = (bytes : List ℕ) × HoldSafeFont bytes
 IsSafeRequest (list font program) = Unit {0}
@@ -113,6 +120,12 @@ SpellRefusedBy Symbolic maxp cvt points contours program = SpellGlyph maxp progr
 abbrev pub HoldRefusedBy : Profile → List ℕ → Type 0
 HoldRefusedBy Strict bytes = HoldRefusedFont bytes
 HoldRefusedBy Symbolic bytes = HoldSymbolicRefusedFont bytes
+
+-- the bytes hold a font, and the word is the name of a program of it that is refused by this profile, or
+-- before which one is
+abbrev pub HoldUnacceptedBy : Profile → List ℕ → List ℕ → Type 0
+HoldUnacceptedBy Strict bytes word = HoldRefusedProgram bytes word
+HoldUnacceptedBy Symbolic bytes word = HoldSymbolicRefusedProgram bytes word
 
 -- The bytes hold a font.
 pub record HoldFont (bytes : List ℕ) : Type 0 where
@@ -163,7 +176,7 @@ IsVerdictAsked (find font certificate budget) judgement =
 IsVerdictAsked (check font certificate budget) judgement =
     (bytes : List ℕ) × IsCheckOn bytes judgement
 IsVerdictAsked (scan fonts budget profile) judgement = ⊥
-IsVerdictAsked (explain font program offset) judgement = ⊥
+IsVerdictAsked (explain font program offset profile) judgement = ⊥
 IsVerdictAsked (list font program) judgement = ⊥
 IsVerdictAsked (upgrade old new) judgement = ⊥
 
@@ -177,7 +190,8 @@ IsRefusedRequest (bare maxp cvt points contours program profile) =
     SpellRefusedBy profile maxp cvt points contours (unwrap_or program [])
 IsRefusedRequest (verdict font budget profile) = (bytes : List ℕ) × HoldRefusedBy profile bytes
 IsRefusedRequest (scan fonts budget profile) = (bytes : List ℕ) × HoldRefusedBy profile bytes
-IsRefusedRequest (explain font program offset) = (bytes : List ℕ) × HoldRefusedProgram bytes program
+IsRefusedRequest (explain font program offset profile) =
+    (bytes : List ℕ) × HoldUnacceptedBy profile bytes program
 IsRefusedRequest (find font certificate budget) = (bytes : List ℕ) × HoldRefusedFont bytes
 IsRefusedRequest (check font certificate budget) = (bytes : List ℕ) × HoldFont bytes
 IsRefusedRequest (list font program) = (bytes : List ℕ) × HoldUnlistedProgram bytes program

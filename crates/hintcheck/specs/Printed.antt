@@ -19,6 +19,7 @@ abbrev pub profile_of : Request → Profile
 profile_of (bare maxp cvt points contours program profile) = profile
 profile_of (verdict font budget profile) = profile
 profile_of (scan fonts budget profile) = profile
+profile_of (explain font program offset profile) = profile
 profile_of other = Strict
 
 -- The lines of the verdict that is asked for were written, where the written bytes are known: of
@@ -49,7 +50,7 @@ Prints (bare maxp cvt points contours program profile) status old new =
 Prints (verdict font budget profile) status old new =
     PrintsVerdict (verdict font budget profile) status old new
 Prints (scan fonts budget profile) status old new = PrintsScan profile budget fonts status old new
-Prints (explain font program offset) status old new = Unit {0}
+Prints (explain font program offset profile) status old new = Unit {0}
 Prints (find font certificate budget) status old new =
     PrintsVerdict (find font certificate budget) status old new
 Prints (check font certificate budget) status old new =

@@ -51,13 +51,12 @@ fn profile_of_task(task: &Task) -> Profile
     ensures { result ≡ profile_of (asked task.now) }
 {
     match task {
-        Task::Bare { profile, .. } | Task::Verdict { profile, .. } | Task::Scan { profile, .. } =>
-            *profile,
-        Task::Find { .. }
-        | Task::Check { .. }
-        | Task::Explain { .. }
-        | Task::List { .. }
-        | Task::Upgrade { .. } => Profile::Strict,
+        Task::Bare { profile, .. }
+        | Task::Verdict { profile, .. }
+        | Task::Scan { profile, .. }
+        | Task::Explain { profile, .. } => *profile,
+        Task::Find { .. } | Task::Check { .. } | Task::List { .. } | Task::Upgrade { .. } =>
+            Profile::Strict,
     }
 }
 
@@ -137,7 +136,8 @@ fn do_task<R: Files + AllocGlobal, O: Sink>(
             font,
             program,
             offset,
-        } => explain_of_file(rt, font, program, *offset, out),
+            profile,
+        } => explain_of_file(rt, font, program, *offset, *profile, out),
         Task::List { font, program } => list_of_file(rt, font, program, out),
         Task::Upgrade { old, new } => tell_upgrade(rt, old, new, out),
         task => tell_verdict(out, verdict_on(rt, task)?, profile_of_task(task)),

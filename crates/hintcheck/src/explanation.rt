@@ -33,10 +33,10 @@ use tt_font::Font;
 use tt_stream::Sink;
 
 /// The exit status where the program is accepted.
-const ACCEPTED: u8 = 0;
+pub(crate) const ACCEPTED: u8 = 0;
 
 /// The exit status where the program is refused, or one before it.
-const REFUSED: u8 = 1;
+pub(crate) const REFUSED: u8 = 1;
 
 /// Explains a program in its setting.
 fn explain_in<O: Sink>(
@@ -56,7 +56,7 @@ fn explain_in<O: Sink>(
 }
 
 /// Explains why these bytes can't be cut or aren't structured, as the fault tells.
-fn explain_uncut<O: Sink>(
+pub(crate) fn explain_uncut<O: Sink>(
     asked: Asked,
     bytes: &[u8],
     fault: Refusal,
@@ -147,7 +147,7 @@ fn called(program: Name) -> &'static str {
 
 /// Prints that a program isn't checked, since this one before it is refused, and returns the exit
 /// status.
-fn tell_unchecked<O: Sink>(refused: Refused, out: &mut O) -> Result<u8, CommandFault>
+pub(crate) fn tell_unchecked<O: Sink>(refused: Refused, out: &mut O) -> Result<u8, CommandFault>
     ensures status { IfOk result (λ status. status ≡ 1) }
     ensures failures { TellsFailure result (O.failures out.old) (O.failures out.new) }
     ensures faults { IfErr result IsFaultOfLines }

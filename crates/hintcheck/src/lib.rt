@@ -20,6 +20,7 @@ mod sections;
 pub mod session;
 pub mod symbolic_bare;
 mod symbolic_check;
+mod symbolic_explanation;
 pub mod symbolic_verdict;
 
 pub use bare_program::bare;
@@ -35,6 +36,7 @@ pub use instruction_list::list_program;
 pub use report::{Name, Place, Refused, Verdict};
 pub use session::{Outcome, Session};
 pub use symbolic_bare::bare_symbolic;
+pub use symbolic_explanation::explain_program_symbolic;
 pub use symbolic_verdict::{verdict_symbolic, verdict_symbolic_within};
 pub use tt_family::Budget;
 pub use tt_font::{FontFault, Tag, read_maxp};

@@ -8,6 +8,8 @@ ghost use Rattle.hintcheck.specs.Representation.FontVerdicts.{ComesToEnd};
 ghost use Rattle.hintcheck.specs.Representation.SymbolicChecks.{AreCheckedInTurn, IsCheckedBy, IsEnded, IsEndedBy, IsRunnable, refusal_as};
 
 use crate::judge::Judge;
+use crate::programs::Next;
+use hintcheck_explain::Asked;
 use std::alloc::{AllocError, Global};
 use std::mem;
 use tt_abs::{Kind, Refusal, Setting, SortedMap, Spot};
@@ -16,7 +18,7 @@ use tt_family::{Budget, is_short};
 use tt_symbolic::{Kept, NOTHING_KEPT};
 use tt_symbolic_check::{CheckRefusal, Effort, Start};
 use tt_symbolic_font::{Ends, GlyphStarts, check_before_glyphs, start_with};
-use tt_symbolic_search::{Search, USUAL_SEARCH};
+use tt_symbolic_search::{Insight, Question, Search, USUAL_SEARCH};
 
 /// Judges a program by symbolic states, which are found and checked. What was learnt from one program
 /// of a font serves the next ones.
@@ -31,6 +33,8 @@ pub(crate) struct SymbolicCheck {
     starts: GlyphStarts,
     /// Whether a glyph program may write what these starts list.
     may_write_kept: bool,
+    /// What is to be explained; nothing where no answer is.
+    explained: Option<Asked>,
 }
 
 /// Returns how much may be done for the next program, where so many steps may be made for all
@@ -200,7 +204,32 @@ impl SymbolicCheck {
                 controls: Vec::new(alloc),
             },
             may_write_kept: false,
+            explained: None,
         }
+    }
+
+    /// Lets the judge keep what explains its answer for one program.
+    pub(crate) fn explain(&mut self, asked: Asked) {
+        self.explained = Some(asked);
+    }
+
+    /// Prepares the judge for the program that is next: its answer is explained, or it isn't.
+    pub(crate) fn expect(&mut self, next: Option<Next<'_>>)
+        ensures starts { self.new.starts ≡ self.old.starts }
+        ensures ends { self.new.ends ≡ self.old.ends }
+    {
+        let question = match (self.explained, next) {
+            (Some(asked), Some(next)) if asked.program == next.name => Some(Question {
+                offset: asked.offset,
+            }),
+            _ => None,
+        };
+        self.search.ask(question);
+    }
+
+    /// Takes what the search tells of the program that is explained.
+    pub(crate) fn take_insight(&mut self) -> Option<Insight> {
+        self.search.take_insight()
     }
 
     /// Takes what is known where the program ends that was accepted last.

@@ -9,7 +9,7 @@ ghost use Rattle.tt_font.specs.Reading.{FontData, Reads};
 ghost use Rattle.tt_symbolic_font.specs.Known.{StartGlyphs};
 ghost use Rattle.hintcheck.specs.FontPrograms.{IsFontInRange, judgement_on};
 ghost use Rattle.hintcheck.specs.Representation.ProgramOrder.{CanGoOn, skipped_to, stage_of};
-ghost use Rattle.hintcheck.specs.Representation.SymbolicChecks.{IsAfterCvt, TellsRefused};
+ghost use Rattle.hintcheck.specs.Representation.SymbolicChecks.{AnswersBySymbols, IsAfterCvt, TellsRefused};
 ghost use Rattle.hintcheck.specs.Sessions.{at_start};
 ghost use Rattle.hintcheck.specs.SymbolicVerdicts.{IsSymbolicVerdict};
 
@@ -28,7 +28,26 @@ use tt_symbolic_font::Ends;
 const MOST_TAKEN_UP_AGAIN: u32 = 40;
 
 /// How many steps the search of a font usually makes at most, for all its programs together.
-const USUAL_STEPS: u64 = 1_000_000_000;
+pub(crate) const USUAL_STEPS: u64 = 1_000_000_000;
+
+/// Judges the next program and goes on to the one after it, as `Programs::judge_next` does; the judge
+/// knows then which program it is.
+fn judge_next(
+    alloc: Global,
+    programs: &mut FontPrograms<'_>,
+    judge: &mut SymbolicCheck,
+) -> Result<Option<Outcome>, AllocError>
+    requires range { IsFontInRange programs.old.font.now }
+    requires start { CanGoOn (λ functions. Ascends functions) (stage_of programs.old) }
+    ensures answer { IfOk result (λ answer. AnswersBySymbols programs.old.font.now judge.new
+        (stage_of programs.old) answer (stage_of programs.new)) }
+    ensures start { CanGoOn (λ functions. Ascends functions) (stage_of programs.new) }
+    ensures font { programs.new.font ≡ programs.old.font }
+    ensures keeps { judge.new.starts ≡ judge.old.starts }
+{
+    judge.expect(programs.next());
+    programs.judge_next(alloc, judge, &mut Budget::unlimited())
+}
 
 /// Judges the next program. Returns what is reported of it, if it is refused.
 fn refused_next(
@@ -43,7 +62,7 @@ fn refused_next(
     ensures start { CanGoOn (λ functions. Ascends functions) (stage_of programs.new) }
     ensures font { programs.new.font ≡ programs.old.font }
 {
-    match programs.judge_next(alloc, judge, &mut Budget::unlimited())? {
+    match judge_next(alloc, programs, judge)? {
         Some(outcome) => Ok(outcome.refused),
         None => Ok(None),
     }
@@ -104,7 +123,7 @@ fn refused_glyphs(
     take_up(alloc, programs, judge, &ends)?;
     let mut again = 0;
     let mut refused = Vec::new(alloc);
-    while let Some(outcome) = programs.judge_next(alloc, judge, &mut Budget::unlimited())? {
+    while let Some(outcome) = judge_next(alloc, programs, judge)? {
         if judge.may_write_kept() && again < MOST_TAKEN_UP_AGAIN {
             again += 1;
             take_up(alloc, programs, judge, &ends)?;
@@ -116,22 +135,25 @@ fn refused_glyphs(
     Ok(refused)
 }
 
-/// Judges the programs of a font by symbolic states, one after the other, with so many steps for all
-/// of them together: returns the refused ones, in their order.
-fn refused_programs(alloc: Global, font: &Font<'_>, steps: u64) -> Result<Vec<Refused>, AllocError>
+/// Judges the programs of a font by symbolic states, one after the other: returns the refused ones,
+/// in their order.
+pub(crate) fn refused_programs(
+    alloc: Global,
+    font: &Font<'_>,
+    judge: &mut SymbolicCheck,
+) -> Result<Vec<Refused>, AllocError>
     requires { IsFontInRange font.now }
     ensures { IfOk result (λ refused. IsSymbolicVerdict font.now
         (judgement_on font.now refused.items)) }
 {
     let mut programs = Programs::new(font);
-    let mut judge = SymbolicCheck::new(alloc, steps);
-    match refused_before_glyphs(alloc, &mut programs, &mut judge)? {
+    match refused_before_glyphs(alloc, &mut programs, judge)? {
         Some(one) => {
             let mut refused = Vec::new(alloc);
             refused.push(one)?;
             Ok(refused)
         }
-        None => refused_glyphs(alloc, &mut programs, &mut judge),
+        None => refused_glyphs(alloc, &mut programs, judge),
     }
 }
 
@@ -165,6 +187,7 @@ pub fn verdict_symbolic_within(alloc: Global, font: &[u8], steps: u64) -> Result
     ensures faults { TestsWithMemory (font_fault font.now) result }
 {
     let read = read_font(alloc, font)?;
-    let refused = refused_programs(alloc, &read, steps)?;
+    let mut judge = SymbolicCheck::new(alloc, steps);
+    let refused = refused_programs(alloc, &read, &mut judge)?;
     Ok(Verdict::new(u32::from(read.glyph_count()) + 2, refused))
 }

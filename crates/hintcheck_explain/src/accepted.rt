@@ -8,7 +8,7 @@ use tt_family::Certificate;
 use tt_stream::{PrintFailed, Sink};
 
 /// Returns how many instructions a program has.
-fn count_instructions(program: &Program<'_>) -> u32 {
+pub(crate) fn count_instructions(program: &Program<'_>) -> u32 {
     let mut count: u32 = 0;
     let mut offset: u32 = 0;
     for _ in 0..program.len() {

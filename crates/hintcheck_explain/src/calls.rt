@@ -9,9 +9,9 @@ use tt_code::Frame;
 
 /// A function's number, where the functions that are known tell it.
 #[derive(Clone, Copy)]
-struct FunctionText<'a> {
-    functions: &'a [(u16, u32)],
-    body: u32,
+pub(crate) struct FunctionText<'a> {
+    pub functions: &'a [(u16, u32)],
+    pub body: u32,
 }
 
 impl fmt::Display for FunctionText<'_> {

@@ -2,7 +2,8 @@
 
 use crate::taking::{cell_under, number_under, test_index};
 use crate::trouble::{Role, Trouble};
-use tt_abs::{Cell, Kind, Point, Setting, State};
+use crate::view::{Known, View};
+use tt_abs::{Kind, Point, Setting};
 use tt_code::kinds::Control;
 
 /// Returns the body of a function that is known, by its number.
@@ -19,10 +20,10 @@ pub(crate) fn body_of(functions: &[(u16, u32)], number: i32) -> Option<u32> {
 fn test_jump(
     setting: &Setting<'_>,
     point: &Point<'_>,
-    state: &State,
+    view: View<'_>,
     taken: usize,
 ) -> Result<(), Trouble> {
-    let by = number_under(state, taken, Role::Distance)?;
+    let by = number_under(view, taken, Role::Distance)?;
     let target = i64::from(point.offset) + i64::from(by);
     let leads = match u32::try_from(target) {
         Ok(offset) => setting.starts(point, offset) || setting.is_end(point, offset),
@@ -39,22 +40,22 @@ fn test_jump(
 fn test_conditional(
     setting: &Setting<'_>,
     point: &Point<'_>,
-    state: &State,
+    view: View<'_>,
     asked: bool,
 ) -> Result<(), Trouble> {
-    let (_, condition) = cell_under(state, 0)?;
-    cell_under(state, 1)?;
-    match condition {
-        Cell::Known(number) if (number != 0) != asked => Ok(()),
-        _ => test_jump(setting, point, state, 1),
+    let (_, condition) = cell_under(view, 0)?;
+    cell_under(view, 1)?;
+    match condition.truth() {
+        Some(holds) if holds != asked => Ok(()),
+        _ => test_jump(setting, point, view, 1),
     }
 }
 
 /// Tests the number of a called function, and returns it with the function's body.
-fn test_called(setting: &Setting<'_>, state: &State) -> Result<(i32, u32), Trouble> {
-    let number = number_under(state, 0, Role::Function)?;
+fn test_called(setting: &Setting<'_>, view: View<'_>) -> Result<(i32, u32), Trouble> {
+    let number = number_under(view, 0, Role::Function)?;
     test_index(Role::Function, number, u32::from(setting.limits.functions))?;
-    match body_of(state.functions(), number) {
+    match body_of(view.functions(), number) {
         Some(body) => Ok((number, body)),
         None => Err(Trouble::Undefined { number }),
     }
@@ -71,28 +72,36 @@ fn test_enter(point: &Point<'_>, number: i32, body: u32) -> Result<(), Trouble> 
 }
 
 /// Tests CALL.
-fn test_call(setting: &Setting<'_>, point: &Point<'_>, state: &State) -> Result<(), Trouble> {
-    let (number, body) = test_called(setting, state)?;
+fn test_call(setting: &Setting<'_>, point: &Point<'_>, view: View<'_>) -> Result<(), Trouble> {
+    let (number, body) = test_called(setting, view)?;
     test_enter(point, number, body)
 }
 
 /// Tests LOOPCALL.
-fn test_loop_call(setting: &Setting<'_>, point: &Point<'_>, state: &State) -> Result<(), Trouble> {
-    let (number, body) = test_called(setting, state)?;
-    let turns = number_under(state, 1, Role::Turns)?;
-    if turns > 0 {
+fn test_loop_call(setting: &Setting<'_>, point: &Point<'_>, view: View<'_>) -> Result<(), Trouble> {
+    let (number, body) = test_called(setting, view)?;
+    let (element, turns) = cell_under(view, 1)?;
+    let (low, high) = match turns {
+        Known::Number(turns) => (i64::from(turns), i64::from(turns)),
+        Known::Within(low, high) => (low, high),
+        Known::Nothing => (0, 1),
+    };
+    if low > 0 {
         test_enter(point, number, body)
+    } else if high > 0 {
+        let role = Role::Turns;
+        Err(Trouble::Unknown { element, role })
     } else {
         Ok(())
     }
 }
 
 /// Tests FDEF.
-fn test_definition(setting: &Setting<'_>, state: &State) -> Result<(), Trouble> {
+fn test_definition(setting: &Setting<'_>, view: View<'_>) -> Result<(), Trouble> {
     match setting.kind {
         Kind::Glyph { .. } => Err(Trouble::Other),
         Kind::Font | Kind::Cvt => {
-            let number = number_under(state, 0, Role::Function)?;
+            let number = number_under(view, 0, Role::Function)?;
             test_index(Role::Function, number, u32::from(setting.limits.functions))
         }
     }
@@ -102,20 +111,20 @@ fn test_definition(setting: &Setting<'_>, state: &State) -> Result<(), Trouble> 
 pub(crate) fn test_control(
     setting: &Setting<'_>,
     point: &Point<'_>,
-    state: &State,
+    view: View<'_>,
     operation: Control,
 ) -> Result<(), Trouble> {
     match operation {
         Control::If => {
-            let (_, _) = cell_under(state, 0)?;
+            let (_, _) = cell_under(view, 0)?;
             Ok(())
         }
-        Control::Jump => test_jump(setting, point, state, 0),
-        Control::JumpIfTrue => test_conditional(setting, point, state, true),
-        Control::JumpIfFalse => test_conditional(setting, point, state, false),
-        Control::Call => test_call(setting, point, state),
-        Control::LoopCall => test_loop_call(setting, point, state),
-        Control::FunctionDefinition => test_definition(setting, state),
+        Control::Jump => test_jump(setting, point, view, 0),
+        Control::JumpIfTrue => test_conditional(setting, point, view, true),
+        Control::JumpIfFalse => test_conditional(setting, point, view, false),
+        Control::Call => test_call(setting, point, view),
+        Control::LoopCall => test_loop_call(setting, point, view),
+        Control::FunctionDefinition => test_definition(setting, view),
         Control::Else | Control::EndFunction | Control::InstructionDefinition => {
             Err(Trouble::Other)
         }

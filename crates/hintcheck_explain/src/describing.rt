@@ -1,5 +1,6 @@
 //! The sentence that says why a program is refused, with the numbers of the case.
 
+use crate::element::Element;
 use crate::points::glyph_points;
 use crate::trouble::{Role, Trouble};
 use std::fmt;
@@ -168,6 +169,42 @@ impl fmt::Display for IndexText {
     }
 }
 
+/// Why a number of a range may be no index that the instruction can take.
+#[derive(Clone, Copy)]
+struct RangeText {
+    name: &'static str,
+    element: Element,
+    role: Role,
+    low: i64,
+    high: i64,
+    bound: u32,
+    bounds: Bounds,
+}
+
+impl fmt::Display for RangeText {
+    fn fmt<W: fmt::Write>(&self, f: &mut fmt::Formatter<W>) -> fmt::Result {
+        let name = self.name;
+        let element = self.element;
+        let text = role_text(self.role);
+        let low = self.low;
+        let high = self.high;
+        let bound = self.bound;
+        let reason = BoundText {
+            role: self.role,
+            bounds: self.bounds,
+        };
+        write!(
+            f,
+            "{name} uses {element} as {text}. It may be any from {low} "
+        )?;
+        write!(
+            f,
+            "to {high} here, and it has to be at least 0 and below {bound}: "
+        )?;
+        write!(f, "{reason}.")
+    }
+}
+
 /// Why a number names no zone that the font has.
 #[derive(Clone, Copy)]
 struct ZoneText {
@@ -221,6 +258,24 @@ impl fmt::Display for NumberText {
                     name,
                     role,
                     number,
+                    bound,
+                    bounds: self.bounds,
+                };
+                write!(f, "{text}")
+            }
+            Trouble::Range {
+                element,
+                role,
+                low,
+                high,
+                bound,
+            } => {
+                let text = RangeText {
+                    name,
+                    element,
+                    role,
+                    low,
+                    high,
                     bound,
                     bounds: self.bounds,
                 };
@@ -355,6 +410,7 @@ impl fmt::Display for Why {
                 write!(f, "{text}")
             }
             Trouble::Unknown { .. }
+            | Trouble::Range { .. }
             | Trouble::Index { .. }
             | Trouble::Small { .. }
             | Trouble::Zone { .. } => {

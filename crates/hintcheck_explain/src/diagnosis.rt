@@ -4,7 +4,8 @@ use crate::control::{cells_of_control, test_control};
 use crate::instruction_text::count_of_data;
 use crate::taking::{cell_under, cells_taken, number_under, take_operands, test_uses};
 use crate::trouble::{Role, Trouble};
-use tt_abs::{Point, Setting, State};
+use crate::view::View;
+use tt_abs::{Point, Setting};
 use tt_code::kinds::{Arithmetic, Effect, Row, StackOp};
 use tt_code::{Instr, entry};
 
@@ -39,12 +40,12 @@ pub(crate) fn is_of_one(operation: Arithmetic) -> bool {
 }
 
 /// Returns how many cells an instruction takes and pushes, as far as that is known.
-pub(crate) fn exchange_of(state: &State, instr: &Instr<'_>) -> Exchange {
+pub(crate) fn exchange_of(view: View<'_>, instr: &Instr<'_>) -> Exchange {
     let (takes, pushes) = match entry(instr.code()) {
         Effect::NoEntry => (0, 0),
-        Effect::Plain(row) => (cells_taken(state, row), row.pushes.len()),
+        Effect::Plain(row) => (cells_taken(view, row), row.pushes.len()),
         Effect::Push(push) => (0, count_of_data(*push, instr.data())),
-        Effect::Stack(operation) => return exchange_of_stack(*operation, state.depth()),
+        Effect::Stack(operation) => return exchange_of_stack(*operation, view.depth()),
         Effect::Arithmetic(operation) => (if is_of_one(*operation) { 1 } else { 2 }, 1),
         Effect::Control(operation) => (cells_of_control(*operation), 0),
     };
@@ -52,14 +53,14 @@ pub(crate) fn exchange_of(state: &State, instr: &Instr<'_>) -> Exchange {
 }
 
 /// Tests a plain line.
-fn test_plain(setting: &Setting<'_>, state: &State, row: &Row) -> Result<(), Trouble> {
-    take_operands(setting, state, row)?;
-    test_uses(setting, state, row)
+fn test_plain(setting: &Setting<'_>, view: View<'_>, row: &Row) -> Result<(), Trouble> {
+    take_operands(setting, view, row)?;
+    test_uses(setting, view, row)
 }
 
 /// Tests that this many cells are there.
-fn test_depth(state: &State, takes: usize) -> Result<(), Trouble> {
-    let depth = state.depth();
+fn test_depth(view: View<'_>, takes: usize) -> Result<(), Trouble> {
+    let depth = view.depth();
     if takes <= depth {
         Ok(())
     } else {
@@ -68,12 +69,12 @@ fn test_depth(state: &State, takes: usize) -> Result<(), Trouble> {
 }
 
 /// Tests CINDEX and MINDEX.
-fn test_indexed(state: &State) -> Result<(), Trouble> {
+fn test_indexed(view: View<'_>) -> Result<(), Trouble> {
     let role = Role::StackIndex;
-    let number = number_under(state, 0, role)?;
+    let number = number_under(view, 0, role)?;
     match usize::try_from(number) {
         Ok(under) if under > 0 => {
-            cell_under(state, under)?;
+            cell_under(view, under)?;
             Ok(())
         }
         _ => Err(Trouble::Small {
@@ -85,10 +86,10 @@ fn test_indexed(state: &State) -> Result<(), Trouble> {
 }
 
 /// Tests a stack instruction.
-fn test_stack(state: &State, operation: StackOp) -> Result<(), Trouble> {
+fn test_stack(view: View<'_>, operation: StackOp) -> Result<(), Trouble> {
     match operation {
-        StackOp::CopyIndexed | StackOp::MoveIndexed => test_indexed(state),
-        _ => test_depth(state, exchange_of_stack(operation, state.depth()).takes),
+        StackOp::CopyIndexed | StackOp::MoveIndexed => test_indexed(view),
+        _ => test_depth(view, exchange_of_stack(operation, view.depth()).takes),
     }
 }
 
@@ -96,18 +97,18 @@ fn test_stack(state: &State, operation: StackOp) -> Result<(), Trouble> {
 fn test_before(
     setting: &Setting<'_>,
     point: &Point<'_>,
-    state: &State,
+    view: View<'_>,
     instr: &Instr<'_>,
 ) -> Result<(), Trouble> {
     match entry(instr.code()) {
         Effect::NoEntry => Err(Trouble::Code(instr.code())),
-        Effect::Plain(row) => test_plain(setting, state, row),
+        Effect::Plain(row) => test_plain(setting, view, row),
         Effect::Push(_) => Ok(()),
-        Effect::Stack(operation) => test_stack(state, *operation),
+        Effect::Stack(operation) => test_stack(view, *operation),
         Effect::Arithmetic(operation) => {
-            test_depth(state, if is_of_one(*operation) { 1 } else { 2 })
+            test_depth(view, if is_of_one(*operation) { 1 } else { 2 })
         }
-        Effect::Control(operation) => test_control(setting, point, state, *operation),
+        Effect::Control(operation) => test_control(setting, point, view, *operation),
     }
 }
 
@@ -116,13 +117,13 @@ fn test_before(
 pub(crate) fn trouble_at(
     setting: &Setting<'_>,
     point: &Point<'_>,
-    state: &State,
+    view: View<'_>,
     instr: &Instr<'_>,
 ) -> Trouble {
-    let Exchange { takes, pushes } = exchange_of(state, instr);
-    match test_before(setting, point, state, instr) {
+    let Exchange { takes, pushes } = exchange_of(view, instr);
+    match test_before(setting, point, view, instr) {
         Ok(()) => Trouble::Overflow {
-            depth: state.depth(),
+            depth: view.depth(),
             takes,
             pushes,
         },

@@ -5,12 +5,10 @@ ghost use Rattle.tt_stream.specs.Streams.{CountsPrintFailure};
 use crate::describing::Numbers;
 use crate::diagnosis::{Exchange, exchange_of};
 use crate::instruction_text::name_of;
-use crate::subject::Subject;
+use crate::view::View;
 use std::fmt;
-use tt_abs::State;
 use tt_code::kinds::{Arithmetic, Control, Effect, Operand, Row, StackOp};
 use tt_code::{Instr, entry};
-use tt_family::PointKey;
 use tt_stream::{PrintFailed, Sink};
 
 /// Returns an operand in words.
@@ -87,11 +85,11 @@ struct EffectText {
 }
 
 impl EffectText {
-    /// Makes the text of an instruction at a place with this state.
-    fn of(state: &State, instr: &Instr<'_>) -> EffectText {
+    /// Makes the text of an instruction at a place where this is known.
+    fn of(view: View<'_>, instr: &Instr<'_>) -> EffectText {
         EffectText {
             code: instr.code(),
-            exchange: exchange_of(state, instr),
+            exchange: exchange_of(view, instr),
         }
     }
 }
@@ -115,21 +113,20 @@ impl fmt::Display for EffectText {
     }
 }
 
-/// Prints what the instruction at a point takes and pushes, if one is there.
+/// Prints what the instruction at a place takes and pushes, if one is there.
 ///
 /// # Errors
 /// `Write` exactly where a write failed.
 pub(crate) fn tell_effect<O: Sink>(
-    subject: &Subject<'_>,
-    point: PointKey,
-    state: &State,
+    instruction: Option<Instr<'_>>,
+    view: View<'_>,
     out: &mut O,
 ) -> Result<(), PrintFailed>
     ensures failures { CountsPrintFailure result (O.failures out.old) (O.failures out.new) }
 {
-    match subject.instruction_at(point) {
+    match instruction {
         Some(instruction) => {
-            let effect = EffectText::of(state, &instruction);
+            let effect = EffectText::of(view, &instruction);
             writeln!(out, "What is there: {effect}")
         }
         None => Ok(()),

@@ -8,7 +8,7 @@ use tt_code::Limits;
 use tt_code::kinds::{Pointer, Reference};
 
 /// How many cells of the stack, and of the storage area, are printed.
-const SHOWN_CELLS: usize = 16;
+pub(crate) const SHOWN_CELLS: usize = 16;
 
 /// The cells of the stack, from the top on.
 #[derive(Clone, Copy)]
@@ -34,7 +34,7 @@ impl fmt::Display for StackText<'_> {
 }
 
 /// Returns a zone's name.
-fn zone_name(zone: ZoneCell) -> &'static str {
+pub(crate) fn zone_name(zone: ZoneCell) -> &'static str {
     match zone {
         ZoneCell::Zero => "twilight",
         ZoneCell::One => "glyph",

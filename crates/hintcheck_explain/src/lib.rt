@@ -1,4 +1,5 @@
-//! Explains in words why a program is refused, and what is known at a place of a program.
+//! Explains in words why a program is refused, and what is known at a place of a program: by the strict
+//! profile (`explain`) or by the symbolic one (`explain_symbolic`).
 #![tactic(auto)]
 
 mod accepted;
@@ -13,6 +14,7 @@ mod element;
 mod explaining;
 mod instruction_text;
 mod knowledge;
+mod legend;
 mod listing;
 mod meaning;
 mod origin;
@@ -25,10 +27,17 @@ mod route;
 mod sources;
 mod stepping;
 mod subject;
+mod symbolic;
+mod symbolic_calls;
+mod symbolic_case;
+mod symbolic_knowledge;
+mod symbolic_origin;
 mod taking;
 mod trouble;
 mod unread;
+mod view;
 
 pub use asked::{Asked, ExplainFault, Explained};
 pub use explaining::explain;
+pub use symbolic::{RefusedAt, explain_symbolic};
 pub use unread::explain_unread;

@@ -3,6 +3,11 @@
 use crate::trouble::{Role, Trouble};
 use tt_code::{Reason, ReasonClass};
 
+/// What to do about a number of which the symbolic profile knows a range that is too wide.
+pub(crate) const ADVICE_ON_RANGE: &str = "where the program is right, bring the number into its \
+    range before it is used: by MIN and MAX, or by comparisons with its bounds, on every way that \
+    comes here.";
+
 /// Returns the class of a reason. For `Function` the case tells whether the function's number is
 /// out of range, which is a possible fault, or the function isn't known to be defined.
 pub(crate) fn class_of(reason: Reason, trouble: Trouble) -> ReasonClass {

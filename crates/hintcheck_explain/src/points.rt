@@ -1,6 +1,7 @@
 //! How many points and contours there are for an instruction to name.
 
-use tt_abs::{Kind, Setting, State, ZoneCell};
+use crate::view::View;
+use tt_abs::{Kind, Setting, ZoneCell};
 use tt_code::kinds::{Pointer, Within};
 
 /// How many phantom points a glyph has besides its own.
@@ -27,22 +28,22 @@ fn points_in(setting: &Setting<'_>, zone: ZoneCell) -> u32 {
 }
 
 /// Returns how many points the zone of a pointer has at least.
-pub(crate) fn points_of(setting: &Setting<'_>, state: &State, pointer: Pointer) -> u32 {
-    points_in(setting, state.zone_pointer(pointer))
+pub(crate) fn points_of(setting: &Setting<'_>, view: View<'_>, pointer: Pointer) -> u32 {
+    points_in(setting, view.zone(pointer))
 }
 
 /// Returns how many points there are in the smallest of the zones in which a point number is
 /// tested.
-pub(crate) fn points_within(setting: &Setting<'_>, state: &State, within: Within) -> u32 {
+pub(crate) fn points_within(setting: &Setting<'_>, view: View<'_>, within: Within) -> u32 {
     match within {
-        Within::In(first) => points_of(setting, state, first),
+        Within::In(first) => points_of(setting, view, first),
         Within::Both(first, second) => {
-            let points = points_of(setting, state, first);
-            points.min(points_of(setting, state, second))
+            let points = points_of(setting, view, first);
+            points.min(points_of(setting, view, second))
         }
         Within::GlyphAnd(first) => {
             let points = glyph_points(setting);
-            points.min(points_of(setting, state, first))
+            points.min(points_of(setting, view, first))
         }
     }
 }

@@ -9,6 +9,7 @@ use crate::effect_text::tell_effect;
 use crate::knowledge::Knowledge;
 use crate::place::{Place, program_at};
 use crate::subject::Subject;
+use crate::view::View;
 use std::alloc::Global;
 use tt_abs::State;
 use tt_family::PointKey;
@@ -35,7 +36,7 @@ fn tell_context<O: Sink>(
         functions: state.functions(),
     };
     let knowledge = Knowledge::of(subject.setting, state);
-    tell_effect(subject, point, state, out)?;
+    tell_effect(subject.instruction_at(point), View::Strict(state), out)?;
     writeln!(out, "{calls}")?;
     writeln!(out, "{knowledge}")?;
     Ok(())

@@ -20,6 +20,7 @@ use crate::route::{Route, branches_to};
 use crate::stepping::{Outcome, outcome_at};
 use crate::subject::Subject;
 use crate::trouble::Trouble;
+use crate::view::View;
 use std::alloc::{AllocError, Global};
 use tt_abs::{Point, Spot, State};
 use tt_code::{Frame, Reason};
@@ -56,7 +57,8 @@ fn trouble_of(
                 frames,
                 offset: point.1,
             };
-            Ok(Some(trouble_at(subject.setting, &at, state, &instruction)))
+            let view = View::Strict(state);
+            Ok(Some(trouble_at(subject.setting, &at, view, &instruction)))
         }
         Outcome::Goes { .. } if reason == Reason::TooManyContexts => Ok(Some(Trouble::Other)),
         _ => Ok(None),
@@ -227,7 +229,8 @@ fn tell_case<O: Sink>(
         Some(case) => {
             let name = subject.name_at(case.point);
             tell_reason(subject, name, reason, case.trouble, out)?;
-            tell_effect(subject, case.point, case.state, out)?;
+            let view = View::Strict(case.state);
+            tell_effect(subject.instruction_at(case.point), view, out)?;
             tell_origin(alloc, subject, edges, case, out)?;
             tell_knowledge(subject, edges, case, out)?;
             tell_routes(alloc, subject, edges, case, out)

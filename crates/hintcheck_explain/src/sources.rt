@@ -3,6 +3,7 @@
 use crate::diagnosis::{exchange_of, is_of_one};
 use crate::element::Element;
 use crate::taking::place_under;
+use crate::view::View;
 use tt_abs::{Cell, State};
 use tt_code::kinds::{Arithmetic, Effect, Pushed, Row, Source as Register, StackOp, Update};
 use tt_code::{Instr, entry};
@@ -99,7 +100,7 @@ fn source_of_pushed(state: &State, row: &Row, index: usize) -> Source {
 
 /// Returns where a number on the stack, above this many others, comes from.
 fn source_on_stack(state: &State, instr: &Instr<'_>, place: usize) -> Source {
-    let exchange = exchange_of(state, instr);
+    let exchange = exchange_of(View::Strict(state), instr);
     let left = state.depth().saturating_sub(exchange.takes);
     let depth_after = left.saturating_add(exchange.pushes);
     let effect = entry(instr.code());

@@ -58,6 +58,14 @@ pub(crate) enum Trouble {
         element: Element,
         role: Role,
     },
+    /// The number has to be below the bound, and not below 0. It may be any from `low` to `high`.
+    Range {
+        element: Element,
+        role: Role,
+        low: i64,
+        high: i64,
+        bound: u32,
+    },
     /// The number has to be below the bound, and not below 0.
     Index {
         role: Role,

@@ -107,6 +107,10 @@ scan_symbolic_rule : IsFlagRule scan_built.rules (codes "SYMBOLIC") (rule_at sca
 unfolding hintcheck scan_built rule_at clap_on_literals
 scan_symbolic_rule = record { found = refl; named = refl; parser = refl }
 
+explain_symbolic_rule : IsFlagRule explain_built.rules (codes "SYMBOLIC") (rule_at explain_built (codes "SYMBOLIC"))
+unfolding hintcheck explain_built rule_at clap_on_literals
+explain_symbolic_rule = record { found = refl; named = refl; parser = refl }
+
 offset_rule : IsNumberRule explain_built.rules 4294967295 (codes "OFFSET") (rule_at explain_built (codes "OFFSET"))
 unfolding hintcheck explain_built rule_at clap_on_literals
 offset_rule = record { found = refl; named = refl; parser = refl }
@@ -169,6 +173,9 @@ meets_one words name rows e found =
       profile_of_scan = λ scan.
           let at_scan = level_at (built hintcheck) name (codes "scan") rows scan_built named scan scan_found in
           flag_among scan_built rows (codes "SYMBOLIC") (rule_at scan_built (codes "SYMBOLIC")) at_scan scan_symbolic_rule;
+      profile_of_explain = λ explain.
+          let at_explain = level_at (built hintcheck) name (codes "explain") rows explain_built named explain explain_found in
+          flag_among explain_built rows (codes "SYMBOLIC") (rule_at explain_built (codes "SYMBOLIC")) at_explain explain_symbolic_rule;
     }
 
 pub fault_is : (a : App) (words : List Text) → a ≡ hintcheck → (is_simple_and_free a ≡ true → fault_of a words ≡ []) → fault_of hintcheck words ≡ []

@@ -2,7 +2,7 @@
 --     hintcheck bare [--symbolic] MAXP CVT POINTS CONTOURS [PROGRAM]
 --     hintcheck verdict [--symbolic] [--points POINTS] FONT
 --     hintcheck scan [--symbolic] [--points POINTS] FONT..
---     hintcheck explain FONT PROGRAM [OFFSET]
+--     hintcheck explain [--symbolic] FONT PROGRAM [OFFSET]
 --     hintcheck find [--points POINTS] FONT CERT
 --     hintcheck check [--points POINTS] FONT CERT
 --     hintcheck list FONT PROGRAM
@@ -81,8 +81,8 @@ scan = with_rule (with_rule (with_rule (new_app (codes "scan"))
 
 -- the subcommand `explain`, which tells how one program is checked
 abbrev pub explain : App
-explain = with_rule (with_rule (with_rule (new_app (codes "explain"))
-    (needed (codes "FONT"))) (needed (codes "PROGRAM"))) (optional_number (codes "OFFSET"))
+explain = with_rule (with_rule (with_rule (with_rule (new_app (codes "explain"))
+    (needed (codes "FONT"))) (needed (codes "PROGRAM"))) (optional_number (codes "OFFSET"))) symbolic
 
 -- the subcommand `find`, which writes the certificate of a font file
 abbrev pub find : App

@@ -28,7 +28,7 @@ pub data Request : Type 0 where
   bare : Text → ℕ → ℕ → ℕ → Option Text → Profile → Request
   verdict : Text → Option ℕ → Profile → Request
   scan : List Text → Option ℕ → Profile → Request
-  explain : Text → Text → Option ℕ → Request
+  explain : Text → Text → Option ℕ → Profile → Request
   find : Text → Text → Option ℕ → Request
   check : Text → Text → Option ℕ → Request
   list : Text → Text → Request
@@ -101,7 +101,7 @@ bare_request rows =
 -- what `explain` asks for, by what its arguments got
 unfoldable pub explain_request : List Row → Request
 explain_request rows = explain (text_in rows (codes "FONT")) (text_in rows (codes "PROGRAM"))
-    (optional_number_in rows (codes "OFFSET"))
+    (optional_number_in rows (codes "OFFSET")) (profile_in rows)
 
 -- what `verdict` asks for, by what its arguments got
 unfoldable pub verdict_request : List Row → Request
@@ -185,6 +185,7 @@ pub record IsReadable (found : Text × List Row) : Type 0 where
   pub profile_of_bare : found.0 ≡ codes "bare" → HasProfile found.1
   pub profile_of_verdict : found.0 ≡ codes "verdict" → HasProfile found.1
   pub profile_of_scan : found.0 ≡ codes "scan" → HasProfile found.1
+  pub profile_of_explain : found.0 ≡ codes "explain" → HasProfile found.1
 
 -- there is a subcommand, it asks for something, and its numbers and its profile can be read
 abbrev pub MeetsSubcommand : Option (Text × List Row) → Type 0
@@ -197,8 +198,8 @@ asked (task.Bare maxp cvt points contours program profile) =
 asked (task.Verdict font budget profile) = verdict (string_bytes font) budget profile
 asked (task.Scan fonts budget profile) =
     scan (map (λ s. string_bytes s) fonts.items) budget profile
-asked (task.Explain font program offset) =
-    explain (string_bytes font) (string_bytes program) offset
+asked (task.Explain font program offset profile) =
+    explain (string_bytes font) (string_bytes program) offset profile
 asked (task.Find font certificate budget) =
     find (string_bytes font) (string_bytes certificate) budget
 asked (task.Check font certificate budget) =

@@ -63,6 +63,8 @@ pub enum Task {
         program: String,
         /// At which of its offsets; None where it is left out.
         offset: Option<u32>,
+        /// By which profile it is checked.
+        profile: Profile,
     },
     /// Writes the certificate of a font file to another file.
     Find {
@@ -355,7 +357,8 @@ fn explain_command<'a>(alloc: Global) -> Result<Command<'a>, AllocError>
     plain_command(alloc, EXPLAIN)
         .arg(needed(alloc, font, font_help))?
         .arg(needed(alloc, program, program_help))?
-        .arg(offset_argument(alloc))
+        .arg(offset_argument(alloc))?
+        .arg(symbolic_option(alloc))
 }
 
 /// Makes the command line with its eight subcommands.
@@ -483,13 +486,15 @@ fn bare_task(alloc: Global, values: &ArgMatches<'_>) -> Result<Task, AllocError>
 /// # Errors
 /// If memory runs out.
 fn explain_task(alloc: Global, values: &ArgMatches<'_>) -> Result<Task, AllocError>
-    requires { HasOffset (rows_in values.now) }
+    requires offset { HasOffset (rows_in values.now) }
+    requires profile { HasProfile (rows_in values.now) }
     ensures { IfOk result (λ t. asked t ≡ explain_request (rows_in values.now)) }
 {
     Ok(Task::Explain {
         font: text(alloc, values, "FONT")?,
         program: text(alloc, values, "PROGRAM")?,
         offset: optional_number(values, "OFFSET"),
+        profile: asked_profile(values),
     })
 }
 

@@ -2,6 +2,7 @@
 
 use crate::boxes::{Area, Symbols, is_wide, listed_near};
 use crate::cell_names::{CellName, Part};
+use crate::origin_notes::{Meeting, Point};
 use crate::origins::{NOWHERE, OriginNumber, Origins};
 use crate::thresholds::{End, GREATEST, LEAST, widened};
 use crate::track::Track;
@@ -35,12 +36,17 @@ impl Merges {
         self.dropped.get(&part).copied().unwrap_or(NOWHERE)
     }
 
-    /// Notes that a merge drops an entry that was a known number.
-    fn note_dropped(&mut self, name: CellName) -> Result<(), AllocError> {
+    /// Notes that a merge at a point drops an entry that was a known number.
+    fn note_dropped(&mut self, name: CellName, cell: Cell, at: Point) -> Result<(), AllocError> {
         let before = self.dropped_origin(name.part);
         let origin = self.origins.merged(name, true, before, NOWHERE)?;
         self.dropped.insert(name.part, origin)?;
-        Ok(())
+        let meeting = Meeting {
+            at,
+            first: Some(cell.offset),
+            second: None,
+        };
+        self.origins.note_meeting(origin, meeting)
     }
 }
 
@@ -204,7 +210,16 @@ impl Blending<'_> {
             return merges.origins.computed(theirs, own);
         }
         let lost_number = old.factor == 0 && mine.factor == 0;
-        merges.origins.merged(name, lost_number, theirs, own)
+        let origin = merges.origins.merged(name, lost_number, theirs, own)?;
+        if merges.origins.has_notes() {
+            let meeting = Meeting {
+                at: Point::of(&self.old.state),
+                first: number(old, self.old.state.ranges.as_slice()),
+                second: number(mine, self.mine.ranges.as_slice()),
+            };
+            merges.origins.note_meeting(origin, meeting)?;
+        }
+        Ok(origin)
     }
 
     /// Merges what is left of the calls.
@@ -269,7 +284,7 @@ impl Blending<'_> {
         name: CellName,
     ) -> Result<Option<Cell>, AllocError> {
         let Some(old) = old else {
-            drop_entry(merges, name, mine)?;
+            drop_entry(merges, name, mine, Point::of(&self.old.state))?;
             return Ok(None);
         };
         let cell = self.cell(merges, old, mine, name)?;
@@ -296,10 +311,15 @@ struct Change {
     cell: Option<Cell>,
 }
 
-/// Notes that an entry is dropped which only one of the states lists.
-fn drop_entry(merges: &mut Merges, name: CellName, cell: Cell) -> Result<(), AllocError> {
+/// Notes that an entry is dropped at a point which only one of the states lists.
+fn drop_entry(
+    merges: &mut Merges,
+    name: CellName,
+    cell: Cell,
+    at: Point,
+) -> Result<(), AllocError> {
     if cell.factor == 0 {
-        merges.note_dropped(name)?;
+        merges.note_dropped(name, cell, at)?;
     }
     Ok(())
 }
@@ -314,7 +334,8 @@ fn drop_old_entries(
 ) -> Result<(), AllocError> {
     for (place, entry) in theirs.as_slice().iter().enumerate() {
         if listed_near(mine, place, entry.0).is_none() {
-            drop_entry(merges, track.name(part_of(area, entry.0)), entry.1)?;
+            let name = track.name(part_of(area, entry.0));
+            drop_entry(merges, name, entry.1, Point::of(&track.state))?;
         }
     }
     Ok(())

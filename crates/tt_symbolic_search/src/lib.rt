@@ -11,6 +11,9 @@
 //! 3. `find` for each glyph program, then `check`. Where `find` answers `KeptEntry`, the program
 //!    writes entries that the starts list; these are left out from then on, so that all glyph
 //!    programs are taken up again from new starts.
+//!
+//! Who explains an answer calls `ask` before `find` and `take_insight` after it. What is found is the
+//! same whether it is asked or not.
 #![tactic(auto)]
 
 mod arrivals;
@@ -19,7 +22,9 @@ mod blending;
 mod boxes;
 mod cell_names;
 mod inclusion;
+pub mod insight;
 mod marks;
+mod origin_notes;
 mod origins;
 mod run;
 pub mod search;
@@ -31,4 +36,5 @@ mod track;
 mod waiting;
 mod writes;
 
+pub use insight::{Insight, KnownState, Question, Source};
 pub use search::{Found, Search, USUAL_SEARCH};

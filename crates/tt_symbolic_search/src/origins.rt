@@ -1,16 +1,32 @@
 //! Where symbols come from: which merges made them. A merge that lost a number which a later
-//! instruction needs is found from the symbol of its operand.
+//! instruction needs is found from the symbol of its operand. Where a refusal is to be explained, it
+//! is noted beside that where the merges were, and which instructions made the other symbols.
 
 use crate::cell_names::CellName;
+use crate::insight::Source;
+use crate::origin_notes::{FIRST_MAKER, Meeting, Notes, Point};
 use std::alloc::{AllocError, Global};
 use std::collections::HashMap;
 use tt_symbolic_state::cell::Cell;
 
-/// The number of an origin; `NOWHERE` is that of symbols that no merge made.
+/// The number of an origin; `NOWHERE` is that of symbols that no merge made. Those from
+/// `FIRST_MAKER` on are of symbols that an instruction made.
 pub(crate) type OriginNumber = u32;
 
 /// No merge.
 pub(crate) const NOWHERE: OriginNumber = 0;
+
+/// How many origins are looked at for where one symbol comes from, at most.
+const MOST_LOOKS: usize = 1000;
+
+/// Returns the origin, if merges made it, and otherwise `NOWHERE`.
+pub(crate) fn of_merges(origin: OriginNumber) -> OriginNumber {
+    if origin < FIRST_MAKER {
+        origin
+    } else {
+        NOWHERE
+    }
+}
 
 /// Returns the origin of a cell's symbol among those of all symbols.
 pub(crate) fn origin_in(origins: &[OriginNumber], cell: Cell) -> OriginNumber {
@@ -43,6 +59,8 @@ pub(crate) struct Origins {
     list: Vec<Origin>,
     /// Their numbers.
     numbers: HashMap<Origin, OriginNumber>,
+    /// What is noted to explain a refusal; nothing where none is to be explained.
+    notes: Option<Notes>,
 }
 
 /// Which merges are looked for.
@@ -72,6 +90,7 @@ impl Origins {
         Origins {
             list: Vec::new(alloc),
             numbers: HashMap::new(alloc),
+            notes: None,
         }
     }
 
@@ -79,6 +98,12 @@ impl Origins {
     pub(crate) fn clear(&mut self) {
         self.list.clear();
         self.numbers.clear();
+        self.notes = None;
+    }
+
+    /// Notes from now on what explains a refusal.
+    pub(crate) fn take_notes(&mut self, alloc: Global) {
+        self.notes = Some(Notes::new(alloc));
     }
 
     /// Returns an origin.
@@ -94,6 +119,9 @@ impl Origins {
         }
         self.list.push(origin)?;
         let number = u32::try_from(self.list.len()).map_err(|_| AllocError)?;
+        if number >= FIRST_MAKER {
+            return Err(AllocError);
+        }
         self.numbers.insert(origin, number)?;
         Ok(number)
     }
@@ -104,8 +132,11 @@ impl Origins {
         first: OriginNumber,
         second: OriginNumber,
     ) -> Result<OriginNumber, AllocError> {
-        let low = first.min(second);
-        let high = first.max(second);
+        let low = of_merges(first).min(of_merges(second));
+        let high = of_merges(first).max(of_merges(second));
+        if high == NOWHERE {
+            return Ok(first.max(second));
+        }
         if low == NOWHERE || low == high {
             return Ok(high);
         }
@@ -125,8 +156,8 @@ impl Origins {
         first: OriginNumber,
         second: OriginNumber,
     ) -> Result<OriginNumber, AllocError> {
-        let low = first.min(second);
-        let high = first.max(second);
+        let low = of_merges(first).min(of_merges(second));
+        let high = of_merges(first).max(of_merges(second));
         if low == NOWHERE || low == high {
             if let Some(origin) = self.get(high) {
                 if origin.merged == Some(name) {
@@ -140,6 +171,90 @@ impl Origins {
             first: low,
             second: high,
         })
+    }
+
+    /// Whether notes are taken.
+    pub(crate) fn has_notes(&self) -> bool {
+        self.notes.is_some()
+    }
+
+    /// Notes the merge that an origin names, if notes are taken.
+    pub(crate) fn note_meeting(
+        &mut self,
+        origin: OriginNumber,
+        meeting: Meeting,
+    ) -> Result<(), AllocError> {
+        match &mut self.notes {
+            Some(notes) => notes.note_meeting(origin, meeting),
+            None => Ok(()),
+        }
+    }
+
+    /// Returns the origin of a symbol that the instruction at a point made: that of what it was
+    /// computed from, if there is one, and otherwise the instruction, if notes are taken.
+    pub(crate) fn made(
+        &mut self,
+        computed: OriginNumber,
+        at: Point,
+    ) -> Result<OriginNumber, AllocError> {
+        match &mut self.notes {
+            Some(notes) if computed == NOWHERE => notes.maker(at),
+            _ => Ok(computed),
+        }
+    }
+
+    /// Returns the nearest noted merge from which a symbol of this origin comes, if one of those
+    /// that are looked for is found.
+    fn meeting(
+        &self,
+        alloc: Global,
+        notes: &Notes,
+        from: OriginNumber,
+        wanted: Wanted,
+    ) -> Result<Option<Meeting>, AllocError> {
+        let mut queue = Vec::new(alloc);
+        queue.push(from)?;
+        for index in 0..MOST_LOOKS {
+            let Some(number) = queue.get(index).copied() else {
+                break;
+            };
+            let Some(origin) = self.get(number) else {
+                continue;
+            };
+            let meeting = notes.meeting(number);
+            if meeting.is_some() && (wanted == Wanted::Any || origin.lost_number) {
+                return Ok(meeting);
+            }
+            queue.push(origin.first)?;
+            queue.push(origin.second)?;
+        }
+        Ok(None)
+    }
+
+    /// Returns where a symbol of this origin comes from, as far as it was noted.
+    ///
+    /// # Errors
+    /// If memory runs out.
+    pub(crate) fn source(&self, alloc: Global, from: OriginNumber) -> Result<Source, AllocError> {
+        if from == NOWHERE {
+            return Ok(Source::Start);
+        }
+        let Some(notes) = &self.notes else {
+            return Ok(Source::Lost);
+        };
+        if let Some(at) = notes.made_at(from) {
+            return Ok(Source::Made(at.place()));
+        }
+        for wanted in [Wanted::LostNumbers, Wanted::Any] {
+            if let Some(meeting) = self.meeting(alloc, notes, from, wanted)? {
+                return Ok(Source::Met {
+                    at: meeting.at.place(),
+                    first: meeting.first,
+                    second: meeting.second,
+                });
+            }
+        }
+        Ok(Source::Lost)
     }
 
     /// Returns the cell that an origin names, if its merge is one that is looked for and the cell

@@ -6,14 +6,16 @@ use crate::blame::culprits;
 use crate::blending::Merges;
 use crate::boxes::{Sharing, rename};
 use crate::cell_names::CellName;
+use crate::insight::{Insight, KnownState, Question};
 use crate::marks::Marks;
-use crate::origins::NOWHERE;
+use crate::origins::{NOWHERE, Origins, of_merges};
 use crate::signature::{Functions, signature};
 use crate::stepping::{Before, Led, step_on};
 use crate::track::Track;
 use crate::writes::Writes;
 use std::alloc::{AllocError, Global};
-use tt_abs::{Kind, Setting};
+use std::mem;
+use tt_abs::{Kind, Setting, Spot};
 use tt_code::Reason;
 use tt_symbolic::kept::Kept;
 use tt_symbolic::step::code_at;
@@ -32,6 +34,9 @@ const MOST_SPLITS: u32 = 4096;
 /// How many symbols a state may have besides two for each element of the stack, until those that no
 /// cell has are left out.
 const MOST_SPARE_SYMBOLS: usize = 256;
+
+/// How many of the states are kept that come to an offset which is asked for.
+const MOST_SEEN: usize = 16;
 
 /// The code of EIF.
 const EIF: u8 = 0x59;
@@ -57,6 +62,8 @@ pub(crate) struct Task<'a> {
     pub most_steps: u64,
     /// Whether the functions of states are told apart.
     pub functions: Functions,
+    /// What is asked, if the answer is to be explained.
+    pub question: Option<Question>,
 }
 
 /// The state that is carried on.
@@ -82,6 +89,14 @@ pub(crate) struct Run {
     pub first_write: Option<Place>,
     /// How many steps were made: never more than it may make.
     pub steps: u64,
+    /// How many elements the stack had at most.
+    depth: usize,
+    /// The state before its last step, where the answer is to be explained.
+    last: Option<Box<Track>>,
+    /// The first states that came to the offset that is asked for.
+    seen: Vec<Box<Track>>,
+    /// Whether more states came there.
+    has_more: bool,
 }
 
 /// Makes the stop of a run without cells to blame.
@@ -139,6 +154,10 @@ impl Run {
             before: Before::new(alloc),
             first_write: None,
             steps: 0,
+            depth: 0,
+            last: None,
+            seen: Vec::new(alloc),
+            has_more: false,
         })
     }
 
@@ -230,7 +249,7 @@ impl Run {
                 return Ok(());
             };
             let origin = track.origins.get(split.symbol as usize).copied();
-            track.note_split(origin.unwrap_or(NOWHERE))?;
+            track.note_split(of_merges(origin.unwrap_or(NOWHERE)))?;
             let mut upper = self.arrivals.copied(task.alloc, track)?;
             raise(&mut upper.state, split);
             lower(&mut track.state, split);
@@ -281,6 +300,60 @@ impl Run {
         })
     }
 
+    /// Keeps the state before its step, as far as an explanation needs it.
+    fn keep(&mut self, task: &Task<'_>, track: &Track) -> Result<(), AllocError> {
+        let Some(question) = task.question else {
+            return Ok(());
+        };
+        let place = Place::of(&track.state);
+        if place.spot == Spot::Main && question.offset == Some(place.offset) {
+            self.see(task.alloc, track)?;
+        }
+        match &mut self.last {
+            Some(last) => last.copy_from(task.alloc, track),
+            None => {
+                self.last = Some(Box::new(task.alloc, track.copied(task.alloc)?)?);
+                Ok(())
+            }
+        }
+    }
+
+    /// Keeps a state that came to the offset that is asked for, if not many did before.
+    fn see(&mut self, alloc: Global, track: &Track) -> Result<(), AllocError> {
+        if self.seen.len() >= MOST_SEEN {
+            self.has_more = true;
+            return Ok(());
+        }
+        self.seen.push(Box::new(alloc, track.copied(alloc)?)?)?;
+        Ok(())
+    }
+
+    /// Takes out what is told of the run to explain it: also of the last state, if that was refused.
+    pub(crate) fn insight(
+        &mut self,
+        alloc: Global,
+        origins: &Origins,
+        is_refused: bool,
+    ) -> Result<Insight, AllocError> {
+        let mut seen = Vec::new(alloc);
+        for track in mem::replace(&mut self.seen, Vec::new(alloc)) {
+            seen.push(KnownState::of(alloc, origins, track)?)?;
+        }
+        let refused = match self.last.take() {
+            Some(track) if is_refused => Some(KnownState::of(alloc, origins, track)?),
+            _ => None,
+        };
+        Ok(Insight {
+            steps: self.steps,
+            depth: self.depth,
+            listed: 0,
+            checked: 0,
+            refused,
+            seen,
+            has_more: self.has_more,
+        })
+    }
+
     /// Makes a step of the state, by the instruction of this code.
     fn step(
         &mut self,
@@ -291,6 +364,8 @@ impl Run {
         code: Option<u8>,
     ) -> Result<(), Stop> {
         let place = Place::of(&way.track.state);
+        self.keep(task, &way.track)
+            .map_err(|error| out_of_memory(task, error))?;
         let track = &mut way.track;
         let Some(code) = code else {
             let refusal = StepRefusal::Refused(Reason::Target);
@@ -310,7 +385,10 @@ impl Run {
             &mut self.before,
         );
         match done {
-            Ok(led) => way.led = led,
+            Ok(led) => {
+                way.led = led;
+                self.depth = self.depth.max(way.track.state.stack.len());
+            }
             Err(refusal) => {
                 let explained = self.explained(task, merges, &way.track, place, refusal);
                 return Err(explained.unwrap_or_else(|error| {

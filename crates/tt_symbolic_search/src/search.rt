@@ -2,6 +2,7 @@
 
 use crate::blending::Merges;
 use crate::cell_names::CellName;
+use crate::insight::{Insight, Question};
 use crate::origins::Origins;
 use crate::run::{Run, Stop, Task, make_stop, out_of_memory, told_functions};
 use crate::starts;
@@ -59,6 +60,10 @@ pub struct Search {
     widest: i64,
     /// How many steps were made for all programs.
     steps: u64,
+    /// What is asked, if answers are to be explained.
+    question: Option<Question>,
+    /// What is told of the last trial to explain its answer.
+    insight: Option<Insight>,
 }
 
 /// What is searched for a program.
@@ -86,7 +91,20 @@ impl Search {
             writes: Writes::new(alloc),
             widest: 0,
             steps: 0,
+            question: None,
+            insight: None,
         }
+    }
+
+    /// Asks that the answers of `find` be explained from now on, or no longer.
+    pub fn ask(&mut self, question: Option<Question>) {
+        self.question = question;
+    }
+
+    /// Takes what the last trial tells of the program that was searched last while it was asked.
+    /// There is nothing where that met the budget.
+    pub fn take_insight(&mut self) -> Option<Insight> {
+        self.insight.take()
     }
 
     /// Returns how many steps the search has made so far, for all programs together.
@@ -155,6 +173,29 @@ impl Search {
     fn begin_run(&mut self) {
         self.merges.origins.clear();
         self.merges.dropped.clear();
+        if self.question.is_some() {
+            self.merges.origins.take_notes(self.alloc);
+        }
+    }
+
+    /// Notes what a run tells, where its answer is to be explained.
+    fn note_run(&mut self, run: &mut Run, stop: Option<&Stop>) -> Result<(), AllocError> {
+        if self.question.is_some() {
+            let is_refused = stop.is_some() && run.first_write.is_none();
+            let insight = run.insight(self.alloc, &self.merges.origins, is_refused)?;
+            self.insight = Some(insight);
+        }
+        Ok(())
+    }
+
+    /// Notes what was found, where that is to be explained.
+    fn note_found(&mut self, found: &Found) {
+        if let Some(insight) = &mut self.insight {
+            if self.question.is_some() {
+                insight.listed = found.listed.len();
+                insight.checked = found.effort.steps;
+            }
+        }
     }
 
     /// Searches once. Returns what was found; nothing, where more was learnt.
@@ -164,21 +205,29 @@ impl Search {
         before: u64,
     ) -> Result<Option<Found>, CheckRefusal> {
         self.begin_run();
-        let (run, stop) = self.run(trial, before)?;
+        if self.question.is_some() {
+            self.insight = None;
+        }
+        let (mut run, stop) = self.run(trial, before)?;
+        self.note_run(&mut run, stop.as_ref())?;
         if let Some(place) = run.first_write {
             return Err(place.refused(StepRefusal::KeptEntry));
         }
         match stop {
-            None => Ok(Some(Found {
-                effort: Effort {
-                    steps: run
-                        .steps
-                        .saturating_mul(CHECKED_AGAIN)
-                        .saturating_add(MORE_CHECKED),
-                    ..trial.effort
-                },
-                listed: run.arrivals.into_listed(self.alloc)?,
-            })),
+            None => {
+                let found = Found {
+                    effort: Effort {
+                        steps: run
+                            .steps
+                            .saturating_mul(CHECKED_AGAIN)
+                            .saturating_add(MORE_CHECKED),
+                        ..trial.effort
+                    },
+                    listed: run.arrivals.into_listed(self.alloc)?,
+                };
+                self.note_found(&found);
+                Ok(Some(found))
+            }
             Some(stop) => {
                 self.learn(trial, stop)?;
                 Ok(None)
@@ -200,6 +249,7 @@ impl Search {
             widest_compared: trial.effort.widest_compared,
             most_steps: trial.effort.steps.saturating_sub(used),
             functions: told_functions(trial.setting, trial.starts),
+            question: self.question,
         };
         let mut run = Run::begin(&task, trial.starts)?;
         let stop = run_on(&mut run, &task, &mut self.merges, &mut self.writes);

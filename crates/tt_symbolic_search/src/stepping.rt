@@ -2,6 +2,7 @@
 
 use crate::blending::{Merges, part_of};
 use crate::boxes::Area;
+use crate::origin_notes::Point;
 use crate::origins::{NOWHERE, OriginNumber};
 use crate::track::Track;
 use std::alloc::{AllocError, Global};
@@ -237,15 +238,18 @@ pub(crate) fn step_on(
     before.note(track, effect)?;
     let origin = origin_of_result(merges, track, code, effect)?;
     let depth = track.state.calls.len();
-    let offset = track.state.offset;
+    let at = Point::of(&track.state);
     step(setting, &mut track.state)?;
     let symbols = track.state.ranges.len();
-    track.origins.resize(symbols, origin)?;
+    if symbols > track.origins.len() {
+        let made = merges.origins.made(origin, at)?;
+        track.origins.resize(symbols, made)?;
+    }
     let height = track.state.stack.len();
     let put = put_count(track, before);
     track.touch(height.saturating_sub(put));
     match effect {
-        Effect::Control(control) => Ok(follow(alloc, track, *control, depth, offset)?),
+        Effect::Control(control) => Ok(follow(alloc, track, *control, depth, at.offset)?),
         _ => Ok(Led::On),
     }
 }

@@ -1,0 +1,218 @@
+//! One program of a font, explained by the symbolic profile.
+
+ghost use Rattle.std.specs.Prelude.{◌≡◌, ◌≤◌, ◌<◌, ◌^◌, IfErr, IfOk, OnOk, length};
+ghost use Rattle.hintcheck.specs.Commands.{TellsFailure};
+ghost use Rattle.hintcheck.specs.CommandFaults.{IsFaultOfExplaining, IsFaultOfLines};
+ghost use Rattle.hintcheck.specs.Explanations.{HoldPlace};
+ghost use Rattle.hintcheck.specs.FontPrograms.{IsFontInRange};
+ghost use Rattle.hintcheck.specs.SymbolicExplanations.{HoldSymbolicAcceptedProgram, HoldSymbolicRefusedProgram, TellsSymbolicProgram, first_against, keeps_from as keeps_from_it};
+
+use crate::asked_offset::check_offset;
+use crate::bare_program::empty_program;
+use crate::commands::faults::CommandFault;
+use crate::explanation::{ACCEPTED, REFUSED, explain_uncut, tell_unchecked};
+use crate::font::read_font;
+use crate::instruction_list::{Named, named_program};
+use crate::program::cut;
+use crate::report::{Name, Refused};
+use crate::symbolic_check::SymbolicCheck;
+use crate::symbolic_verdict::{USUAL_STEPS, refused_programs};
+use hintcheck_explain::{Asked, RefusedAt, explain_symbolic};
+use std::alloc::{AllocError, Global};
+use tt_abs::{Kind, Refusal, Setting};
+use tt_code::Program;
+use tt_font::Font;
+use tt_stream::Sink;
+use tt_symbolic_search::Insight;
+
+/// Whether the second program isn't accepted where the first one is refused: it is the same, or it
+/// isn't checked, since the first one is the font program or the CVT program before it.
+fn keeps_from(refused: Name, called: Name) -> bool
+    ensures { result ≡ keeps_from_it refused called }
+{
+    match refused {
+        Name::Font => true,
+        Name::Cvt => match called {
+            Name::Font => false,
+            _ => true,
+        },
+        Name::Glyph(id) => match called {
+            Name::Glyph(other) => id == other,
+            _ => false,
+        },
+    }
+}
+
+/// Returns the first of the refused programs because of which the program of this name isn't
+/// accepted, if there is one.
+fn refused_against(refused: &[Refused], called: Name) -> Option<Refused>
+    ensures { result ≡ first_against called refused.now }
+{
+    refused
+        .iter()
+        .copied()
+        .find(|one| keeps_from(one.program, called))
+}
+
+/// Returns what kind of program the font's one of this name is.
+fn kind_of(font: &Font<'_>, called: Name) -> Kind {
+    match called {
+        Name::Font => Kind::Font,
+        Name::Cvt => Kind::Cvt,
+        Name::Glyph(id) => match font.glyph(id) {
+            Some(glyph) => Kind::Glyph {
+                points: glyph.points,
+                contours: glyph.contours,
+            },
+            None => Kind::Glyph {
+                points: 0,
+                contours: 0,
+            },
+        },
+    }
+}
+
+/// Cuts a program that others call, which has no instructions if it can't be cut.
+///
+/// # Errors
+/// `OutOfMemory`.
+fn cut_before<'a>(alloc: Global, bytes: &'a [u8]) -> Result<Program<'a>, CommandFault>
+    requires { length bytes.now < 2 ^ 31 }
+    ensures { IfErr result (λ fault. fault ≡ CommandFault.OutOfMemory) }
+{
+    match cut(alloc, bytes) {
+        Ok(program) => Ok(program),
+        Err(Refusal::Refused { .. }) => match empty_program(alloc) {
+            Ok(program) => Ok(program),
+            Err(AllocError) => Err(CommandFault::OutOfMemory),
+        },
+        Err(Refusal::OutOfMemory(AllocError)) => Err(CommandFault::OutOfMemory),
+    }
+}
+
+/// Explains a program in its setting.
+fn explain_in<O: Sink>(
+    alloc: Global,
+    setting: &Setting<'_>,
+    asked: Asked,
+    refused: Option<RefusedAt>,
+    insight: Option<&Insight>,
+    out: &mut O,
+) -> Result<(), CommandFault>
+    ensures failures { TellsFailure result (O.failures out.old) (O.failures out.new) }
+    ensures faults { IfErr result IsFaultOfLines }
+{
+    explain_symbolic(alloc, setting, asked, refused, insight, out)?;
+    Ok(())
+}
+
+/// Returns where and why a program is refused, as explanations take it.
+fn place_of(refused: Refused) -> RefusedAt {
+    RefusedAt {
+        program: refused.place.program,
+        offset: refused.place.offset,
+        reason: refused.reason,
+    }
+}
+
+/// Prints the explanation of a program that is refused so, or is accepted.
+fn tell_program<O: Sink>(
+    alloc: Global,
+    font: &Font<'_>,
+    named: Named<'_>,
+    asked: Asked,
+    refused: Option<Refused>,
+    insight: Option<&Insight>,
+    out: &mut O,
+) -> Result<(), CommandFault>
+    requires range { IsFontInRange font.now }
+    requires few { length named.bytes.now < 2 ^ 31 }
+    ensures failures { TellsFailure result (O.failures out.old) (O.failures out.new) }
+    ensures faults { IfErr result IsFaultOfLines }
+{
+    let main = match cut(alloc, named.bytes) {
+        Ok(main) => main,
+        Err(fault) => return explain_uncut(asked, named.bytes, fault, out),
+    };
+    let fpgm = cut_before(alloc, font.fpgm())?;
+    let prep = cut_before(alloc, font.prep())?;
+    let setting = Setting {
+        limits: font.limits(),
+        cvt: font.cvt_count(),
+        kind: kind_of(font, named.name),
+        main: &main,
+        font: &fpgm,
+        prep: &prep,
+        start: &[],
+    };
+    explain_in(alloc, &setting, asked, refused.map(place_of), insight, out)
+}
+
+/// Explains the font's program of this name, and returns the exit status.
+fn explain_named<O: Sink>(
+    alloc: Global,
+    font: &Font<'_>,
+    named: Named<'_>,
+    offset: Option<u32>,
+    out: &mut O,
+) -> Result<u8, CommandFault>
+    requires range { IsFontInRange font.now }
+    requires few { length named.bytes.now < 2 ^ 31 }
+    ensures status { IfOk result (λ status. status ≤ 1) }
+    ensures tells { IfOk result (TellsSymbolicProgram font.now named.name) }
+    ensures failures { TellsFailure result (O.failures out.old) (O.failures out.new) }
+    ensures faults { IfErr result IsFaultOfLines }
+{
+    let asked = Asked {
+        program: named.name,
+        offset,
+    };
+    let mut judge = SymbolicCheck::new(alloc, USUAL_STEPS);
+    judge.explain(asked);
+    let Ok(refused) = refused_programs(alloc, font, &mut judge) else {
+        return Err(CommandFault::OutOfMemory);
+    };
+    let insight = judge.take_insight();
+    let Some(one) = refused_against(&refused, named.name) else {
+        tell_program(alloc, font, named, asked, None, insight.as_ref(), out)?;
+        return Ok(ACCEPTED);
+    };
+    if one.program != named.name {
+        return tell_unchecked(one, out);
+    }
+    tell_program(alloc, font, named, asked, Some(one), insight.as_ref(), out)?;
+    Ok(REFUSED)
+}
+
+/// Explains one program of the font in these bytes by the symbolic profile, the one that the word
+/// names, and returns the exit status: 0 where the verdict on the font by symbolic states refuses
+/// neither it nor one before it; 1 where it is refused, or isn't checked since the font program or
+/// the CVT program is refused. With an offset the explanation tells what the search knows there.
+///
+/// # Errors
+/// As `explain_program`.
+pub fn explain_program_symbolic<O: Sink>(
+    alloc: Global,
+    font: &[u8],
+    word: &str,
+    offset: Option<u32>,
+    out: &mut O,
+) -> Result<u8, CommandFault>
+    ensures status { IfOk result (λ status. status ≤ 1) }
+    ensures accepted { IfOk result
+        (λ status. status ≡ 0 → HoldSymbolicAcceptedProgram font.now word.now) }
+    ensures refused { IfOk result
+        (λ status. status ≡ 1 → HoldSymbolicRefusedProgram font.now word.now) }
+    ensures failures { TellsFailure result (O.failures out.old) (O.failures out.new) }
+    ensures faults { IfErr result (IsFaultOfExplaining font.now word.now offset) }
+    ensures none { OnOk result (HoldPlace font.now word.now offset) }
+{
+    let read = read_font(alloc, font)?;
+    match named_program(&read, word) {
+        Some(named) => {
+            check_offset(alloc, named.bytes, offset)?;
+            explain_named(alloc, &read, named, offset, out)
+        }
+        None => Err(CommandFault::ProgramWord),
+    }
+}

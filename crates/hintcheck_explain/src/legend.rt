@@ -1,0 +1,219 @@
+//! The cells of a symbolic state as they are printed: a number, `?`, `3..7`, or `(2x + 4)` with a
+//! symbol whose range is told once.
+
+use crate::knowledge::SHOWN_CELLS;
+use crate::view::ALL_NUMBERS;
+use std::alloc::{AllocError, Global};
+use std::fmt;
+use tt_abs::SortedMap;
+use tt_symbolic_state::cell::{Cell, Range, bounds, number, symbol};
+use tt_symbolic_state::state::State;
+
+/// The names of the first symbols.
+const NAMES: [&str; 6] = ["x", "y", "z", "u", "v", "w"];
+
+/// Adds those of memory entries that are printed to the cells.
+fn add_entries(cells: &mut Vec<Cell>, entries: &SortedMap<Cell>) -> Result<(), AllocError> {
+    for entry in entries.as_slice().iter().take(SHOWN_CELLS) {
+        cells.push(entry.1)?;
+    }
+    Ok(())
+}
+
+/// Returns the cells of a state that are printed, in their order.
+fn shown_cells(alloc: Global, state: &State) -> Result<Vec<Cell>, AllocError> {
+    let mut cells = Vec::new(alloc);
+    for call in state.calls.as_slice() {
+        cells.push(call.left)?;
+    }
+    for cell in state.stack.as_slice().iter().rev().take(SHOWN_CELLS) {
+        cells.push(*cell)?;
+    }
+    let graphics = &state.graphics;
+    cells.push(graphics.rp0)?;
+    cells.push(graphics.rp1)?;
+    cells.push(graphics.rp2)?;
+    cells.push(graphics.loop_number)?;
+    add_entries(&mut cells, &state.storage)?;
+    add_entries(&mut cells, &state.controls)?;
+    Ok(cells)
+}
+
+/// Returns how many of the cells have a symbol.
+fn count_uses(cells: &[Cell], symbol: u32) -> usize {
+    let mut count: usize = 0;
+    for cell in cells {
+        if cell.factor != 0 && cell.symbol == symbol {
+            count = count.saturating_add(1);
+        }
+    }
+    count
+}
+
+/// Whether a cell's symbol is to be named: another cell has it too, or the cell is a multiple of it.
+fn is_named(cells: &[Cell], cell: Cell) -> bool {
+    cell.factor != 0 && (cell.factor.unsigned_abs() != 1 || count_uses(cells, cell.symbol) > 1)
+}
+
+/// The symbols of a state that are named where its cells are printed.
+#[derive(Drop)]
+pub(crate) struct Legend<'a> {
+    /// The ranges of all symbols.
+    pub ranges: &'a [Range],
+    /// The symbols that are named, in the order of their names.
+    named: Vec<u32>,
+}
+
+impl<'a> Legend<'a> {
+    /// Makes the legend of a state.
+    ///
+    /// # Errors
+    /// If memory runs out.
+    pub(crate) fn of(alloc: Global, state: &'a State) -> Result<Legend<'a>, AllocError> {
+        let ranges = state.ranges.as_slice();
+        let cells = shown_cells(alloc, state)?;
+        let mut named = Vec::new(alloc);
+        for cell in cells.as_slice() {
+            let is_known = number(*cell, ranges).is_some();
+            if !is_known && is_named(cells.as_slice(), *cell) && !named.contains(&cell.symbol) {
+                named.push(cell.symbol)?;
+            }
+        }
+        Ok(Legend { ranges, named })
+    }
+
+    /// Returns the name of a symbol, if it has one.
+    fn name(&self, symbol: u32) -> Option<SymbolName> {
+        for (place, named) in self.named.as_slice().iter().enumerate() {
+            if *named == symbol {
+                return Some(SymbolName(place));
+            }
+        }
+        None
+    }
+
+    /// Returns the text of a cell.
+    pub(crate) fn text(&self, cell: Cell) -> CellText<'_> {
+        CellText {
+            ranges: self.ranges,
+            name: if cell.factor == 0 {
+                None
+            } else {
+                self.name(cell.symbol)
+            },
+            cell,
+        }
+    }
+
+    /// Returns whether no symbol is named.
+    pub(crate) fn is_empty(&self) -> bool {
+        self.named.is_empty()
+    }
+}
+
+impl fmt::Display for Legend<'_> {
+    fn fmt<W: fmt::Write>(&self, f: &mut fmt::Formatter<W>) -> fmt::Result {
+        let mut before = "where ";
+        for (place, named) in self.named.as_slice().iter().enumerate() {
+            let name = SymbolName(place);
+            let range = Bounded {
+                cell: symbol(*named),
+                ranges: self.ranges,
+                unknown: "any number",
+            };
+            write!(f, "{before}{name} is {range}")?;
+            before = ", ";
+        }
+        Ok(())
+    }
+}
+
+/// The name of a symbol, by its place among those that are named.
+#[derive(Clone, Copy)]
+struct SymbolName(usize);
+
+impl fmt::Display for SymbolName {
+    fn fmt<W: fmt::Write>(&self, f: &mut fmt::Formatter<W>) -> fmt::Result {
+        let place = self.0;
+        match NAMES.get(place) {
+            Some(name) => write!(f, "{name}"),
+            None => write!(f, "x{place}"),
+        }
+    }
+}
+
+/// What a cell may be, from the least to the greatest number.
+#[derive(Clone, Copy)]
+struct Bounded<'a> {
+    cell: Cell,
+    ranges: &'a [Range],
+    /// What is printed where nothing is known.
+    unknown: &'static str,
+}
+
+impl fmt::Display for Bounded<'_> {
+    fn fmt<W: fmt::Write>(&self, f: &mut fmt::Formatter<W>) -> fmt::Result {
+        match bounds(self.cell, self.ranges) {
+            Some((low, high)) if high.saturating_sub(low) < ALL_NUMBERS => {
+                write!(f, "{low}..{high}")
+            }
+            _ => f.write_str(self.unknown),
+        }
+    }
+}
+
+/// A cell as it is printed.
+#[derive(Clone, Copy)]
+pub(crate) struct CellText<'a> {
+    cell: Cell,
+    /// The name of its symbol, if that has one.
+    name: Option<SymbolName>,
+    ranges: &'a [Range],
+}
+
+impl fmt::Display for CellText<'_> {
+    fn fmt<W: fmt::Write>(&self, f: &mut fmt::Formatter<W>) -> fmt::Result {
+        if let Some(number) = number(self.cell, self.ranges) {
+            return write!(f, "{number}");
+        }
+        let Some(name) = self.name else {
+            let range = Bounded {
+                cell: self.cell,
+                ranges: self.ranges,
+                unknown: "?",
+            };
+            return write!(f, "{range}");
+        };
+        let multiple = Multiple {
+            factor: self.cell.factor,
+            name,
+        };
+        let offset = self.cell.offset;
+        let distance = offset.unsigned_abs();
+        if offset == 0 {
+            write!(f, "{multiple}")
+        } else if offset > 0 {
+            write!(f, "({multiple} + {distance})")
+        } else {
+            write!(f, "({multiple} - {distance})")
+        }
+    }
+}
+
+/// A multiple of a symbol.
+#[derive(Clone, Copy)]
+struct Multiple {
+    factor: i32,
+    name: SymbolName,
+}
+
+impl fmt::Display for Multiple {
+    fn fmt<W: fmt::Write>(&self, f: &mut fmt::Formatter<W>) -> fmt::Result {
+        let name = self.name;
+        match self.factor {
+            1 => write!(f, "{name}"),
+            -1 => write!(f, "-{name}"),
+            factor => write!(f, "{factor}{name}"),
+        }
+    }
+}

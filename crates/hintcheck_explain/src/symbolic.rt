@@ -1,0 +1,338 @@
+//! Explains what the symbolic profile answers for a program that could be cut and is structured.
+
+ghost use Rattle.std.specs.Prelude.{◌≢◌, Err};
+ghost use Rattle.tt_stream.specs.Streams.{CountsPrintFailure};
+ghost use Rattle.hintcheck_explain.specs.Faults.{TellsFailure};
+
+use crate::accepted::count_instructions;
+use crate::asked::{Asked, ExplainFault};
+use crate::describing::{Bounds, Why};
+use crate::effect_text::tell_effect;
+use crate::instruction_text::name_of;
+use crate::legend::Legend;
+use crate::listing::{Code, Listing};
+use crate::meaning::{ADVICE_ON_RANGE, advice_of, class_of, class_text};
+use crate::place::{Place, Refused};
+use crate::symbolic_calls::SymbolicCalls;
+use crate::symbolic_case::{instruction_at, trouble_of};
+use crate::symbolic_knowledge::SymbolicKnowledge;
+use crate::symbolic_origin::{SourceText, code_of};
+use crate::trouble::Trouble;
+use crate::view::{View, symbolic_cell};
+use std::alloc::Global;
+use tt_abs::{Setting, Spot};
+use tt_cert::Name;
+use tt_code::Reason;
+use tt_stream::{PrintFailed, Sink};
+use tt_symbolic_search::{Insight, KnownState};
+
+/// Where and why a program is refused.
+#[derive(Clone, Copy, Debug, PartialEq, Eq)]
+pub struct RefusedAt {
+    /// The program in which the place is: for a function's instruction the one in which its body is.
+    pub program: Name,
+    /// The offset there.
+    pub offset: u32,
+    /// Why.
+    pub reason: Reason,
+}
+
+impl RefusedAt {
+    /// Returns the place.
+    fn place(self) -> Place {
+        Place {
+            program: self.program,
+            offset: self.offset,
+        }
+    }
+}
+
+/// A program that is explained: its name, what it is checked against, and what the search tells of
+/// it.
+#[derive(Clone, Copy)]
+struct Searched<'a> {
+    name: Name,
+    setting: &'a Setting<'a>,
+    insight: Option<&'a Insight>,
+}
+
+impl<'a> Searched<'a> {
+    /// Returns the spot of the program of this name.
+    fn spot(&self, program: Name) -> Spot {
+        if program == self.name {
+            return Spot::Main;
+        }
+        match program {
+            Name::Font => Spot::Font,
+            Name::Cvt => Spot::Prep,
+            Name::Glyph(_) => Spot::Main,
+        }
+    }
+
+    /// Returns the instructions around a place.
+    fn listing(&self, place: Place) -> Listing<'a> {
+        Listing::around(
+            Code::Cut(code_of(self.setting, self.spot(place.program))),
+            place,
+        )
+    }
+
+    /// Returns the state that is refused, if the search tells it.
+    fn refused(&self) -> Option<&'a KnownState> {
+        self.insight?.refused.as_ref()
+    }
+}
+
+/// Prints how much an accepted program takes.
+fn tell_accepted<O: Sink>(searched: Searched<'_>, out: &mut O) -> Result<(), PrintFailed>
+    ensures failures { CountsPrintFailure result (O.failures out.old) (O.failures out.new) }
+{
+    let name = searched.name;
+    let instructions = count_instructions(searched.setting.main);
+    writeln!(out, "accepted {name} (symbolic)")?;
+    writeln!(out, "Instructions: {instructions}")?;
+    let Some(insight) = searched.insight else {
+        return Ok(());
+    };
+    let depth = insight.depth;
+    let most = searched.setting.limits.stack;
+    let steps = insight.steps;
+    let listed = insight.listed;
+    let checked = insight.checked;
+    writeln!(
+        out,
+        "Greatest depth of the stack: {depth} of at most {most} (maxStackElements)"
+    )?;
+    writeln!(out, "Steps of the search: {steps}")?;
+    writeln!(out, "Listed states: {listed}")?;
+    writeln!(out, "Steps of the check: at most {checked}")
+}
+
+/// Prints the open calls of a state of the search, and what is known in it.
+fn tell_state<O: Sink>(
+    alloc: Global,
+    searched: Searched<'_>,
+    known: &KnownState,
+    out: &mut O,
+) -> Result<(), ExplainFault>
+    ensures failures { TellsFailure result (O.failures out.old) (O.failures out.new) }
+    ensures other { result ≢ Err ExplainFault.NoInstruction }
+{
+    let state = &known.state;
+    let legend = Legend::of(alloc, state)?;
+    let calls = SymbolicCalls {
+        program: searched.name,
+        state,
+        legend: &legend,
+    };
+    let knowledge = SymbolicKnowledge {
+        setting: searched.setting,
+        state,
+        legend: &legend,
+    };
+    writeln!(out, "{calls}")?;
+    writeln!(out, "{knowledge}")?;
+    Ok(())
+}
+
+/// Prints what the first states know that came to the offset that is asked for.
+fn tell_states<O: Sink>(
+    alloc: Global,
+    searched: Searched<'_>,
+    seen: &[KnownState],
+    out: &mut O,
+) -> Result<(), ExplainFault>
+    ensures failures { TellsFailure result (O.failures out.old) (O.failures out.new) }
+    ensures other { result ≢ Err ExplainFault.NoInstruction }
+{
+    for known in seen {
+        let state = &known.state;
+        tell_effect(
+            instruction_at(searched.setting, state),
+            View::Symbolic(state),
+            out,
+        )?;
+        tell_state(alloc, searched, known, out)?;
+    }
+    Ok(())
+}
+
+/// Prints what is known at an offset of the program, and the instructions around it.
+fn tell_place<O: Sink>(
+    alloc: Global,
+    searched: Searched<'_>,
+    offset: u32,
+    out: &mut O,
+) -> Result<(), ExplainFault>
+    ensures failures { TellsFailure result (O.failures out.old) (O.failures out.new) }
+    ensures other { result ≢ Err ExplainFault.NoInstruction }
+{
+    let place = Place {
+        program: searched.name,
+        offset,
+    };
+    let listing = searched.listing(place);
+    writeln!(out, "What is known at {place}:")?;
+    match searched.insight {
+        Some(insight) if insight.seen.is_empty() => {
+            writeln!(out, "No run that was followed comes to {place}.")?;
+        }
+        Some(insight) => {
+            tell_states(alloc, searched, insight.seen.as_slice(), out)?;
+            if insight.has_more {
+                writeln!(out, "More states come here.")?;
+            }
+        }
+        None => writeln!(out, "The program wasn't followed to an answer.")?,
+    }
+    writeln!(out, "{listing}")?;
+    Ok(())
+}
+
+/// Prints why a program is refused, the class of the reason, and what to do.
+fn tell_reason<O: Sink>(
+    searched: Searched<'_>,
+    name: &'static str,
+    reason: Reason,
+    trouble: Trouble,
+    out: &mut O,
+) -> Result<(), PrintFailed>
+    ensures failures { CountsPrintFailure result (O.failures out.old) (O.failures out.new) }
+{
+    let class = class_of(reason, trouble);
+    let bounds = Bounds::of(searched.setting);
+    let why = Why {
+        name,
+        reason,
+        trouble,
+        bounds,
+    };
+    let kind = class_text(reason, class);
+    let advice = match trouble {
+        Trouble::Range { .. } => ADVICE_ON_RANGE,
+        _ => advice_of(reason, class, name),
+    };
+    writeln!(out, "Why: {why}")?;
+    writeln!(out, "Class: {kind}")?;
+    writeln!(out, "What to do: {advice}")
+}
+
+/// Prints where a number comes from, if the program is refused because that number isn't known well
+/// enough.
+fn tell_origin<O: Sink>(
+    searched: Searched<'_>,
+    known: &KnownState,
+    trouble: Trouble,
+    out: &mut O,
+) -> Result<(), PrintFailed>
+    ensures failures { CountsPrintFailure result (O.failures out.old) (O.failures out.new) }
+{
+    let element = match trouble {
+        Trouble::Unknown { element, role: _ } => element,
+        Trouble::Range { element, .. } => element,
+        _ => return Ok(()),
+    };
+    let Some(cell) = symbolic_cell(&known.state, element) else {
+        return Ok(());
+    };
+    let Some(source) = known.source(cell) else {
+        return Ok(());
+    };
+    let text = SourceText {
+        program: searched.name,
+        setting: searched.setting,
+        source,
+    };
+    writeln!(out, "Where the number comes from: {text}")
+}
+
+/// Prints why a program is refused; and, where the search tells the state that is refused, what is
+/// known there.
+fn tell_case<O: Sink>(
+    alloc: Global,
+    searched: Searched<'_>,
+    reason: Reason,
+    out: &mut O,
+) -> Result<(), ExplainFault>
+    ensures failures { TellsFailure result (O.failures out.old) (O.failures out.new) }
+    ensures other { result ≢ Err ExplainFault.NoInstruction }
+{
+    let Some(known) = searched.refused() else {
+        let trouble = match reason {
+            Reason::ProgramTooLong => Trouble::Length(searched.setting.main.len()),
+            _ => Trouble::Other,
+        };
+        tell_reason(searched, "", reason, trouble, out)?;
+        return Ok(());
+    };
+    let state = &known.state;
+    let instruction = instruction_at(searched.setting, state);
+    let name = match &instruction {
+        Some(instruction) => name_of(instruction.code()),
+        None => "the program's end",
+    };
+    let trouble = trouble_of(alloc, searched.setting, state, reason)?;
+    tell_reason(searched, name, reason, trouble, out)?;
+    tell_effect(instruction, View::Symbolic(state), out)?;
+    tell_origin(searched, known, trouble, out)?;
+    tell_state(alloc, searched, known, out)
+}
+
+/// Prints where and why a program is refused, and explains it unless an offset is asked for.
+fn tell_refused<O: Sink>(
+    alloc: Global,
+    searched: Searched<'_>,
+    refused: RefusedAt,
+    offset: Option<u32>,
+    out: &mut O,
+) -> Result<(), ExplainFault>
+    ensures failures { TellsFailure result (O.failures out.old) (O.failures out.new) }
+    ensures other { result ≢ Err ExplainFault.NoInstruction }
+{
+    let place = refused.place();
+    let line = Refused {
+        program: searched.name,
+        place,
+        reason: refused.reason,
+    };
+    writeln!(out, "{line}")?;
+    if offset.is_some() {
+        return Ok(());
+    }
+    tell_case(alloc, searched, refused.reason, out)?;
+    let listing = searched.listing(place);
+    writeln!(out, "{listing}")?;
+    Ok(())
+}
+
+/// Explains what the symbolic profile answers for a program that could be cut and is structured: how
+/// much an accepted one takes, or why it is refused. Where an offset is asked for, it tells what the
+/// search knows there, and of a refusal only its place and its reason.
+///
+/// # Errors
+/// `Write` where the text wasn't printed; `OutOfMemory`.
+pub fn explain_symbolic<O: Sink>(
+    alloc: Global,
+    setting: &Setting<'_>,
+    asked: Asked,
+    refused: Option<RefusedAt>,
+    insight: Option<&Insight>,
+    out: &mut O,
+) -> Result<(), ExplainFault>
+    ensures failures { TellsFailure result (O.failures out.old) (O.failures out.new) }
+    ensures other { result ≢ Err ExplainFault.NoInstruction }
+{
+    let searched = Searched {
+        name: asked.program,
+        setting,
+        insight,
+    };
+    match refused {
+        Some(refused) => tell_refused(alloc, searched, refused, asked.offset, out)?,
+        None => tell_accepted(searched, out)?,
+    }
+    match asked.offset {
+        Some(offset) => tell_place(alloc, searched, offset, out),
+        None => Ok(()),
+    }
+}

@@ -1,0 +1,89 @@
+//! What the search tells of a program for those who explain its answer.
+
+use crate::origins::Origins;
+use crate::track::Track;
+use std::alloc::{AllocError, Global};
+use tt_symbolic_check::Place;
+use tt_symbolic_state::State;
+use tt_symbolic_state::cell::Cell;
+
+/// What is asked of a program that is searched.
+#[derive(Clone, Copy, Debug, PartialEq, Eq)]
+pub struct Question {
+    /// The offset of an instruction of the main program, where what is known there is asked for.
+    pub offset: Option<u32>,
+}
+
+/// Where a number comes from that isn't known, as far as the search tells.
+#[derive(Clone, Copy, Debug, PartialEq, Eq)]
+pub enum Source {
+    /// The instruction at this place makes it, or reads it where nothing is known of it.
+    Made(Place),
+    /// States that met at this place had different numbers. Each is told where it was known.
+    Met {
+        at: Place,
+        first: Option<i32>,
+        second: Option<i32>,
+    },
+    /// The program starts with it.
+    Start,
+    /// The search doesn't tell.
+    Lost,
+}
+
+/// A state on its way, before the instruction where it is.
+#[derive(Drop)]
+pub struct KnownState {
+    /// The state.
+    pub state: State,
+    /// Where the number of each of its symbols comes from.
+    sources: Vec<Source>,
+}
+
+impl KnownState {
+    /// Makes it of a track.
+    pub(crate) fn of(
+        alloc: Global,
+        origins: &Origins,
+        track: Box<Track>,
+    ) -> Result<KnownState, AllocError> {
+        let Track {
+            state,
+            origins: numbers,
+            ..
+        } = Box::into_inner(track);
+        let mut sources = Vec::new(alloc);
+        for number in numbers.as_slice() {
+            sources.push(origins.source(alloc, *number)?)?;
+        }
+        Ok(KnownState { state, sources })
+    }
+
+    /// Returns where the number of a cell's symbol comes from; nothing where it has none.
+    pub fn source(&self, cell: Cell) -> Option<Source> {
+        if cell.factor == 0 {
+            return None;
+        }
+        self.sources.get(cell.symbol as usize).copied()
+    }
+}
+
+/// What the search tells of a program: of its last trial, the one that found something, or whose
+/// refusal it answered.
+#[derive(Drop)]
+pub struct Insight {
+    /// How many steps it made.
+    pub steps: u64,
+    /// How many elements the stack had at most.
+    pub depth: usize,
+    /// How many states are listed; 0 after a refusal.
+    pub listed: usize,
+    /// How many steps the check may make; 0 after a refusal.
+    pub checked: u64,
+    /// The state that was refused; none where no instruction is refused.
+    pub refused: Option<KnownState>,
+    /// The first states that came to the offset that was asked for.
+    pub seen: Vec<KnownState>,
+    /// Whether more states came there.
+    pub has_more: bool,
+}
