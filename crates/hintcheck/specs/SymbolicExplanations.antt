@@ -13,9 +13,11 @@ use Rattle.hintcheck.specs.declared.report.Refused.{Refused}
 abbrev pub keeps_from : Name → Name → Bool
 keeps_from name.Font called = true
 keeps_from name.Cvt name.Font = false
-keeps_from name.Cvt called = true
+keeps_from name.Cvt name.Cvt = true
+keeps_from name.Cvt (name.Glyph other) = true
+keeps_from (name.Glyph id) name.Font = false
+keeps_from (name.Glyph id) name.Cvt = false
 keeps_from (name.Glyph id) (name.Glyph other) = id == other
-keeps_from (name.Glyph id) called = false
 
 -- the first of the refused programs because of which the program of this name isn't accepted, if there
 -- is one

@@ -34,11 +34,13 @@ fn keeps_from(refused: Name, called: Name) -> bool
         Name::Font => true,
         Name::Cvt => match called {
             Name::Font => false,
-            _ => true,
+            Name::Cvt => true,
+            Name::Glyph(_) => true,
         },
         Name::Glyph(id) => match called {
+            Name::Font => false,
+            Name::Cvt => false,
             Name::Glyph(other) => id == other,
-            _ => false,
         },
     }
 }
@@ -159,7 +161,7 @@ fn explain_named<O: Sink>(
     requires range { IsFontInRange font.now }
     requires few { length named.bytes.now < 2 ^ 31 }
     ensures status { IfOk result (λ status. status ≤ 1) }
-    ensures tells { IfOk result (TellsSymbolicProgram font.now named.name) }
+    ensures tells { IfOk result (TellsSymbolicProgram font.now named.entry.name) }
     ensures failures { TellsFailure result (O.failures out.old) (O.failures out.new) }
     ensures faults { IfErr result IsFaultOfLines }
 {

@@ -126,7 +126,8 @@ fn tell_state<O: Sink>(
         legend: &legend,
     };
     let knowledge = SymbolicKnowledge {
-        setting: searched.setting,
+        limits: searched.setting.limits,
+        cvt: searched.setting.cvt,
         state,
         legend: &legend,
     };

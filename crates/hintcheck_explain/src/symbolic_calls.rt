@@ -12,13 +12,13 @@ use tt_symbolic_state::state::{OpenCall, State};
 
 /// The open calls, the outermost first, each with its place and its function.
 #[derive(Clone, Copy)]
-pub(crate) struct SymbolicCalls<'a> {
+pub(crate) struct SymbolicCalls<'l, 's> {
     pub program: Name,
-    pub state: &'a State,
-    pub legend: &'a Legend<'a>,
+    pub state: &'s State,
+    pub legend: &'l Legend<'s>,
 }
 
-impl SymbolicCalls<'_> {
+impl SymbolicCalls<'_, '_> {
     /// Returns a call as text.
     fn call(&self, caller: Spot, call: OpenCall) -> OpenCallText<'_> {
         OpenCallText {
@@ -43,7 +43,7 @@ impl SymbolicCalls<'_> {
     }
 }
 
-impl fmt::Display for SymbolicCalls<'_> {
+impl fmt::Display for SymbolicCalls<'_, '_> {
     fn fmt<W: fmt::Write>(&self, f: &mut fmt::Formatter<W>) -> fmt::Result {
         if self.state.calls.is_empty() {
             return write!(f, "Open calls: none");

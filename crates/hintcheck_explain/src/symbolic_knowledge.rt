@@ -4,19 +4,19 @@ use crate::knowledge::{SHOWN_CELLS, zone_name};
 use crate::legend::Legend;
 use crate::view::View;
 use std::fmt;
-use tt_abs::Setting;
+use tt_code::Limits;
 use tt_code::kinds::Pointer;
 use tt_symbolic_state::cell::Cell;
 use tt_symbolic_state::state::State;
 
 /// The cells of the stack, from the top on.
 #[derive(Clone, Copy)]
-struct StackCells<'a> {
-    state: &'a State,
-    legend: &'a Legend<'a>,
+struct StackCells<'l, 's> {
+    state: &'s State,
+    legend: &'l Legend<'s>,
 }
 
-impl fmt::Display for StackCells<'_> {
+impl fmt::Display for StackCells<'_, '_> {
     fn fmt<W: fmt::Write>(&self, f: &mut fmt::Formatter<W>) -> fmt::Result {
         for taken in 0..SHOWN_CELLS {
             let Some(cell) = self.state.stack.under(taken) else {
@@ -34,12 +34,12 @@ impl fmt::Display for StackCells<'_> {
 
 /// The graphics state, as far as it decides which points and counts are in range.
 #[derive(Clone, Copy)]
-struct GraphicsCells<'a> {
-    state: &'a State,
-    legend: &'a Legend<'a>,
+struct GraphicsCells<'l, 's> {
+    state: &'s State,
+    legend: &'l Legend<'s>,
 }
 
-impl fmt::Display for GraphicsCells<'_> {
+impl fmt::Display for GraphicsCells<'_, '_> {
     fn fmt<W: fmt::Write>(&self, f: &mut fmt::Formatter<W>) -> fmt::Result {
         let graphics = &self.state.graphics;
         let rp0 = self.legend.text(graphics.rp0);
@@ -57,12 +57,12 @@ impl fmt::Display for GraphicsCells<'_> {
 
 /// The entries of a memory area that are listed, each with its cell.
 #[derive(Clone, Copy)]
-struct EntryCells<'a> {
-    entries: &'a [(u16, Cell)],
-    legend: &'a Legend<'a>,
+struct EntryCells<'l, 's> {
+    entries: &'s [(u16, Cell)],
+    legend: &'l Legend<'s>,
 }
 
-impl fmt::Display for EntryCells<'_> {
+impl fmt::Display for EntryCells<'_, '_> {
     fn fmt<W: fmt::Write>(&self, f: &mut fmt::Formatter<W>) -> fmt::Result {
         if self.entries.is_empty() {
             return write!(f, " none is known");
@@ -83,20 +83,22 @@ impl fmt::Display for EntryCells<'_> {
 
 /// What a symbolic state knows, against the limits of its font.
 #[derive(Clone, Copy)]
-pub(crate) struct SymbolicKnowledge<'a> {
-    pub setting: &'a Setting<'a>,
-    pub state: &'a State,
-    pub legend: &'a Legend<'a>,
+pub(crate) struct SymbolicKnowledge<'l, 's> {
+    pub limits: Limits,
+    /// How many control values the font has.
+    pub cvt: u32,
+    pub state: &'s State,
+    pub legend: &'l Legend<'s>,
 }
 
-impl fmt::Display for SymbolicKnowledge<'_> {
+impl fmt::Display for SymbolicKnowledge<'_, '_> {
     fn fmt<W: fmt::Write>(&self, f: &mut fmt::Formatter<W>) -> fmt::Result {
         let state = self.state;
         let legend = self.legend;
         let depth = state.stack.len();
-        let most = self.setting.limits.stack;
-        let cells = self.setting.limits.storage;
-        let values = self.setting.cvt;
+        let most = self.limits.stack;
+        let cells = self.limits.storage;
+        let values = self.cvt;
         let stack = StackCells { state, legend };
         let graphics = GraphicsCells { state, legend };
         let storage = EntryCells {

@@ -1,4 +1,3 @@
-use Rattle.std.proofs.Common.{Unit}
 use Rattle.hintcheck.proofs.ExplanationLemmas.{failed_text, fault_of_text}
 use Rattle.hintcheck.proofs.symbolic_explanation.explain_in.Goals as goal
 
