@@ -14,7 +14,7 @@ returns-then-ne-clause-tells g c =
     let called = c.args.named.name in
     let rs = c.in-Ok.refused.items in
     let found : first_against called rs ≡ Some c.in-Some.one =
-        subst (λ (xs : List Refused). first_against called xs ≡ Some c.in-Some.one) c.deref.ensures.value (sym c.refused_against.ensures ∙ c.in-Some.is) in
+    subst (λ (xs : List Refused). first_against called xs ≡ Some c.in-Some.one) c.deref.ensures.value (sym c.refused_against.ensures ∙ c.in-Some.is) in
     IfOk-weaker c.tell_unchecked.result _ _ (λ status is. record {
       judgement = judgement_on c.args.font.now rs;
       given = c.in-Ok.ensures;
