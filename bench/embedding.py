@@ -6,7 +6,8 @@ It needs cc, c++, pkg-config and FreeType's headers. The library is built by `ma
 line of text with an accepted font, a refused one and one that is cut short, all made here, and what it prints is compared with what is written
 below. examples/embedding/calls.c calls the library with pointers and lengths of all kinds, as C and as C++, and under valgrind where that is there.
 Then the library and the command answer each FONT, or the fonts of /usr/share/fonts, at most 100: their counts of programs and of refused ones, and
-the first refusals, must be the same. What differs is printed, and the exit status is then 1.
+the first refusals, must be the same. So must be what a shared library made of the archive answers, called from Python
+(examples/embedding/verdict.py). What differs is printed, and the exit status is then 1.
 """
 
 import os
@@ -36,7 +37,7 @@ TWO_DEPTHS = b"\xb1\x00\x01\x49\x58\xb0\x07\x59\x21"
 # What the example prints of each font.
 PRINTED = {
     "serif.ttf": "accepted: 5 programs, hinted\n",
-    "broken.ttf": "refused g1 at f:10: 26, class 0\nrefused g2 at g2:8: 38, class 1\nrefused: 2 of 5 programs, not hinted\n",
+    "broken.ttf": "refused g1 at f:10: 26 underflow\nrefused g2 at g2:8: 38 depth mismatch\nrefused: 2 of 5 programs, not hinted\n",
     "short.ttf": "status 2, fault 4, not hinted\n",
 }
 
@@ -110,6 +111,18 @@ def fails_calls(programs: dict[str, pathlib.Path], folder: pathlib.Path) -> bool
     return failed
 
 
+def fails_shared(folder: pathlib.Path) -> bool:
+    """Whether the shared library that is made of the archive answers otherwise than the command, called from Python."""
+    library, failed = folder / "libhintcheck.so", False
+    archive = folder / "lib/libhintcheck.a"
+    must(["cc", "-shared", "-o", str(library), "-Wl,--whole-archive", str(archive), "-Wl,--no-whole-archive"])
+    for name in PRINTED:
+        told = must([sys.executable, str(SOURCES / "verdict.py"), str(library), str(folder / name)])
+        wanted = "".join(f"{folder / name}: {line}\n" for line in by_command(folder / name)[0].splitlines())
+        failed |= differs(f"verdict.py {name}", told, wanted)
+    return failed
+
+
 def by_command(font: pathlib.Path) -> tuple[str, float]:
     """What the command answers of a font, in the example's words, and how long it took."""
     start = time.monotonic()
@@ -119,14 +132,13 @@ def by_command(font: pathlib.Path) -> tuple[str, float]:
         number = int(re.match(r"fault: (\d+)", ran.stderr).group(1))
         return f"status {ran.returncode}, fault {number}", took
     *lines, last = ran.stdout.splitlines()
-    refused = [re.sub(r"^(refused \S+ at \S+: \d+).*", r"\1", line) for line in lines[:3]]
-    return "\n".join([*refused, last]), took
+    return "\n".join([*lines[:3], last]), took
 
 
 def by_library(line: pathlib.Path, font: pathlib.Path) -> str:
     """What the library answers of a font."""
     told = run([str(line), str(font), "", "/dev/null"]).stdout
-    lines = [re.sub(r", (?:not )?hinted$|, class \d$", "", text) for text in told.splitlines() if not text.endswith(("glyphs drawn", "no face"))]
+    lines = [re.sub(r", (?:not )?hinted$", "", text) for text in told.splitlines() if not text.endswith(("glyphs drawn", "no face"))]
     return "\n".join(lines)
 
 
@@ -152,6 +164,7 @@ def main() -> int:
         programs = built(folder)
         failed = fails_example(programs["line"], folder)
         failed |= fails_calls(programs, folder)
+        failed |= fails_shared(folder)
         failed |= fails_fonts(programs["line"], fonts[:MOST_FONTS])
     return int(failed)
 

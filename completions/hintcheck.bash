@@ -8,7 +8,8 @@ _hintcheck() {
         return
     fi
     case $command in
-        verdict | scan) options='--symbolic --points --help' ;;
+        verdict) options='--symbolic --points --help' ;;
+        scan) options='--symbolic --points --fail-on --help' ;;
         find | check) options='--points --help' ;;
         explain | bare) options='--symbolic --help' ;;
     esac
@@ -24,6 +25,14 @@ _hintcheck() {
                     [ "${COMP_WORDS[i + 1]}" = = ] && i=$((i + 1)) && at=$((at - 1))
                     i=$((i + 1)) at=$((at - 2))
                     [ "$i" -ge "$COMP_CWORD" ] && return
+                elif [ "${COMP_WORDS[i]}" = --fail-on ]; then
+                    # Of `scan` alone, whose names may be anywhere.
+                    [ "${COMP_WORDS[i + 1]}" = = ] && i=$((i + 1))
+                    i=$((i + 1))
+                    if [ "$i" -ge "$COMP_CWORD" ]; then
+                        mapfile -t COMPREPLY < <(compgen -W possible -- "${word#=}")
+                        return
+                    fi
                 elif [ "${COMP_WORDS[i]}" = --symbolic ]; then
                     at=$((at - 1))
                 fi

@@ -21,6 +21,7 @@
 #ifndef HINTCHECK_H
 #define HINTCHECK_H
 
+#include <stdbool.h>
 #include <stddef.h>
 #include <stdint.h>
 
@@ -50,6 +51,35 @@ enum hintcheck_reason_class {
     HINTCHECK_CERTIFICATE = 3     /* the certificate doesn't fit the program */
 };
 
+/* Why a program is refused. docs/REASONS.md says more of each, and hintcheck_reason_text gives its text. */
+enum hintcheck_reason {
+    HINTCHECK_REASON_CANNOT_CUT = 20,
+    HINTCHECK_REASON_STRUCTURE = 21,
+    HINTCHECK_REASON_PROGRAM_TOO_LONG = 22,
+    HINTCHECK_REASON_OPCODE = 23,
+    HINTCHECK_REASON_INSTRUCTION_DEFINITION = 24,
+    HINTCHECK_REASON_RECURSION = 25,
+    HINTCHECK_REASON_UNDERFLOW = 26,
+    HINTCHECK_REASON_OVERFLOW = 27,
+    HINTCHECK_REASON_UNKNOWN_OPERAND = 28,
+    HINTCHECK_REASON_CVT = 29,
+    HINTCHECK_REASON_STORAGE = 30,
+    HINTCHECK_REASON_FUNCTION = 31,
+    HINTCHECK_REASON_POINT = 32,
+    HINTCHECK_REASON_ZONE = 33,
+    HINTCHECK_REASON_CONTOUR = 34,
+    HINTCHECK_REASON_TARGET = 35,
+    HINTCHECK_REASON_COUNT = 36,
+    HINTCHECK_REASON_DEFINITION = 37,
+    HINTCHECK_REASON_DEPTH_MISMATCH = 38,
+    HINTCHECK_REASON_TOO_MANY_CONTEXTS = 39,
+    HINTCHECK_REASON_NEVER_ENDS = 40,
+    HINTCHECK_REASON_MISSING_POINT = 41,
+    HINTCHECK_REASON_NOT_COVERED = 42,
+    HINTCHECK_REASON_TOO_MANY_STEPS = 46,
+    HINTCHECK_REASON_KEPT_ENTRY = 47
+};
+
 /* As many points as the font asks for. */
 #define HINTCHECK_UNLIMITED UINT64_MAX
 
@@ -65,7 +95,7 @@ typedef struct hintcheck_refusal {
     uint32_t program;      /* which program: a glyph's number, or HINTCHECK_FONT_PROGRAM, or HINTCHECK_CVT_PROGRAM */
     uint32_t place;        /* the program in which the place is: for a function's instruction the one that defines the function */
     uint32_t offset;       /* the place's offset there */
-    uint32_t reason;       /* the reason's number, 20 to 42, 46 or 47; docs/REASONS.md lists them */
+    uint32_t reason;       /* an enum hintcheck_reason */
     uint32_t reason_class; /* an enum hintcheck_reason_class */
 } hintcheck_refusal;
 
@@ -96,13 +126,23 @@ typedef char hintcheck_layout_is_right[
 /* The version of the library: a byte each for its three numbers, as HINTCHECK_VERSION. */
 uint32_t hintcheck_version(void);
 
-/* The library's own functions, which take no null pointer, also where a length is 0. Use the three below, which do. */
+/* The library's own functions, which take no null pointer, also where a length is 0. Use those below, which do. */
 uint32_t hintcheck_verdict_of_bytes(const uint8_t *font, size_t font_length, uint64_t points, hintcheck_refusal *refusals, size_t room,
                                     hintcheck_answer *answer);
 uint32_t hintcheck_verdict_symbolic_of_bytes(const uint8_t *font, size_t font_length, uint64_t steps, hintcheck_refusal *refusals,
                                              size_t room, hintcheck_answer *answer);
 uint32_t hintcheck_check_of_bytes(const uint8_t *font, size_t font_length, const uint8_t *certificate, size_t certificate_length,
                                   uint64_t points, hintcheck_refusal *refusals, size_t room, hintcheck_answer *answer);
+
+bool hintcheck_reason_text_of_number(uint32_t number, const uint8_t **text);
+
+/* The text of a reason, as the command prints it, "underflow" for HINTCHECK_REASON_UNDERFLOW: a constant string, which stays. A null pointer where the number is no reason's. */
+static inline const char *hintcheck_reason_text(uint32_t reason)
+{
+    static const uint8_t no_text[24] = {0};
+    const uint8_t *text = no_text;
+    return hintcheck_reason_text_of_number(reason, &text) ? (const char *)text : NULL;
+}
 
 /* Answers that the pointers can't be taken. */
 static inline uint32_t hintcheck_usage(hintcheck_answer *answer)

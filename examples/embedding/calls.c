@@ -79,6 +79,53 @@ static void call_oddly(const uint8_t *accepted, size_t accepted_length)
     expect(hintcheck_version() == HINTCHECK_VERSION, "the version");
 }
 
+/* The text of each number from 0 on: of a reason its own, and else none. */
+static void call_reason_text(void)
+{
+    static const struct {
+        uint32_t reason;
+        uint32_t number;
+        const char *text;
+    } reasons[] = {
+        {HINTCHECK_REASON_CANNOT_CUT, 20, "cannot cut"},
+        {HINTCHECK_REASON_STRUCTURE, 21, "structure"},
+        {HINTCHECK_REASON_PROGRAM_TOO_LONG, 22, "program too long"},
+        {HINTCHECK_REASON_OPCODE, 23, "opcode"},
+        {HINTCHECK_REASON_INSTRUCTION_DEFINITION, 24, "instruction definition"},
+        {HINTCHECK_REASON_RECURSION, 25, "recursion"},
+        {HINTCHECK_REASON_UNDERFLOW, 26, "underflow"},
+        {HINTCHECK_REASON_OVERFLOW, 27, "overflow"},
+        {HINTCHECK_REASON_UNKNOWN_OPERAND, 28, "unknown operand"},
+        {HINTCHECK_REASON_CVT, 29, "cvt"},
+        {HINTCHECK_REASON_STORAGE, 30, "storage"},
+        {HINTCHECK_REASON_FUNCTION, 31, "function"},
+        {HINTCHECK_REASON_POINT, 32, "point"},
+        {HINTCHECK_REASON_ZONE, 33, "zone"},
+        {HINTCHECK_REASON_CONTOUR, 34, "contour"},
+        {HINTCHECK_REASON_TARGET, 35, "target"},
+        {HINTCHECK_REASON_COUNT, 36, "count"},
+        {HINTCHECK_REASON_DEFINITION, 37, "definition"},
+        {HINTCHECK_REASON_DEPTH_MISMATCH, 38, "depth mismatch"},
+        {HINTCHECK_REASON_TOO_MANY_CONTEXTS, 39, "too many contexts"},
+        {HINTCHECK_REASON_NEVER_ENDS, 40, "never ends"},
+        {HINTCHECK_REASON_MISSING_POINT, 41, "missing point"},
+        {HINTCHECK_REASON_NOT_COVERED, 42, "not covered"},
+        {HINTCHECK_REASON_TOO_MANY_STEPS, 46, "too many steps"},
+        {HINTCHECK_REASON_KEPT_ENTRY, 47, "kept entry"},
+    };
+    size_t next = 0, count = sizeof reasons / sizeof reasons[0];
+    for (uint32_t number = 0; number < 300; number++) {
+        const char *text = hintcheck_reason_text(number);
+        if (next < count && reasons[next].reason == number) {
+            expect(reasons[next].number == number && text && strcmp(text, reasons[next].text) == 0, reasons[next].text);
+            next++;
+        } else {
+            expect(!text, "no text of a number that is no reason's");
+        }
+    }
+    expect(next == count && !hintcheck_reason_text(UINT32_MAX), "each reason has a text");
+}
+
 /* With each number of points up to the one that the font needs, and with that one. */
 static void call_within(const uint8_t *font, size_t length, uint32_t status, const uint8_t *certificate, size_t certificate_length)
 {
@@ -129,6 +176,7 @@ int main(int argc, char **argv)
     call_verdict(accepted, accepted_length, refused, refused_length);
     call_check(accepted, accepted_length, refused, refused_length, certificate, certificate_length);
     call_oddly(accepted, accepted_length);
+    call_reason_text();
     call_within(accepted, accepted_length, HINTCHECK_ACCEPTED, certificate, certificate_length);
     if (argc == 4) {
         call_with_many_bytes(accepted, accepted_length);

@@ -69,9 +69,9 @@ static int load_flags(const unsigned char *font, size_t length, const char *cert
     case HINTCHECK_REFUSED:
         for (size_t i = 0; i < answer.listed; i++) {
             char program[16], place[16];
-            printf("refused %s at %s:%u: %u, class %u\n", name_of(refusals[i].program, program, sizeof program),
+            printf("refused %s at %s:%u: %u %s\n", name_of(refusals[i].program, program, sizeof program),
                    name_of(refusals[i].place, place, sizeof place), (unsigned)refusals[i].offset, (unsigned)refusals[i].reason,
-                   (unsigned)refusals[i].reason_class);
+                   hintcheck_reason_text(refusals[i].reason));
         }
         printf("refused: %u of %u programs, not hinted\n", (unsigned)answer.refused, (unsigned)answer.programs);
         return FT_LOAD_NO_HINTING;

@@ -9,10 +9,13 @@ use Rattle.std.specs.Prelude.{codes, slice_get}
 use Rattle.tt_code.specs.declared.reason.ReasonClass.TheVariants.{LeftOut, PossibleFault, Undecided}
 use Rattle.tt_stream.specs.Streams.{AppendsText}
 use Rattle.tt_cert.specs.declared.name.Name.TheVariants.{Glyph}
+use Rattle.hintcheck_words.specs.declared.words.FailOn.{FailOn}
 use Rattle.hintcheck_words.specs.declared.words.Profile.{Profile}
+use Rattle.hintcheck_words.specs.declared.words.ScanOptions.{ScanOptions}
 use Rattle.hintcheck.specs.CommandFaults.{IsFaultOfFontFile}
 use Rattle.hintcheck.specs.FaultTexts.{command_fault_text}
-use Rattle.hintcheck.specs.Scans.{Answer, IsAnswer, PrintsScan, Scanned, counts_text, greatest_status, judged, left_out_text, line_of, number_of_class, status_of_answer, status_of_refused, summary, unread}
+use Rattle.hintcheck.specs.RefusalClasses.{number_of_class}
+use Rattle.hintcheck.specs.Scans.{Answer, IsAnswer, PrintsScan, Scanned, counts_text, greatest_status, judged, left_out_text, line_of, status_of_answer, summary, unread}
 use Rattle.hintcheck.specs.Texts.{profile_text}
 use Rattle.hintcheck.specs.Verdicts.{Judgement}
 use Rattle.hintcheck.specs.declared.commands.faults.CommandFault.{CommandFault}
@@ -36,58 +39,53 @@ pub some_left_out : (n : ℕ) → (n ≡ 0 → ⊥) → codes ", " ++ (decimal n
 some_left_out zero some = absurd (some refl)
 some_left_out (suc n) some = refl
 
--- the exit status where some programs are refused
-pub some_refused : (rs : List Refused) → (rs ≡ [] → ⊥) → status_of_refused rs ≡ 1
-some_refused [] some = absurd (some refl)
-some_refused (r ∷ rs) some = refl
+greatest-append : (f : FailOn) (xs ys : List Scanned) → greatest_status f (xs ++ ys) ≡ max (greatest_status f xs) (greatest_status f ys)
+greatest-append f [] ys = omega arith
+greatest-append f (x ∷ xs) ys = omega (arith, greatest-append f xs ys)
 
-greatest-append : (xs ys : List Scanned) → greatest_status (xs ++ ys) ≡ max (greatest_status xs) (greatest_status ys)
-greatest-append [] ys = omega arith
-greatest-append (x ∷ xs) ys = omega (arith, greatest-append xs ys)
-
-abbrev Answered : Profile → Option ℕ → Scanned → Type 0
-Answered profile budget s = IsAnswer profile budget s.answer
+abbrev Answered : ScanOptions → Scanned → Type 0
+Answered options s = IsAnswer options.profile options.budget s.answer
 
 -- no font file
-pub scans_none : (profile : Profile) (budget : Option ℕ) (old : Option (List ℕ)) → PrintsScan profile budget [] 0 old old
-scans_none profile budget old = record { scanned = []; names_are = refl; answers = All-nil (Answered profile budget); greatest = refl; written = appends_nothing old }
+pub scans_none : (options : ScanOptions) (old : Option (List ℕ)) → PrintsScan options [] 0 old old
+scans_none options old = record { scanned = []; names_are = refl; answers = All-nil (Answered options); greatest = refl; written = appends_nothing old }
 
 -- one font file
-pub scans_one : (profile : Profile) (budget : Option ℕ) (name : List ℕ) (answer : Answer) (status : ℕ) (old new : Option (List ℕ)) → IsAnswer profile budget answer → status ≡ status_of_answer answer
-    → Appends old new (line_of profile (record { name = name; answer = answer })) → PrintsScan profile budget (name ∷ []) status old new
-scans_one profile budget name answer status old new is same written =
+pub scans_one : (options : ScanOptions) (name : List ℕ) (answer : Answer) (status : ℕ) (old new : Option (List ℕ)) → IsAnswer options.profile options.budget answer → status ≡ status_of_answer options.fail_on answer
+    → Appends old new (line_of options.profile (record { name = name; answer = answer })) → PrintsScan options (name ∷ []) status old new
+scans_one options name answer status old new is same written =
     let s : Scanned = record { name = name; answer = answer } in
     record {
       scanned = s ∷ [];
       names_are = refl;
-      answers = All-cons (Answered profile budget) s [] is (All-nil (Answered profile budget));
+      answers = All-cons (Answered options) s [] is (All-nil (Answered options));
       greatest = omega arith;
-      written = subst (Appends old new) (sym (append-nil (line_of profile s))) written;
+      written = subst (Appends old new) (sym (append-nil (line_of options.profile s))) written;
     }
 
 -- font files, and then others
-pub scans_both : (profile : Profile) (budget : Option ℕ) (a b : List (List ℕ)) (s t : ℕ) (old mid new : Option (List ℕ)) → PrintsScan profile budget a s old mid → PrintsScan profile budget b t mid new → PrintsScan profile budget (a ++ b) (max s t) old new
-scans_both profile budget a b s t old mid new first second =
+pub scans_both : (options : ScanOptions) (a b : List (List ℕ)) (s t : ℕ) (old mid new : Option (List ℕ)) → PrintsScan options a s old mid → PrintsScan options b t mid new → PrintsScan options (a ++ b) (max s t) old new
+scans_both options a b s t old mid new first second =
     record {
       scanned = first.scanned ++ second.scanned;
       names_are = map-append (λ s. s.name) first.scanned second.scanned ∙ ap (λ x. x ++ map (λ s. s.name) second.scanned) first.names_are ∙ ap (λ y. a ++ y) second.names_are;
-      answers = All-append (Answered profile budget) first.scanned second.scanned first.answers second.answers;
-      greatest = omega (arith, greatest-append first.scanned second.scanned, first.greatest, second.greatest);
-      written = subst (Appends old new) (sym (flat_map-append (line_of profile) first.scanned second.scanned)) (appends_both old mid new _ _ first.written second.written);
+      answers = All-append (Answered options) first.scanned second.scanned first.answers second.answers;
+      greatest = omega (arith, greatest-append options.fail_on first.scanned second.scanned, first.greatest, second.greatest);
+      written = subst (Appends old new) (sym (flat_map-append (line_of options.profile) first.scanned second.scanned)) (appends_both old mid new _ _ first.written second.written);
     }
 
 -- the font files so far, and the next one
-pub scans_more : {X : Type 0} (profile : Profile) (budget : Option ℕ) (text : X → List ℕ) (xs : List X) (i : ℕ) (x : X) (name : List ℕ) (s t m : ℕ) (old mid new : Option (List ℕ)) → i < length xs → x ≡ get_or xs i x → name ≡ text x
-    → PrintsScan profile budget (map text (take i xs)) s old mid → PrintsScan profile budget (name ∷ []) t mid new → m ≡ max s t → PrintsScan profile budget (map text (take (i + 1) xs)) m old new
-scans_more profile budget text xs i x name s t m old mid new within is called so_far one greatest =
+pub scans_more : {X : Type 0} (options : ScanOptions) (text : X → List ℕ) (xs : List X) (i : ℕ) (x : X) (name : List ℕ) (s t m : ℕ) (old mid new : Option (List ℕ)) → i < length xs → x ≡ get_or xs i x → name ≡ text x
+    → PrintsScan options (map text (take i xs)) s old mid → PrintsScan options (name ∷ []) t mid new → m ≡ max s t → PrintsScan options (map text (take (i + 1) xs)) m old new
+scans_more options text xs i x name s t m old mid new within is called so_far one greatest =
     let more : map text (take (i + 1) xs) ≡ map text (take i xs) ++ text x ∷ [] =
     ap (map text) (take_more xs i x within) ∙ map-append text (take i xs) (get_or xs i x ∷ []) ∙ ap (λ y. map text (take i xs) ++ text y ∷ []) (sym is) in
-    rw (more, greatest, ← called) (scans_both profile budget (map text (take i xs)) (name ∷ []) s t old mid new so_far one)
+    rw (more, greatest, ← called) (scans_both options (map text (take i xs)) (name ∷ []) s t old mid new so_far one)
 
 -- all font files
-pub scans_all : {X : Type 0} (profile : Profile) (budget : Option ℕ) (text : X → List ℕ) (xs : List X) (i s t : ℕ) (old new : Option (List ℕ)) → length xs ≤ i → s ≡ t → PrintsScan profile budget (map text (take i xs)) s old new
-    → PrintsScan profile budget (map text xs) t old new
-scans_all profile budget text xs i s t old new within same printed = subst (λ ys. PrintsScan profile budget (map text ys) t old new) (take_all i xs within) (subst (λ n. PrintsScan profile budget (map text (take i xs)) n old new) same printed)
+pub scans_all : {X : Type 0} (options : ScanOptions) (text : X → List ℕ) (xs : List X) (i s : ℕ) (old new : Option (List ℕ)) → length xs ≤ i → PrintsScan options (map text (take i xs)) s old new
+    → PrintsScan options (map text xs) s old new
+scans_all options text xs i s old new within printed = subst (λ ys. PrintsScan options (map text ys) s old new) (take_all i xs within) printed
 
 -- the line of a font of which glyph programs are refused, by its parts
 pub counts_written : (profile : Profile) (name : List ℕ) (programs possible undecided left : ℕ) (rs : List Refused) (o p q r s : Option (List ℕ)) → possible ≡ number_of_class PossibleFault rs
@@ -132,6 +130,7 @@ fault_line profile name (fault.Usage text) old new is written = absurd is
 fault_line profile name fault.MaxpWord old new is written = absurd is
 fault_line profile name fault.ProgramWord old new is written = absurd is
 fault_line profile name fault.OffsetWord old new is written = absurd is
+fault_line profile name fault.ClassWord old new is written = absurd is
 fault_line profile name fault.CertificateWord old new is written = absurd is
 fault_line profile name fault.NewWord old new is written = absurd is
 fault_line profile name (fault.Form place) old new is written = absurd is

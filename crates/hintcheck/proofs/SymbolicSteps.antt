@@ -117,6 +117,24 @@ pub cvt_program_stops_if : (d : FontData) (first : Ends) (j : SymbolicCheck) (s 
 cvt_program_stops_if d first j s t None after tells = tt
 cvt_program_stops_if d first j s t (Some r) after tells = cvt_program_stops d first j s t (Some r) r after tells refl
 
+-- what is told of the next program
+
+pub told_of_outcome : (d : FontData) (j : SymbolicCheck) (s t : Stage) (answer : Option Outcome) (o : Outcome) → answer ≡ Some o → AnswersBySymbols d j s answer t → TellsRefused d j s o.refused t
+told_of_outcome d j s t answer o is answers = record {
+  answer = answer;
+  answers = answers;
+  none = λ no. absurd (let bad : Some o ≡ None = sym is ∙ no in cc);
+  some = λ p same. let e : Some o ≡ Some p = sym is ∙ same in let q : o ≡ p = cc in ap (λ (x : Outcome). x.refused) q;
+}
+
+pub told_of_none : (d : FontData) (j : SymbolicCheck) (s t : Stage) (answer : Option Outcome) → answer ≡ None → AnswersBySymbols d j s answer t → TellsRefused d j s None t
+told_of_none d j s t answer is answers = record {
+  answer = answer;
+  answers = answers;
+  none = λ no. refl;
+  some = λ o same. absurd (let bad : None ≡ Some o = sym is ∙ same in cc);
+}
+
 -- glyph programs
 
 pub can_take_up : (P : List (ℕ × ℕ) → Type 0) (s t : Stage) → CanGoOn P s → t ≡ skipped_to (name.Glyph 0) s → CanGoOn P t

@@ -6,6 +6,8 @@ use Rattle.tt_font.specs.declared.fault.FontFault.{FontFault}
 use Rattle.tt_font.specs.declared.fault.FontFault.TheVariants.{OutOfMemory}
 use Rattle.hintcheck_words.specs.HexWords.{IsHexWord, Spells}
 use Rattle.hintcheck_words.specs.Requests.{Request, bare, check, explain, find, is_taken, list, meaning, scan, upgrade, verdict}
+use Rattle.hintcheck_words.specs.declared.words.FailOn.TheVariants.{Unknown}
+use Rattle.hintcheck_words.specs.declared.words.ScanOptions.{ScanOptions}
 use Rattle.hintcheck.specs.Commands.{ReadsToEnd, status_of}
 use Rattle.hintcheck.specs.BarePrograms.{IsMemory}
 use Rattle.hintcheck.specs.Explanations.{HoldNoSuchPlace, HoldPlace}
@@ -80,13 +82,15 @@ IsFaultOfFontFile fault.OutOfMemory = Unit {0}
 IsFaultOfFontFile fault.Budget = Unit {0}
 IsFaultOfFontFile other = ⊥
 
--- Why a scan has a fault: one of the font files has a fault that gives the same exit status.
-abbrev pub IsFaultOfScan : CommandFault → Type 0
-IsFaultOfScan fault.ScanFault =
+-- Why a scan with these options has a fault: the word names no class of reasons; or one of the font
+-- files has a fault that gives the same exit status.
+abbrev pub IsFaultOfScan : ScanOptions → CommandFault → Type 0
+IsFaultOfScan options fault.ClassWord = options.fail_on ≡ Unknown
+IsFaultOfScan options fault.ScanFault =
     (reported : CommandFault) × IsFaultOfFontFile reported × (status_of reported ≡ 2)
-IsFaultOfScan fault.ScanUnfinished =
+IsFaultOfScan options fault.ScanUnfinished =
     (reported : CommandFault) × IsFaultOfFontFile reported × (status_of reported ≡ 3)
-IsFaultOfScan other = ⊥
+IsFaultOfScan options other = ⊥
 
 -- why the bytes of a file aren't read
 abbrev pub IsFaultOfReading : CommandFault → Type 0
@@ -170,7 +174,7 @@ IsFaultOfRequest (bare maxp cvt points contours program profile) reported =
     IsFaultOfGlyph maxp (unwrap_or program []) reported
 IsFaultOfRequest (verdict font budget profile) reported =
     IsFaultOfFontFile reported × IsWithin budget reported
-IsFaultOfRequest (scan fonts budget profile) reported = IsFaultOfScan reported
+IsFaultOfRequest (scan fonts options) reported = IsFaultOfScan options reported
 IsFaultOfRequest (explain font program offset profile) reported =
     IsFaultOfFileExplaining program offset reported
 IsFaultOfRequest (find font certificate budget) reported =
@@ -180,13 +184,14 @@ IsFaultOfRequest (check font certificate budget) reported =
 IsFaultOfRequest (list font program) reported = IsFaultOfFileListing program reported
 IsFaultOfRequest (upgrade old new) reported = IsFaultOfUpgrading old new reported
 
--- The words of `bare` have no fault; those of `find` and of `upgrade` are two different ones; and
--- those of `explain` name a program of some font, and an instruction of it by an offset, if any.
+-- The words of `bare` have no fault; that of `scan` names a class of reasons, if it is given; those
+-- of `find` and of `upgrade` are two different ones; and those of `explain` name a program of some
+-- font, and an instruction of it by an offset, if any.
 abbrev pub HasNoFault : Request → Type 0
 HasNoFault (bare maxp cvt points contours program profile) =
     SpellNoFault maxp (unwrap_or program [])
 HasNoFault (verdict font budget profile) = Unit {0}
-HasNoFault (scan fonts budget profile) = Unit {0}
+HasNoFault (scan fonts options) = options.fail_on ≢ Unknown
 HasNoFault (explain font program offset profile) = (bytes : List ℕ) × HoldPlace bytes program offset
 HasNoFault (find font certificate budget) = font ≢ certificate
 HasNoFault (check font certificate budget) = Unit {0}

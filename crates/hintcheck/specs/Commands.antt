@@ -118,7 +118,7 @@ HasAll left bytes = IfSome left (λ known. bytes ≡ known)
 abbrev pub IsForVerdict : Request → Type 0
 IsForVerdict (bare maxp cvt points contours program profile) = Unit {0}
 IsForVerdict (verdict font budget profile) = Unit {0}
-IsForVerdict (scan fonts budget profile) = ⊥
+IsForVerdict (scan fonts options) = ⊥
 IsForVerdict (explain font program offset profile) = ⊥
 IsForVerdict (find font certificate budget) = Unit {0}
 IsForVerdict (check font certificate budget) = Unit {0}

@@ -13,6 +13,7 @@ pub mod MeansSafe
 pub mod Printed
 pub mod CommandFaults
 pub mod FaultTexts
+pub mod RefusalClasses
 pub mod Scans
 pub mod CheckedFonts
 pub mod CertificateFaults

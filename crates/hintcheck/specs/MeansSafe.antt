@@ -1,9 +1,13 @@
 -- What the exit statuses 0 and 1 mean: what was asked for is safe, or refused.
-use Rattle.std.specs.Prelude.{◌≡◌, ◌≢◌, ◌↔◌, ◌+◌, ◌≤◌, ℕ, All, List, [], Some, length, true, unwrap_or}
+use Rattle.std.specs.Prelude.{◌≡◌, ◌≢◌, ◌↔◌, ◌+◌, ◌≤◌, ◌<◌, ℕ, All, List, [], Some, length, true, unwrap_or}
+use Rattle.tt_code.specs.declared.reason.ReasonClass.TheVariants.{PossibleFault}
 use Rattle.tt_font.specs.Reading.{FontData, GlyphData, Reads}
 use Rattle.hintcheck_words.specs.HexWords.{Spells}
+use Rattle.hintcheck_words.specs.declared.words.FailOn.{FailOn}
+use Rattle.hintcheck_words.specs.declared.words.FailOn.TheVariants.{Possible}
 use Rattle.hintcheck_words.specs.declared.words.Profile.{Profile}
 use Rattle.hintcheck_words.specs.declared.words.Profile.TheVariants.{Strict, Symbolic}
+use Rattle.hintcheck_words.specs.declared.words.ScanOptions.{ScanOptions}
 use Rattle.hintcheck_words.specs.Requests.{Request, bare, check, explain, find, is_taken, list, meaning, scan, upgrade, verdict}
 use Rattle.hintcheck.specs.CommandFaults.{IsFaultOfFontFile, MeansNoFault, TellsFault}
 use Rattle.hintcheck.specs.Commands.{status_of}
@@ -13,6 +17,7 @@ use Rattle.hintcheck.specs.Explanations.{HoldAcceptedProgram, HoldRefusedProgram
 use Rattle.hintcheck.specs.FontPrograms.{IsSafeFont, IsSafeGlyph, IsVerdict}
 use Rattle.hintcheck.specs.Listing.{HoldUnlistedProgram}
 use Rattle.hintcheck.specs.Programs.{HasGoodFamily, IsRefusal}
+use Rattle.hintcheck.specs.RefusalClasses.{number_of_class}
 use Rattle.hintcheck.specs.SymbolicExplanations.{HoldSymbolicAcceptedProgram, HoldSymbolicRefusedProgram}
 use Rattle.hintcheck.specs.SymbolicAnswers.{HoldSymbolicRefusedFont, HoldSymbolicSafeFont, IsSymbolicVerdictOn, SpellGlyph, SpellSymbolicSafeGlyph, SpellSymbolicVerdict}
 use Rattle.hintcheck.specs.Verdicts.{Judgement}
@@ -64,18 +69,32 @@ abbrev pub IsVerdictBy : Profile → List ℕ → Judgement → Type 0
 IsVerdictBy Strict bytes judgement = IsVerdictOn bytes judgement
 IsVerdictBy Symbolic bytes judgement = IsSymbolicVerdictOn bytes judgement
 
+-- The verdict of this profile on the font in the bytes refuses no program for a possible fault.
+-- Those that it refuses are undecided or left out: this doesn't tell that they are safe.
+pub record HoldNoPossibleFault (profile : Profile) (bytes : List ℕ) : Type 0 where
+  pub judgement : Judgement
+  pub given : IsVerdictBy profile bytes judgement
+  pub none : number_of_class PossibleFault judgement.refused ≡ 0
+
+-- What status 0 of a scan tells of each font file: some bytes hold a font whose programs are safe
+-- by this profile; or, where the scan fails for possible faults alone, whose verdict has none.
+abbrev pub HoldPassing : FailOn → Profile → List ℕ → Type 0
+HoldPassing Possible profile bytes = HoldNoPossibleFault profile bytes
+HoldPassing other profile bytes = HoldSafeBy profile bytes
+
 -- What is asked for is safe, where it names a profile by that one, and otherwise by the strict one:
 -- the glyph program of `bare`, which has no bytes where its word is left out. For `verdict`, `find`
 -- and `check`, some bytes hold a safe font: no contract of the runtime tells which bytes a file
--- has, so that these can't be named here. For `scan` this holds for each of the names. For
+-- has, so that these can't be named here. For `scan` this holds for each of the names; where it
+-- fails for possible faults alone, no more than that the verdict on each has none of them. For
 -- `explain`, some bytes hold a font whose program of this name is accepted. A listing and an
 -- upgrade tell nothing of safety.
 abbrev pub IsSafeRequest : Request → Type 0
 IsSafeRequest (bare maxp cvt points contours program profile) =
     SpellSafeBy profile maxp cvt points contours (unwrap_or program [])
 IsSafeRequest (verdict font budget profile) = (bytes : List ℕ) × HoldSafeBy profile bytes
-IsSafeRequest (scan fonts budget profile) =
-    All (λ font. (bytes : List ℕ) × HoldSafeBy profile bytes) fonts
+IsSafeRequest (scan fonts options) =
+    All (λ font. (bytes : List ℕ) × HoldPassing options.fail_on options.profile bytes) fonts
 IsSafeRequest (explain font program offset profile) =
     (bytes : List ℕ) × HoldAcceptedBy profile bytes program
 IsSafeRequest (find font certificate budget) = (bytes : List ℕ) × HoldSafeFont bytes
@@ -83,7 +102,7 @@ IsSafeRequest (check font certificate budget) = (bytes : List ℕ) × HoldSafeFo
 IsSafeRequest (list font program) = Unit {0}
 IsSafeRequest (upgrade old new) = Unit {0}
 
--- The words ask for something, which is safe.
+-- The words ask for something, which is safe as `IsSafeRequest` says.
 pub record MeansSafe (words : List (List ℕ)) : Type 0 where
   pub request : Request
   pub meant : meaning words ≡ Some request
@@ -120,6 +139,18 @@ SpellRefusedBy Symbolic maxp cvt points contours program = SpellGlyph maxp progr
 abbrev pub HoldRefusedBy : Profile → List ℕ → Type 0
 HoldRefusedBy Strict bytes = HoldRefusedFont bytes
 HoldRefusedBy Symbolic bytes = HoldSymbolicRefusedFont bytes
+
+-- The verdict of this profile on the font in the bytes refuses some program for a possible fault.
+pub record HoldPossibleFault (profile : Profile) (bytes : List ℕ) : Type 0 where
+  pub judgement : Judgement
+  pub given : IsVerdictBy profile bytes judgement
+  pub some : 0 < number_of_class PossibleFault judgement.refused
+
+-- What status 1 of a scan tells of a font file: some bytes hold a font whose verdict by this
+-- profile names refused programs; or, where the scan fails for possible faults alone, one of these.
+abbrev pub HoldFailing : FailOn → Profile → List ℕ → Type 0
+HoldFailing Possible profile bytes = HoldPossibleFault profile bytes
+HoldFailing other profile bytes = HoldRefusedBy profile bytes
 
 -- the bytes hold a font, and the word is the name of a program of it that is refused by this profile, or
 -- before which one is
@@ -175,21 +206,22 @@ IsVerdictAsked (find font certificate budget) judgement =
     (bytes : List ℕ) × IsVerdictOn bytes judgement
 IsVerdictAsked (check font certificate budget) judgement =
     (bytes : List ℕ) × IsCheckOn bytes judgement
-IsVerdictAsked (scan fonts budget profile) judgement = ⊥
+IsVerdictAsked (scan fonts options) judgement = ⊥
 IsVerdictAsked (explain font program offset profile) judgement = ⊥
 IsVerdictAsked (list font program) judgement = ⊥
 IsVerdictAsked (upgrade old new) judgement = ⊥
 
 -- What is asked for is refused: the glyph program of `bare`. For `verdict`, `find` and `scan`, some
--- bytes hold a font whose verdict names refused programs; for `check` this tells no more than that
--- some bytes hold a font. For `explain`, some bytes hold a font whose program of this name is
--- refused, or one before it. For `list`, some bytes hold a font whose program of this name can't be
--- cut or isn't structured. An upgrade is never refused.
+-- bytes hold a font whose verdict names refused programs, for `scan` some for which it fails; for
+-- `check` this tells no more than that some bytes hold a font. For `explain`, some bytes hold a
+-- font whose program of this name is refused, or one before it. For `list`, some bytes hold a font
+-- whose program of this name can't be cut or isn't structured. An upgrade is never refused.
 abbrev pub IsRefusedRequest : Request → Type 0
 IsRefusedRequest (bare maxp cvt points contours program profile) =
     SpellRefusedBy profile maxp cvt points contours (unwrap_or program [])
 IsRefusedRequest (verdict font budget profile) = (bytes : List ℕ) × HoldRefusedBy profile bytes
-IsRefusedRequest (scan fonts budget profile) = (bytes : List ℕ) × HoldRefusedBy profile bytes
+IsRefusedRequest (scan fonts options) =
+    (bytes : List ℕ) × HoldFailing options.fail_on options.profile bytes
 IsRefusedRequest (explain font program offset profile) =
     (bytes : List ℕ) × HoldUnacceptedBy profile bytes program
 IsRefusedRequest (find font certificate budget) = (bytes : List ℕ) × HoldRefusedFont bytes
@@ -203,13 +235,15 @@ pub record MeansRefused (words : List (List ℕ)) : Type 0 where
   pub meant : meaning words ≡ Some request
   pub refused : IsRefusedRequest request
 
--- What the greatest of the exit statuses of font files tells, by this profile: where it is 0, each
--- of the files is safe; where it is 1, one is refused; where it is more, one has a fault of this
--- status.
-pub record TellsFonts (profile : Profile) (fonts : List (List ℕ)) (status : ℕ) : Type 0 where
+-- What the greatest of the exit statuses of font files tells, with these options: where it is 0,
+-- each of the files is safe; where it is 1, one is refused; where it is more, one has a fault of
+-- this status. Where the scan fails for possible faults alone, only these count.
+pub record TellsFonts (options : ScanOptions) (fonts : List (List ℕ)) (status : ℕ) : Type 0 where
   pub few : status ≤ 3
-  pub safe : status ≡ 0 → All (λ font. (bytes : List ℕ) × HoldSafeBy profile bytes) fonts
-  pub refused : status ≡ 1 → (bytes : List ℕ) × HoldRefusedBy profile bytes
+  pub safe : status ≡ 0
+      → All (λ font. (bytes : List ℕ) × HoldPassing options.fail_on options.profile bytes) fonts
+  pub refused : status ≡ 1
+      → (bytes : List ℕ) × HoldFailing options.fail_on options.profile bytes
   pub fault : 2 ≤ status
       → (reported : CommandFault) × IsFaultOfFontFile reported × (status_of reported ≡ status)
 

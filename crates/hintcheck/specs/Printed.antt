@@ -18,7 +18,7 @@ use Rattle.hintcheck.specs.declared.commands.faults.CommandFault.{CommandFault}
 abbrev pub profile_of : Request → Profile
 profile_of (bare maxp cvt points contours program profile) = profile
 profile_of (verdict font budget profile) = profile
-profile_of (scan fonts budget profile) = profile
+profile_of (scan fonts options) = options.profile
 profile_of (explain font program offset profile) = profile
 profile_of other = Strict
 
@@ -49,7 +49,7 @@ Prints (bare maxp cvt points contours program profile) status old new =
     PrintsVerdict (bare maxp cvt points contours program profile) status old new
 Prints (verdict font budget profile) status old new =
     PrintsVerdict (verdict font budget profile) status old new
-Prints (scan fonts budget profile) status old new = PrintsScan profile budget fonts status old new
+Prints (scan fonts options) status old new = PrintsScan options fonts status old new
 Prints (explain font program offset profile) status old new = Unit {0}
 Prints (find font certificate budget) status old new =
     PrintsVerdict (find font certificate budget) status old new

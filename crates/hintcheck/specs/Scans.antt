@@ -1,18 +1,20 @@
 -- What a scan prints: a line for each font file, and the exit status that these have together.
-use Rattle.std.specs.Prelude.{◌≡◌, ℕ, zero, suc, Bool, true, false, All, codes, flat_map, List, [], ◌∷◌, ◌++◌, length, map, max, Option, unwrap_or}
+use Rattle.std.specs.Prelude.{◌≡◌, ℕ, zero, suc, All, codes, flat_map, List, [], ◌∷◌, ◌++◌, length, map, max, min, Option, unwrap_or}
 use Rattle.std.specs.Fmt.{decimal}
 use Rattle.std.specs.Io.KnownBytes.{Appends}
-use Rattle.std.specs.List.{count_by}
 use Rattle.tt_code.specs.Refusals.{class_of}
 use Rattle.tt_code.specs.declared.reason.ReasonClass.{ReasonClass}
-use Rattle.tt_code.specs.declared.reason.ReasonClass.TheVariants.{PossibleFault, Undecided, LeftOut, Certificate}
+use Rattle.tt_code.specs.declared.reason.ReasonClass.TheVariants.{PossibleFault, Undecided, LeftOut}
 use Rattle.tt_cert.specs.declared.name.Name.{Name}
 use Rattle.tt_cert.specs.declared.name.Name.TheVariants as name
+use Rattle.hintcheck_words.specs.declared.words.FailOn.{FailOn}
 use Rattle.hintcheck_words.specs.declared.words.Profile.{Profile}
+use Rattle.hintcheck_words.specs.declared.words.ScanOptions.{ScanOptions}
 use Rattle.hintcheck.specs.Commands.{status_of}
 use Rattle.hintcheck.specs.CommandFaults.{IsFaultOfFontFile, IsWithin}
 use Rattle.hintcheck.specs.FaultTexts.{command_fault_text}
 use Rattle.hintcheck.specs.MeansSafe.{IsVerdictBy}
+use Rattle.hintcheck.specs.RefusalClasses.{class_text, number_failing, number_of_class}
 use Rattle.hintcheck.specs.Texts.{profile_text}
 use Rattle.hintcheck.specs.Verdicts.{Judgement}
 use Rattle.hintcheck.specs.declared.commands.faults.CommandFault.{CommandFault}
@@ -32,34 +34,15 @@ IsAnswer profile budget (judged judgement) =
     (bytes : List ℕ) × IsVerdictBy profile bytes judgement
 IsAnswer profile budget (unread reported) = IsFaultOfFontFile reported × IsWithin budget reported
 
--- 0 where no program is refused, and 1 where some are
-abbrev pub status_of_refused : List Refused → ℕ
-status_of_refused [] = 0
-status_of_refused (r ∷ rs) = 1
+-- the exit status where a scan fails for this many programs: 0 for none, and otherwise 1
+abbrev pub status_of_failing : ℕ → ℕ
+status_of_failing count = min count 1
 
 -- the exit status of a font file alone
-abbrev pub status_of_answer : Answer → ℕ
-status_of_answer (judged judgement) = status_of_refused judgement.refused
-status_of_answer (unread reported) = status_of reported
-
--- what a reason of this class tells, in words
-abbrev pub class_text : ReasonClass → List ℕ
-class_text PossibleFault = codes "possible fault"
-class_text Undecided = codes "undecided"
-class_text LeftOut = codes "left out"
-class_text Certificate = codes "certificate"
-
--- whether both are the same
-abbrev pub is_same : ReasonClass → ReasonClass → Bool
-is_same PossibleFault PossibleFault = true
-is_same Undecided Undecided = true
-is_same LeftOut LeftOut = true
-is_same Certificate Certificate = true
-is_same one other = false
-
--- how many programs are refused for a reason of this class
-abbrev pub number_of_class : ReasonClass → List Refused → ℕ
-number_of_class class rs = count_by (λ r. is_same (class_of r.reason) class) rs
+abbrev pub status_of_answer : FailOn → Answer → ℕ
+status_of_answer fail_on (judged judgement) =
+    status_of_failing (number_failing fail_on judgement.refused)
+status_of_answer fail_on (unread reported) = status_of reported
 
 -- how many programs do what is left out, where some do
 abbrev pub left_out_text : ℕ → List ℕ
@@ -107,20 +90,20 @@ abbrev pub line_of : Profile → Scanned → List ℕ
 line_of profile s = s.name ++ (codes ": " ++ (answer_text profile s.answer ++ codes "\n"))
 
 -- the greatest exit status of font files, 0 of none
-abbrev pub greatest_status : List Scanned → ℕ
-greatest_status [] = 0
-greatest_status (s ∷ others) = max (status_of_answer s.answer) (greatest_status others)
+abbrev pub greatest_status : FailOn → List Scanned → ℕ
+greatest_status fail_on [] = 0
+greatest_status fail_on (s ∷ others) =
+    max (status_of_answer fail_on s.answer) (greatest_status fail_on others)
 
--- The files with these names were scanned by this profile, each within this budget, this is the
--- greatest exit status of them, and their lines were written in the order of the names, where the
--- written bytes are known.
-pub record PrintsScan (profile : Profile) (budget : Option ℕ) (names : List (List ℕ)) (status : ℕ)
+-- The files with these names were scanned with these options, this is the greatest exit status of
+-- them, and their lines were written in the order of the names, where the written bytes are known.
+pub record PrintsScan (options : ScanOptions) (names : List (List ℕ)) (status : ℕ)
     (old new : Option (List ℕ)) : Type 0 where
   pub scanned : List Scanned
   pub names_are : map (λ s. s.name) scanned ≡ names
-  pub answers : All (λ s. IsAnswer profile budget s.answer) scanned
-  pub greatest : status ≡ greatest_status scanned
-  pub written : Appends old new (flat_map (line_of profile) scanned)
+  pub answers : All (λ s. IsAnswer options.profile options.budget s.answer) scanned
+  pub greatest : status ≡ greatest_status options.fail_on scanned
+  pub written : Appends old new (flat_map (line_of options.profile) scanned)
 
 -- the fault is a scan's, which comes after the last line
 abbrev pub IsOfScan : CommandFault → Type 0

@@ -72,7 +72,13 @@ fn judge_bare(alloc: Global, limits: Limits, cvt: u16, glyph: &GlyphPart<'_>) ->
         start: &[],
     };
     let mut judge = Finding::new(alloc, Search::Verdict);
-    judge.judge(alloc, &setting, &[], &mut Budget::unlimited())
+    judge.judge(
+        alloc,
+        Name::Glyph(0),
+        &setting,
+        &[],
+        &mut Budget::unlimited(),
+    )
 }
 
 /// Returns the only program, `g0`, if it is refused: that of the glyph of a font whose font program

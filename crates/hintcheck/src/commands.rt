@@ -53,8 +53,8 @@ fn profile_of_task(task: &Task) -> Profile
     match task {
         Task::Bare { profile, .. }
         | Task::Verdict { profile, .. }
-        | Task::Scan { profile, .. }
         | Task::Explain { profile, .. } => *profile,
+        Task::Scan { options, .. } => options.profile,
         Task::Find { .. } | Task::Check { .. } | Task::List { .. } | Task::Upgrade { .. } =>
             Profile::Strict,
     }
@@ -127,11 +127,7 @@ fn do_task<R: Files + AllocGlobal, O: Sink>(
     ensures none { OnOk result (HasNoFault (asked task.now)) }
 {
     match task {
-        Task::Scan {
-            fonts,
-            budget,
-            profile,
-        } => scan_fonts(rt, fonts, *budget, *profile, out),
+        Task::Scan { fonts, options } => scan_fonts(rt, fonts, *options, out),
         Task::Explain {
             font,
             program,
@@ -152,11 +148,12 @@ fn do_task<R: Files + AllocGlobal, O: Sink>(
 /// `Write` exactly where a write to `out` failed; `Usage` for words that the command line doesn't
 /// take; `MaxpWord` and `ProgramWord` for a word that spells no bytes; `ProgramWord` also for one
 /// that names no program of the font; `OffsetWord` for an offset at which none of the program's
-/// instructions begins; `ScanFault` and `ScanUnfinished` where a font of a scan has a fault, which
-/// its line tells; `Budget` where more points were to be made than `--points` allows;
-/// `CertificateWord` where a font's file is to be its certificate's; `NewWord` where an old
-/// certificate's file is to be the new one's; `Font` for the first fault of the font or of `bare`'s
-/// `maxp`, which may be that memory ran out; `Form`, `Read`, `File` and `OutOfMemory`.
+/// instructions begins; `ClassWord` where a scan is to fail for reasons of a class that doesn't
+/// exist; `ScanFault` and `ScanUnfinished` where a font of a scan has a fault, which its line
+/// tells; `Budget` where more points were to be made than `--points` allows; `CertificateWord`
+/// where a font's file is to be its certificate's; `NewWord` where an old certificate's file is to
+/// be the new one's; `Font` for the first fault of the font or of `bare`'s `maxp`, which may be
+/// that memory ran out; `Form`, `Read`, `File` and `OutOfMemory`.
 pub fn try_command<R: Files + AllocGlobal, O: Sink>(
     rt: &R,
     words: &[&str],
@@ -210,7 +207,8 @@ pub fn command<R: Files + AllocGlobal, O: Sink, E: Sink>(
     err: &mut E,
 ) -> u8
     ensures statuses { result ≤ 3 }
-    // Where the command line takes the words and the status is 0, what they ask for is safe.
+    // Where the command line takes the words and the status is 0, what they ask for is safe; where
+    // a scan is to fail for possible faults alone, no verdict of its fonts names one.
     ensures safe { result ≡ 0 → is_taken (map (λ w. w.now) words.entry.now) ≡ true
         → MeansSafe (map (λ w. w.now) words.entry.now) }
     // Where the status is 1, the words ask for something, which is refused.

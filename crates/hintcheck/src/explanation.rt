@@ -202,6 +202,33 @@ fn refused_before<'a>(
     Ok(None)
 }
 
+/// Judges the programs up to the one of this name, explains it, and returns the exit status.
+fn explain_judged<'a, O: Sink>(
+    alloc: Global,
+    programs: &mut FontPrograms<'a>,
+    judge: &mut Finding,
+    called: Name,
+    offset: Option<u32>,
+    out: &mut O,
+) -> Result<u8, CommandFault>
+    requires range { IsFontInRange programs.old.font.now }
+    requires start { stage_of programs.old ≡ at_start }
+    requires there { is_some (program_in programs.old.font.now called) ≡ true }
+    requires place { HasPlaceIn programs.old.font.now called offset }
+    ensures status { IfOk result (λ status. status ≤ 1) }
+    ensures tells { IfOk result (TellsProgram programs.old.font.now called) }
+    ensures failures { TellsFailure result (O.failures out.old) (O.failures out.new) }
+    ensures faults { IfErr result IsFaultOfLines }
+{
+    if let Some(refused) = refused_before(alloc, programs, judge, called)? {
+        return tell_unchecked(refused, out);
+    }
+    let next = programs.next().unwrap();
+    let accepted = is_accepted(alloc, programs, next, judge)?;
+    tell_next(alloc, programs, next, offset, out)?;
+    Ok(exit_status(accepted))
+}
+
 /// Explains the font's program of this name, and returns the exit status.
 fn explain_named<O: Sink>(
     alloc: Global,
@@ -220,13 +247,7 @@ fn explain_named<O: Sink>(
 {
     let mut programs = Programs::new(font);
     let mut judge = Finding::new(alloc, Search::Verdict);
-    if let Some(refused) = refused_before(alloc, &mut programs, &mut judge, called)? {
-        return tell_unchecked(refused, out);
-    }
-    let next = programs.next().unwrap();
-    let accepted = is_accepted(alloc, &programs, next, &mut judge)?;
-    tell_next(alloc, &programs, next, offset, out)?;
-    Ok(exit_status(accepted))
+    explain_judged(alloc, &mut programs, &mut judge, called, offset, out)
 }
 
 /// Explains one program of the font in these bytes, the one that the word names, and returns the

@@ -11,6 +11,7 @@ ghost use Rattle.hintcheck.specs.Representation.ProgramOrder.{with_start};
 
 use crate::judge::Judge;
 use crate::program::{Search, find_and_check};
+use crate::report::Name;
 use std::alloc::{AllocError, Global};
 use tt_abs::{Kind, Refusal, Setting};
 use tt_family::{Budget, Certificate};
@@ -79,6 +80,7 @@ impl Judge for Finding {
     fn judge(
         &mut self,
         alloc: Global,
+        _program: Name,
         setting: &Setting<'_>,
         start: &[(u16, u32)],
         budget: &mut Budget,

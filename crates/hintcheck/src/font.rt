@@ -8,11 +8,13 @@ ghost use Rattle.tt_font.specs.Reading.{FontData, Reads};
 ghost use Rattle.hintcheck.specs.BudgetAnswers.{VerdictTellsBudget, VerdictTellsFontFault};
 ghost use Rattle.hintcheck.specs.FontPrograms.{IsFontInRange, IsSafeFont, IsVerdict};
 ghost use Rattle.hintcheck.specs.Representation.FontVerdicts.{AreAllRefused};
+ghost use Rattle.hintcheck.specs.Representation.ProgramOrder.{stage_of};
 ghost use Rattle.hintcheck.specs.Representation.SessionStages.{ListsOutcome};
+ghost use Rattle.hintcheck.specs.Sessions.{at_start};
 
 use crate::finding::Finding;
 use crate::program::Search;
-use crate::programs::Programs;
+use crate::programs::{FontPrograms, Programs};
 use crate::report::{Refused, Verdict};
 use crate::session::Outcome;
 use std::alloc::{AllocError, Global};
@@ -30,6 +32,26 @@ pub(crate) fn list_outcome(refused: &mut Vec<Refused>, outcome: Outcome) -> Resu
     Ok(())
 }
 
+/// Judges these programs with this judge, one after the other: returns the refused ones, in their
+/// order.
+fn refused_by<'a>(
+    alloc: Global,
+    programs: &mut FontPrograms<'a>,
+    judge: &mut Finding,
+    budget: &mut Budget,
+) -> Result<Vec<Refused>, AllocError>
+    requires range { IsFontInRange programs.old.font.now }
+    requires start { stage_of programs.old ≡ at_start }
+    ensures refused { IfOk result (λ refused. AreAllRefused programs.old.font.now refused.items) }
+    ensures spends { Spends budget.old budget.new }
+{
+    let mut refused = Vec::new(alloc);
+    while let Some(outcome) = programs.judge_next(alloc, judge, budget)? {
+        list_outcome(&mut refused, outcome)?;
+    }
+    Ok(refused)
+}
+
 /// Judges the programs of a font, one after the other, each in the memory of those before: returns
 /// the refused ones, in their order.
 pub(crate) fn refused_programs(
@@ -43,11 +65,7 @@ pub(crate) fn refused_programs(
 {
     let mut programs = Programs::new(font);
     let mut judge = Finding::new(alloc, Search::Verdict);
-    let mut refused = Vec::new(alloc);
-    while let Some(outcome) = programs.judge_next(alloc, &mut judge, budget)? {
-        list_outcome(&mut refused, outcome)?;
-    }
-    Ok(refused)
+    refused_by(alloc, &mut programs, &mut judge, budget)
 }
 
 /// Reads a font. Each of its programs has fewer than 2^31 bytes, and the greatest depth of its

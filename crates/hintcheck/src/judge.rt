@@ -11,6 +11,7 @@ ghost use Rattle.hintcheck.specs.Representation.FontVerdicts.{ComesToEnd};
 ghost use Rattle.hintcheck.specs.Representation.ProgramOrder.{IsProgramOf, IsUncut};
 ghost use Rattle.hintcheck.specs.declared.report.Refused.{Refused};
 
+use crate::report::Name;
 use std::alloc::{AllocError, Global};
 use tt_abs::{Refusal, Setting};
 use tt_family::Budget;
@@ -35,14 +36,15 @@ pub(crate) trait Judge {
     /// What stays of a judge while it decides on programs.
     ghost Keeps: { Self → Self → Type 0 };
 
-    /// Decides on the program of this setting, which starts with what is known where the one before
-    /// it ends.
+    /// Decides on the program of this name and setting, which starts with what is known where the one
+    /// before it ends.
     ///
     /// # Errors
     /// `Refused`; `OutOfMemory`.
     fn judge(
         &mut self,
         alloc: Global,
+        program: Name,
         setting: &Setting<'_>,
         start: &[Self::Known],
         budget: &mut Budget,

@@ -31,7 +31,9 @@ pub use commands::{command, try_command, verdict_of};
 pub use explanation::explain_program;
 pub use font::{VerdictFault, read_font, verdict, verdict_within};
 pub use font_check::{CheckFontFault, check_font, check_font_within};
-pub use hintcheck_words::{Profile, Task, TaskFault, WordFault, read_words, word_bytes};
+pub use hintcheck_words::{
+    FailOn, Profile, ScanOptions, Task, TaskFault, WordFault, read_words, word_bytes,
+};
 pub use instruction_list::list_program;
 pub use report::{Name, Place, Refused, Verdict};
 pub use session::{Outcome, Session};

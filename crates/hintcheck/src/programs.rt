@@ -270,7 +270,7 @@ impl<'a, K: Drop> Programs<'a, K> {
         let program = cut(alloc, next.bytes)?;
         let setting = self.setting(next.kind, &program);
         let start = self.start();
-        judge.judge(alloc, &setting, start, budget)?;
+        judge.judge(alloc, next.name, &setting, start, budget)?;
         if !has_end(next.kind) {
             return Ok(None);
         }

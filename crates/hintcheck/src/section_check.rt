@@ -11,6 +11,7 @@ ghost use Rattle.hintcheck.specs.Representation.Judges.{IsPassedBy, IsPassedToEn
 ghost use Rattle.hintcheck.specs.Representation.ProgramOrder.{with_start};
 
 use crate::judge::Judge;
+use crate::report::Name;
 use std::alloc::{AllocError, Global};
 use tt_abs::{Refusal, Setting};
 use tt_cert::Form;
@@ -70,6 +71,7 @@ impl<'c> Judge for SectionCheck<'c> {
     fn judge(
         &mut self,
         alloc: Global,
+        _program: Name,
         setting: &Setting<'_>,
         start: &[(u16, u32)],
         budget: &mut Budget,

@@ -8,7 +8,7 @@ ghost use Rattle.hintcheck.specs.Representation.FontVerdicts.{ComesToEnd};
 ghost use Rattle.hintcheck.specs.Representation.SymbolicChecks.{AreCheckedInTurn, IsCheckedBy, IsEnded, IsEndedBy, IsRunnable, refusal_as};
 
 use crate::judge::Judge;
-use crate::programs::Next;
+use crate::report::Name;
 use hintcheck_explain::Asked;
 use std::alloc::{AllocError, Global};
 use std::mem;
@@ -133,6 +133,27 @@ fn starts_after(alloc: Global, search: &mut Search, ends: &Ends) -> Result<Glyph
     }
 }
 
+/// Checks the programs of a font of one glyph by what the search finds for each.
+///
+/// # Errors
+/// Those of `Search::find`, of `check_before_glyphs` and of `check_glyph_program`.
+fn check_found(
+    alloc: Global,
+    search: &mut Search,
+    font: &Setting<'_>,
+    cvt: &Setting<'_>,
+    glyph: &Setting<'_>,
+) -> Result<(), CheckRefusal>
+    ensures { OnOk result (AreCheckedInTurn (setting_of font.now) (setting_of cvt.now)
+        (setting_of glyph.now)) }
+{
+    let first = check_to_end(alloc, search, USUAL_SEARCH, font, &[])?;
+    let functions = first.functions.as_slice();
+    let second = check_to_end(alloc, search, USUAL_SEARCH, cvt, functions)?;
+    let starts = starts_after(alloc, search, &second)?;
+    check_glyph(alloc, search, USUAL_SEARCH, glyph, &starts)
+}
+
 /// Searches and checks the programs of a font of one glyph.
 ///
 /// # Errors
@@ -147,11 +168,7 @@ pub(crate) fn check_in_turn(
         (setting_of glyph.now)) }
 {
     let mut search = Search::new(alloc);
-    let first = check_to_end(alloc, &mut search, USUAL_SEARCH, font, &[])?;
-    let functions = first.functions.as_slice();
-    let second = check_to_end(alloc, &mut search, USUAL_SEARCH, cvt, functions)?;
-    let starts = starts_after(alloc, &mut search, &second)?;
-    check_glyph(alloc, &mut search, USUAL_SEARCH, glyph, &starts)
+    check_found(alloc, &mut search, font, cvt, glyph)
 }
 
 /// Returns the fault of a program that is refused so. Too many steps are told at the program's start.
@@ -179,6 +196,16 @@ pub(crate) fn refusal_of(refusal: CheckRefusal) -> Refusal
             reason: Reason::TooManySteps,
         },
         CheckRefusal::OutOfMemory(error) => Refusal::OutOfMemory(error),
+    }
+}
+
+/// Returns what the search is asked about a program, where this is to be explained.
+fn question_on(explained: Option<Asked>, program: Name) -> Option<Question> {
+    match explained {
+        Some(asked) if asked.program == program => Some(Question {
+            offset: asked.offset,
+        }),
+        _ => None,
     }
 }
 
@@ -211,20 +238,6 @@ impl SymbolicCheck {
     /// Lets the judge keep what explains its answer for one program.
     pub(crate) fn explain(&mut self, asked: Asked) {
         self.explained = Some(asked);
-    }
-
-    /// Prepares the judge for the program that is next: its answer is explained, or it isn't.
-    pub(crate) fn expect(&mut self, next: Option<Next<'_>>)
-        ensures starts { self.new.starts ≡ self.old.starts }
-        ensures ends { self.new.ends ≡ self.old.ends }
-    {
-        let question = match (self.explained, next) {
-            (Some(asked), Some(next)) if asked.program == next.name => Some(Question {
-                offset: asked.offset,
-            }),
-            _ => None,
-        };
-        self.search.ask(question);
     }
 
     /// Takes what the search tells of the program that is explained.
@@ -301,10 +314,12 @@ impl Judge for SymbolicCheck {
     fn judge(
         &mut self,
         alloc: Global,
+        program: Name,
         setting: &Setting<'_>,
         start: &[(u16, u32)],
         _budget: &mut Budget,
     ) -> Result<(), Refusal> {
+        self.search.ask(question_on(self.explained, program));
         match self.check(alloc, setting, start) {
             Ok(()) => Ok(()),
             Err(refusal) => {

@@ -9,7 +9,7 @@ ghost use Rattle.tt_font.specs.Reading.{FontData, Reads};
 ghost use Rattle.tt_symbolic_font.specs.Known.{StartGlyphs};
 ghost use Rattle.hintcheck.specs.FontPrograms.{IsFontInRange, judgement_on};
 ghost use Rattle.hintcheck.specs.Representation.ProgramOrder.{CanGoOn, skipped_to, stage_of};
-ghost use Rattle.hintcheck.specs.Representation.SymbolicChecks.{AnswersBySymbols, IsAfterCvt, TellsRefused};
+ghost use Rattle.hintcheck.specs.Representation.SymbolicChecks.{IsAfterCvt, TellsRefused};
 ghost use Rattle.hintcheck.specs.Sessions.{at_start};
 ghost use Rattle.hintcheck.specs.SymbolicVerdicts.{IsSymbolicVerdict};
 
@@ -30,25 +30,6 @@ const MOST_TAKEN_UP_AGAIN: u32 = 40;
 /// How many steps the search of a font usually makes at most, for all its programs together.
 pub(crate) const USUAL_STEPS: u64 = 1_000_000_000;
 
-/// Judges the next program and goes on to the one after it, as `Programs::judge_next` does; the judge
-/// knows then which program it is.
-fn judge_next(
-    alloc: Global,
-    programs: &mut FontPrograms<'_>,
-    judge: &mut SymbolicCheck,
-) -> Result<Option<Outcome>, AllocError>
-    requires range { IsFontInRange programs.old.font.now }
-    requires start { CanGoOn (λ functions. Ascends functions) (stage_of programs.old) }
-    ensures answer { IfOk result (λ answer. AnswersBySymbols programs.old.font.now judge.new
-        (stage_of programs.old) answer (stage_of programs.new)) }
-    ensures start { CanGoOn (λ functions. Ascends functions) (stage_of programs.new) }
-    ensures font { programs.new.font ≡ programs.old.font }
-    ensures keeps { judge.new.starts ≡ judge.old.starts }
-{
-    judge.expect(programs.next());
-    programs.judge_next(alloc, judge, &mut Budget::unlimited())
-}
-
 /// Judges the next program. Returns what is reported of it, if it is refused.
 fn refused_next(
     alloc: Global,
@@ -62,7 +43,7 @@ fn refused_next(
     ensures start { CanGoOn (λ functions. Ascends functions) (stage_of programs.new) }
     ensures font { programs.new.font ≡ programs.old.font }
 {
-    match judge_next(alloc, programs, judge)? {
+    match programs.judge_next(alloc, judge, &mut Budget::unlimited())? {
         Some(outcome) => Ok(outcome.refused),
         None => Ok(None),
     }
@@ -123,7 +104,7 @@ fn refused_glyphs(
     take_up(alloc, programs, judge, &ends)?;
     let mut again = 0;
     let mut refused = Vec::new(alloc);
-    while let Some(outcome) = judge_next(alloc, programs, judge)? {
+    while let Some(outcome) = programs.judge_next(alloc, judge, &mut Budget::unlimited())? {
         if judge.may_write_kept() && again < MOST_TAKEN_UP_AGAIN {
             again += 1;
             take_up(alloc, programs, judge, &ends)?;

@@ -1,2 +1,3 @@
 pub mod Refusals
 pub mod Answers
+pub mod ReasonTexts

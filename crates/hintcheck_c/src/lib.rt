@@ -2,7 +2,9 @@
 //! says for each what it takes and answers.
 #![tactic(auto)]
 
-ghost use Rattle.std.specs.Prelude.{◌≡◌, ◌≢◌, ◌<◌, ◌≤◌, [], IfErr, IfOk, length};
+ghost use Rattle.std.specs.Prelude.{◌≡◌, ◌≢◌, ◌<◌, ◌≤◌, ◌↔◌, [], IfErr, IfOk, length, true};
+ghost use Rattle.tt_code.specs.Refusals.{number_of, reason_text};
+ghost use Rattle.tt_code.specs.declared.reason.Reason.{Reason};
 ghost use Rattle.tt_family.specs.Budgets.{IsExceeded, Spends};
 ghost use Rattle.hintcheck.specs.CheckedFonts.{AnswersFinding};
 ghost use Rattle.hintcheck.specs.FontPrograms.{IsSafeFont};
@@ -10,9 +12,11 @@ ghost use Rattle.hintcheck.specs.MeansSafe.{HoldRefusedFont, HoldSafeFont};
 ghost use Rattle.hintcheck.specs.SymbolicAnswers.{HoldSymbolicRefusedFont, HoldSymbolicSafeFont};
 ghost use Rattle.hintcheck.specs.SymbolicVerdicts.{IsSymbolicVerdict};
 ghost use Rattle.hintcheck_c.specs.Answers.{AnswersCheck, AnswersCheckFault, AnswersFontFault, AnswersSymbolicVerdict, AnswersVerdict, IsFaultOfCheck, IsFaultOfVerdict};
+ghost use Rattle.hintcheck_c.specs.ReasonTexts.{IsReasonNumber, c_string};
 ghost use Rattle.tt_font.specs.Reading.{FontData, Reads};
 
 mod answer;
+mod reason;
 mod refusal;
 
 pub use answer::HintcheckAnswer;
@@ -21,6 +25,7 @@ use hintcheck::{
     Budget, CheckFontFault, Verdict, VerdictFault, check_font_within, verdict_symbolic_within,
     verdict_within,
 };
+use reason::{TEXT_SIZE, c_string_of, reason_of};
 pub use refusal::HintcheckRefusal;
 use std::alloc::Global;
 use tt_stream::Bytes;
@@ -34,6 +39,26 @@ pub extern "C" fn hintcheck_version() -> u32
     ensures { result ≡ 2304 }
 {
     VERSION
+}
+
+/// Hands out the text of the reason of this number, with zeros after it, and returns whether it is a
+/// reason's number; where it isn't, what was there stays.
+#[unsafe(no_mangle)]
+pub extern "C" fn hintcheck_reason_text_of_number(
+    number: u32,
+    text: &mut &'static [u8; TEXT_SIZE],
+) -> bool
+    ensures text { (r : Reason) → number_of r ≡ number
+        → text.new.now ≡ c_string (reason_text r) }
+    ensures known { (result ≡ true) ↔ IsReasonNumber number }
+{
+    match reason_of(number) {
+        Some(reason) => {
+            *text = c_string_of(reason);
+            true
+        }
+        None => false,
+    }
 }
 
 /// Answers with the verdict on the programs of the font in these bytes, or with why there is none,

@@ -9,6 +9,7 @@ ghost use Rattle.hintcheck_explain.specs.Faults.{AsksForInstruction, HasLeast, H
 use crate::accepted::tell_accepted;
 use crate::asked::{Asked, ExplainFault, Explained};
 use crate::listing::{Code, Listing};
+use crate::needs::tell_needs;
 use crate::place::{Place, Refused, program_at};
 use crate::reached::tell_contexts;
 use crate::refusal::tell_refusal;
@@ -123,7 +124,7 @@ pub fn explain<O: Sink>(
     let explored = explore(alloc, setting)?;
     let subject = Subject {
         name: asked.program,
-        setting,
+        setting: &*setting,
         certificate: &explored.found.certificate,
     };
     match explored.fault {
@@ -139,6 +140,7 @@ pub fn explain<O: Sink>(
             },
         ) => {
             explain_refused(alloc, &subject, asked, spot, offset, reason, out)?;
+            tell_needs(alloc, setting, asked, reason, out)?;
             Ok(Explained::Refused)
         }
         Some(Refusal::OutOfMemory(error)) => Err(ExplainFault::OutOfMemory(error)),

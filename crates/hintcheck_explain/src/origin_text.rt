@@ -1,6 +1,7 @@
 //! Where a number comes from, as it is printed.
 
 use crate::element::Shown;
+use crate::making::Making;
 use crate::origin::{Brought, Origin};
 use crate::place::Place;
 use crate::subject::Subject;
@@ -53,11 +54,8 @@ impl fmt::Display for OriginText<'_, '_> {
             Origin::Made(point) => {
                 let place = self.subject.place(point);
                 let name = self.subject.name_at(point);
-                write!(
-                    f,
-                    "{name} at {place} makes it, which gives a number that isn't known "
-                )?;
-                write!(f, "before the program runs.")
+                let making = Making::strict(self.subject.code_at(point));
+                write!(f, "{name} at {place} {making}")
             }
             Origin::Joined { at, first, second } => {
                 let place = self.subject.place(at);

@@ -7,12 +7,11 @@ ghost use Rattle.hintcheck_explain.specs.Faults.{TellsFailure};
 use crate::arrivals::{Edge, Ways, depths_at, edges_of};
 use crate::asked::ExplainFault;
 use crate::calls::Calls;
-use crate::describing::{Bounds, Why};
+use crate::cause::{tell_cause, trouble_of_program};
 use crate::diagnosis::trouble_at;
 use crate::effect_text::tell_effect;
 use crate::knowledge::Knowledge;
 use crate::listing::{Code, Listing};
-use crate::meaning::{advice_of, class_of, class_text};
 use crate::origin::origin_of;
 use crate::origin_text::OriginText;
 use crate::place::{Place, program_at};
@@ -100,31 +99,6 @@ fn case_of<'a>(
         }
     }
     Ok(None)
-}
-
-/// Prints why a program is refused, the class of the reason, and what to do.
-fn tell_reason<O: Sink>(
-    subject: &Subject<'_>,
-    name: &'static str,
-    reason: Reason,
-    trouble: Trouble,
-    out: &mut O,
-) -> Result<(), PrintFailed>
-    ensures failures { CountsPrintFailure result (O.failures out.old) (O.failures out.new) }
-{
-    let class = class_of(reason, trouble);
-    let bounds = Bounds::of(subject.setting);
-    let why = Why {
-        name,
-        reason,
-        trouble,
-        bounds,
-    };
-    let kind = class_text(reason, class);
-    let advice = advice_of(reason, class, name);
-    writeln!(out, "Why: {why}")?;
-    writeln!(out, "Class: {kind}")?;
-    writeln!(out, "What to do: {advice}")
 }
 
 /// Prints where a number comes from, if the program is refused because that number isn't known.
@@ -228,7 +202,7 @@ fn tell_case<O: Sink>(
     match case {
         Some(case) => {
             let name = subject.name_at(case.point);
-            tell_reason(subject, name, reason, case.trouble, out)?;
+            tell_cause(subject.setting, name, reason, case.trouble, out)?;
             let view = View::Strict(case.state);
             tell_effect(subject.instruction_at(case.point), view, out)?;
             tell_origin(alloc, subject, edges, case, out)?;
@@ -236,11 +210,8 @@ fn tell_case<O: Sink>(
             tell_routes(alloc, subject, edges, case, out)
         }
         None => {
-            let trouble = match reason {
-                Reason::ProgramTooLong => Trouble::Length(subject.setting.main.len()),
-                _ => Trouble::Other,
-            };
-            tell_reason(subject, "", reason, trouble, out)?;
+            let trouble = trouble_of_program(subject.setting, reason);
+            tell_cause(subject.setting, "", reason, trouble, out)?;
             Ok(())
         }
     }

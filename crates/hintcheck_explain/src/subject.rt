@@ -50,6 +50,14 @@ impl<'a> Subject<'a> {
         }
     }
 
+    /// Returns the code of the instruction at a point; 0 where there is none.
+    pub(crate) fn code_at(&self, point: PointKey) -> u8 {
+        match self.instruction_at(point) {
+            Some(instruction) => instruction.code(),
+            None => 0,
+        }
+    }
+
     /// Returns the program of a spot.
     pub(crate) fn code(&self, spot: Spot) -> &'a Program<'a> {
         match spot {

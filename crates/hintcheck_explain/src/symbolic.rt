@@ -6,12 +6,11 @@ ghost use Rattle.hintcheck_explain.specs.Faults.{TellsFailure};
 
 use crate::accepted::count_instructions;
 use crate::asked::{Asked, ExplainFault};
-use crate::describing::{Bounds, Why};
+use crate::cause::{tell_cause, trouble_of_program};
 use crate::effect_text::tell_effect;
 use crate::instruction_text::name_of;
 use crate::legend::Legend;
 use crate::listing::{Code, Listing};
-use crate::meaning::{ADVICE_ON_RANGE, advice_of, class_of, class_text};
 use crate::place::{Place, Refused};
 use crate::symbolic_calls::SymbolicCalls;
 use crate::symbolic_case::{instruction_at, trouble_of};
@@ -190,34 +189,6 @@ fn tell_place<O: Sink>(
     Ok(())
 }
 
-/// Prints why a program is refused, the class of the reason, and what to do.
-fn tell_reason<O: Sink>(
-    searched: Searched<'_>,
-    name: &'static str,
-    reason: Reason,
-    trouble: Trouble,
-    out: &mut O,
-) -> Result<(), PrintFailed>
-    ensures failures { CountsPrintFailure result (O.failures out.old) (O.failures out.new) }
-{
-    let class = class_of(reason, trouble);
-    let bounds = Bounds::of(searched.setting);
-    let why = Why {
-        name,
-        reason,
-        trouble,
-        bounds,
-    };
-    let kind = class_text(reason, class);
-    let advice = match trouble {
-        Trouble::Range { .. } => ADVICE_ON_RANGE,
-        _ => advice_of(reason, class, name),
-    };
-    writeln!(out, "Why: {why}")?;
-    writeln!(out, "Class: {kind}")?;
-    writeln!(out, "What to do: {advice}")
-}
-
 /// Prints where a number comes from, if the program is refused because that number isn't known well
 /// enough.
 fn tell_origin<O: Sink>(
@@ -259,11 +230,8 @@ fn tell_case<O: Sink>(
     ensures other { result ≢ Err ExplainFault.NoInstruction }
 {
     let Some(known) = searched.refused() else {
-        let trouble = match reason {
-            Reason::ProgramTooLong => Trouble::Length(searched.setting.main.len()),
-            _ => Trouble::Other,
-        };
-        tell_reason(searched, "", reason, trouble, out)?;
+        let trouble = trouble_of_program(searched.setting, reason);
+        tell_cause(searched.setting, "", reason, trouble, out)?;
         return Ok(());
     };
     let state = &known.state;
@@ -273,7 +241,7 @@ fn tell_case<O: Sink>(
         None => "the program's end",
     };
     let trouble = trouble_of(alloc, searched.setting, state, reason)?;
-    tell_reason(searched, name, reason, trouble, out)?;
+    tell_cause(searched.setting, name, reason, trouble, out)?;
     tell_effect(instruction, View::Symbolic(state), out)?;
     tell_origin(searched, known, trouble, out)?;
     tell_state(alloc, searched, known, out)

@@ -1,6 +1,7 @@
 //! Where a number of a symbolic state comes from, as it is printed.
 
 use crate::instruction_text::name_of;
+use crate::making::Making;
 use crate::place::{Place, program_at};
 use std::fmt;
 use tt_abs::{Kind, Setting, Spot};
@@ -80,11 +81,8 @@ impl fmt::Display for SourceText<'_> {
                     let unread = self.unread();
                     return write!(f, "{name} at {place} reads it, {unread}");
                 }
-                write!(
-                    f,
-                    "{name} at {place} makes it, which gives a number that isn't known "
-                )?;
-                write!(f, "before the program runs.")
+                let making = Making::symbolic(code);
+                write!(f, "{name} at {place} {making}")
             }
             Source::Met {
                 at,

@@ -1,7 +1,7 @@
 -- The command line, in the terms of clap's definitions:
 --     hintcheck bare [--symbolic] MAXP CVT POINTS CONTOURS [PROGRAM]
 --     hintcheck verdict [--symbolic] [--points POINTS] FONT
---     hintcheck scan [--symbolic] [--points POINTS] FONT..
+--     hintcheck scan [--symbolic] [--points POINTS] [--fail-on CLASS] FONT..
 --     hintcheck explain [--symbolic] FONT PROGRAM [OFFSET]
 --     hintcheck find [--points POINTS] FONT CERT
 --     hintcheck check [--points POINTS] FONT CERT
@@ -38,6 +38,10 @@ number_option id name = record (new_rule id) {
   parser = Some (parser.Unsigned 0 18446744073709551615);
 }
 
+-- an option of this long name, which may be left out, and takes a text otherwise
+abbrev pub text_option : Text → Text → Rule
+text_option id name = record (new_rule id) { long = Some name }
+
 -- an option of this long name, which may be left out, and takes no value
 abbrev pub flag : Text → Text → Rule
 flag id name = record (new_rule id) { long = Some name; action = Some SetTrue }
@@ -60,6 +64,10 @@ points = number_option (codes "POINTS") (codes "points")
 abbrev pub symbolic : Rule
 symbolic = flag (codes "SYMBOLIC") (codes "symbolic")
 
+-- the option `--fail-on`, which names the class of reasons for which a scan fails
+abbrev pub fail_on : Rule
+fail_on = text_option (codes "CLASS") (codes "fail-on")
+
 -- a subcommand whose arguments are texts that must be given, and the option `--points`
 abbrev pub of_texts_and_points : Text → List Text → App
 of_texts_and_points name ids = with_rule (of_texts name ids) points
@@ -76,8 +84,8 @@ verdict = with_rule (of_texts_and_points (codes "verdict") (codes "FONT" ∷ [])
 
 -- the subcommand `scan`, which checks all programs of each of several font files
 abbrev pub scan : App
-scan = with_rule (with_rule (with_rule (new_app (codes "scan"))
-    (needed_list (codes "FONT"))) points) symbolic
+scan = with_rule (with_rule (with_rule (with_rule (new_app (codes "scan"))
+    (needed_list (codes "FONT"))) points) symbolic) fail_on
 
 -- the subcommand `explain`, which tells how one program is checked
 abbrev pub explain : App

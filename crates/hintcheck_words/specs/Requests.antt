@@ -8,8 +8,11 @@ use Rattle.clap.specs.Faults.{fault_of}
 use Rattle.clap.specs.Words.{IsAmong, IsSignedIn, IsUnsignedIn, Kinds, Row, Text, all_of, first_of, found_of, kind_of, one_of, rows_of, subcommand_of, takes, without_minus}
 use Rattle.clap.specs.declared.parser.matches.ArgMatches.{ArgMatches}
 use Rattle.hintcheck_words.specs.CommandLine.{hintcheck}
+use Rattle.hintcheck_words.specs.declared.words.FailOn.{FailOn}
+use Rattle.hintcheck_words.specs.declared.words.FailOn.TheVariants as fail_on
 use Rattle.hintcheck_words.specs.declared.words.Profile.{Profile}
 use Rattle.hintcheck_words.specs.declared.words.Profile.TheVariants as profile
+use Rattle.hintcheck_words.specs.declared.words.ScanOptions.{ScanOptions}
 use Rattle.hintcheck_words.specs.declared.words.Task.{Task}
 use Rattle.hintcheck_words.specs.declared.words.Task.TheVariants as task
 use Rattle.hintcheck_words.specs.declared.words.TaskFault.{TaskFault}
@@ -27,7 +30,7 @@ rows_in values = rows_of (found_of values)
 pub data Request : Type 0 where
   bare : Text → ℕ → ℕ → ℕ → Option Text → Profile → Request
   verdict : Text → Option ℕ → Profile → Request
-  scan : List Text → Option ℕ → Profile → Request
+  scan : List Text → ScanOptions → Request
   explain : Text → Text → Option ℕ → Profile → Request
   find : Text → Text → Option ℕ → Request
   check : Text → Text → Option ℕ → Request
@@ -91,6 +94,15 @@ points_in rows = optional_number_in rows (codes "POINTS")
 abbrev pub profile_in : List Row → Profile
 profile_in rows = if flag_in rows (codes "SYMBOLIC") then profile.Symbolic else profile.Strict
 
+-- for which refused programs a scan fails, by the word that names their class
+abbrev pub fail_on_named : Text → FailOn
+fail_on_named word =
+    if bytes_eq word (codes "possible") then fail_on.Possible else fail_on.Unknown
+
+-- for which refused programs a scan is to fail
+abbrev pub fail_on_in : List Row → FailOn
+fail_on_in rows = option_map_or fail_on_named (optional_in rows (codes "CLASS")) fail_on.Refused
+
 -- what `bare` asks for, by what its arguments got
 unfoldable pub bare_request : List Row → Request
 bare_request rows =
@@ -109,7 +121,11 @@ verdict_request rows = verdict (text_in rows (codes "FONT")) (points_in rows) (p
 
 -- what `scan` asks for, by what its arguments got
 unfoldable pub scan_request : List Row → Request
-scan_request rows = scan (texts_in rows (codes "FONT")) (points_in rows) (profile_in rows)
+scan_request rows = scan (texts_in rows (codes "FONT")) (record {
+  budget = points_in rows;
+  profile = profile_in rows;
+  fail_on = fail_on_in rows;
+})
 
 -- what `find` asks for, by what its arguments got
 unfoldable pub find_request : List Row → Request
@@ -196,8 +212,8 @@ unfoldable pub asked : Task → Request
 asked (task.Bare maxp cvt points contours program profile) =
     bare (string_bytes maxp) cvt points contours (option_map (λ s. string_bytes s) program) profile
 asked (task.Verdict font budget profile) = verdict (string_bytes font) budget profile
-asked (task.Scan fonts budget profile) =
-    scan (map (λ s. string_bytes s) fonts.items) budget profile
+asked (task.Scan fonts options) =
+    scan (map (λ s. string_bytes s) fonts.items) options
 asked (task.Explain font program offset profile) =
     explain (string_bytes font) (string_bytes program) offset profile
 asked (task.Find font certificate budget) =

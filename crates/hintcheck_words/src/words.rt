@@ -2,8 +2,8 @@
 
 ghost use Rattle.std.specs.Prelude.{◌≡◌, IfErr, IfOk, Some, codes, false, map, option_map, string_bytes};
 ghost use Rattle.clap.specs.Words.{app_of, new_app, rule_of, subcommand_rows_of};
-ghost use Rattle.hintcheck_words.specs.CommandLine.{bare, explain, hintcheck, needed as needed_rule, needed_number as number_rule, of_texts, of_texts_and_points, optional_number as optional_rule, points as points_rule, scan, symbolic as symbolic_rule, verdict};
-ghost use Rattle.hintcheck_words.specs.Requests.{HasNumber, HasNumberIfAny, HasNumbers, HasOffset, HasPoints, HasProfile, IsReadable, IsMemoryIfTaken, MeetsSubcommand, TellsFault, asked, bare_request, check_request, explain_request, faults_in, find_request, meaning, met, number_in, optional_in, optional_number_in, points_in, profile_in, request_of, rows_in, scan_request, text_in, texts_in, texts_of, verdict_request};
+ghost use Rattle.hintcheck_words.specs.CommandLine.{bare, explain, fail_on as fail_on_rule, hintcheck, needed as needed_rule, needed_number as number_rule, of_texts, of_texts_and_points, optional_number as optional_rule, points as points_rule, scan, symbolic as symbolic_rule, verdict};
+ghost use Rattle.hintcheck_words.specs.Requests.{HasNumber, HasNumberIfAny, HasNumbers, HasOffset, HasPoints, HasProfile, IsReadable, IsMemoryIfTaken, MeetsSubcommand, TellsFault, asked, bare_request, check_request, explain_request, fail_on_in, fail_on_named, faults_in, find_request, meaning, met, number_in, optional_in, optional_number_in, points_in, profile_in, request_of, rows_in, scan_request, text_in, texts_in, texts_of, verdict_request};
 
 use clap::error::ErrorKind;
 use clap::{Arg, ArgAction, ArgMatches, Command, value_parser};
@@ -17,6 +17,28 @@ pub enum Profile {
     Strict,
     /// The profile that follows values that are computed, whose acceptances have further premises.
     Symbolic,
+}
+
+/// For which refused programs a scan fails.
+#[derive(Clone, Copy, Debug, PartialEq, Eq)]
+pub enum FailOn {
+    /// For each of them.
+    Refused,
+    /// For those whose reason is a possible fault.
+    Possible,
+    /// The word names no class of reasons, so that there is no scan.
+    Unknown,
+}
+
+/// How the font files of a scan are checked.
+#[derive(Clone, Copy, Debug, PartialEq, Eq)]
+pub struct ScanOptions {
+    /// How many points may be made per font; None where that isn't limited.
+    pub budget: Option<u64>,
+    /// By which profile they are checked.
+    pub profile: Profile,
+    /// For which refused programs the scan fails.
+    pub fail_on: FailOn,
 }
 
 /// What the words ask for.
@@ -50,10 +72,8 @@ pub enum Task {
     Scan {
         /// The names of the font files.
         fonts: Vec<String>,
-        /// How many points may be made per font; None where that isn't limited.
-        budget: Option<u64>,
-        /// By which profile they are checked.
-        profile: Profile,
+        /// How they are checked.
+        options: ScanOptions,
     },
     /// Tells how one program of a font file is checked.
     Explain {
@@ -319,6 +339,17 @@ fn verdict_command<'a>(alloc: Global) -> Result<Command<'a>, AllocError>
     limited_command(alloc, VERDICT, &[FONT])?.arg(symbolic_option(alloc))
 }
 
+/// Makes the option `--fail-on`.
+fn fail_on_option<'a>(alloc: Global) -> Arg<'a>
+    ensures rule { rule_of result ≡ fail_on_rule }
+    ensures local { result.global ≡ false }
+{
+    Arg::new(alloc, "CLASS").long("fail-on").help(
+        "For which refused programs the exit status is 1: `possible` for possible faults alone; \
+        without it, for all",
+    )
+}
+
 /// Makes the subcommand `scan`.
 ///
 /// # Errors
@@ -332,7 +363,8 @@ fn scan_command<'a>(alloc: Global) -> Result<Command<'a>, AllocError>
             alloc,
             "How many points may be made per font; without it, as many as the font asks for",
         ))?
-        .arg(symbolic_option(alloc))
+        .arg(symbolic_option(alloc))?
+        .arg(fail_on_option(alloc))
 }
 
 /// Makes the argument that is an offset, which may be left out.
@@ -462,6 +494,27 @@ fn asked_profile(values: &ArgMatches<'_>) -> Profile
     }
 }
 
+/// Returns for which refused programs a scan fails, by the word that names their class.
+fn class_named(word: &str) -> FailOn
+    ensures { result ≡ fail_on_named word.now }
+{
+    if word == "possible" {
+        FailOn::Possible
+    } else {
+        FailOn::Unknown
+    }
+}
+
+/// Returns for which refused programs the scan that the words ask for is to fail.
+fn asked_class(values: &ArgMatches<'_>) -> FailOn
+    ensures { result ≡ fail_on_in (rows_in values.now) }
+{
+    match values.get_str("CLASS") {
+        Some(word) => class_named(word),
+        None => FailOn::Refused,
+    }
+}
+
 /// Returns the task of the subcommand `bare`.
 ///
 /// # Errors
@@ -525,8 +578,11 @@ fn scan_task(alloc: Global, values: &ArgMatches<'_>) -> Result<Task, AllocError>
 {
     Ok(Task::Scan {
         fonts: all_texts(alloc, values, "FONT")?,
-        budget: points(values),
-        profile: asked_profile(values),
+        options: ScanOptions {
+            budget: points(values),
+            profile: asked_profile(values),
+            fail_on: asked_class(values),
+        },
     })
 }
 

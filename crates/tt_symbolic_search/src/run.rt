@@ -12,6 +12,7 @@ use crate::origins::{NOWHERE, Origins, of_merges};
 use crate::signature::{Functions, signature};
 use crate::stepping::{Before, Led, step_on};
 use crate::track::Track;
+use crate::waiting::Waiting;
 use crate::writes::Writes;
 use std::alloc::{AllocError, Global};
 use std::mem;
@@ -74,8 +75,20 @@ struct Way {
     is_first: bool,
     /// Where its last step has led.
     led: Led,
-    /// How many steps it has made since it waited, or since none was found to wait behind it.
-    steps: u32,
+    /// How many steps it has made one after the other while another state waited behind it.
+    crowded: u32,
+}
+
+impl Way {
+    /// Notes that a step was made, and whether another state waits behind this one now.
+    fn count_step(&mut self, waiting: &Waiting) {
+        self.is_first = false;
+        self.crowded = if waiting.has_behind(&self.track) {
+            self.crowded.saturating_add(1)
+        } else {
+            0
+        };
+    }
 }
 
 /// A run of the search.
@@ -203,7 +216,7 @@ impl Run {
             return Some(Arrival::AtListed);
         }
         let is_meeting = way.led != Led::On || code == Some(EIF);
-        if !is_meeting && way.steps <= MOST_CROWDED {
+        if !is_meeting && way.crowded <= MOST_CROWDED {
             return None;
         }
         if self.arrivals.waiting.has_behind(&way.track) {
@@ -220,11 +233,7 @@ impl Run {
         way: Way,
         code: Option<u8>,
     ) -> Result<Option<Way>, AllocError> {
-        let mut way = way;
         let Some(arrival) = self.arrival(task, &way, code) else {
-            if way.steps > MOST_CROWDED {
-                way.steps = 0;
-            }
             return Ok(Some(way));
         };
         let signature = signature(&way.track, task.functions, task.apart);
@@ -426,7 +435,7 @@ impl Run {
             track,
             is_first: true,
             led: Led::On,
-            steps: 0,
+            crowded: 0,
         }))
     }
 
@@ -471,8 +480,7 @@ impl Run {
             return Err(make_stop(task.alloc, CheckRefusal::BudgetMet));
         }
         self.steps = self.steps.saturating_add(1);
-        way.steps = way.steps.saturating_add(1);
-        way.is_first = false;
+        way.count_step(&self.arrivals.waiting);
         self.way = Some(way);
         Ok(true)
     }

@@ -48,6 +48,8 @@ pub enum CommandFault {
     ProgramWord,
     /// No instruction of the program begins at the offset.
     OffsetWord,
+    /// The word for which programs a scan is to fail names no class of reasons.
+    ClassWord,
     /// The font's file is to be its certificate's.
     CertificateWord,
     /// The old certificate's file is to be the new one's.
@@ -88,6 +90,7 @@ impl fmt::Display for CommandFault {
             CommandFault::MaxpWord => write!(f, "words: MAXP"),
             CommandFault::ProgramWord => write!(f, "words: PROGRAM"),
             CommandFault::OffsetWord => write!(f, "words: OFFSET"),
+            CommandFault::ClassWord => write!(f, "words: CLASS"),
             CommandFault::CertificateWord => write!(f, "words: CERT"),
             CommandFault::NewWord => write!(f, "words: NEW"),
             CommandFault::Font(numbered) => write!(f, "{numbered}"),

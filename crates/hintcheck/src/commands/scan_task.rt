@@ -6,8 +6,9 @@ ghost use Rattle.tt_code.specs.Refusals.{class_of};
 ghost use Rattle.tt_stream.specs.Streams.{CountsPrintFailure};
 ghost use Rattle.hintcheck.specs.Commands.{TellsFailure, status_of};
 ghost use Rattle.hintcheck.specs.CommandFaults.{IsFaultOfPrinting, IsFaultOfScan};
-ghost use Rattle.hintcheck.specs.MeansSafe.{HoldRefusedBy, HoldSafeBy, TellsFonts};
-ghost use Rattle.hintcheck.specs.Scans.{IsOfScan, PrintsScan, class_text, counts_text, judged, left_out_text, line_of, number_of_class, status_of_refused};
+ghost use Rattle.hintcheck.specs.MeansSafe.{HoldFailing, HoldPassing, TellsFonts};
+ghost use Rattle.hintcheck.specs.RefusalClasses.{class_text, number_failing, number_of_class};
+ghost use Rattle.hintcheck.specs.Scans.{IsOfScan, PrintsScan, counts_text, judged, left_out_text, line_of, status_of_failing};
 ghost use Rattle.hintcheck.specs.Texts.{profile_text};
 
 use super::faults::CommandFault;
@@ -15,7 +16,7 @@ use super::verdict_lines::end_of_profile;
 use super::verdict_task::file_verdict;
 use super::{ACCEPTED, REFUSED};
 use crate::report::{Name, Refused, Verdict};
-use hintcheck_words::Profile;
+use hintcheck_words::{FailOn, Profile, ScanOptions};
 use std::rt::Files;
 use tt_code::{Reason, ReasonClass};
 use tt_stream::{PrintFailed, Sink};
@@ -106,39 +107,46 @@ fn print_line<O: Sink>(
     }
 }
 
-/// Returns the exit status of a verdict.
-fn verdict_status(verdict: &Verdict) -> u8
-    ensures status { result ≤ 1 }
-    ensures answer { result ≡ status_of_refused verdict.now.refused }
-    ensures accepted { result ≡ 0 → verdict.now.refused ≡ [] }
-    ensures refused { result ≡ 1 → verdict.now.refused ≢ [] }
+/// Returns for how many of the refused programs a scan fails.
+fn count_failing(refused: &[Refused], fail_on: FailOn) -> usize
+    ensures { result ≡ number_failing fail_on refused.now }
 {
-    if verdict.accepted() {
+    match fail_on {
+        FailOn::Possible => count_of(refused, ReasonClass::PossibleFault),
+        FailOn::Refused | FailOn::Unknown => refused.len(),
+    }
+}
+
+/// Returns the exit status of a verdict: 1 where the scan fails for one of its refused programs.
+fn verdict_status(verdict: &Verdict, fail_on: FailOn) -> u8
+    ensures status { result ≤ 1 }
+    ensures answer { result ≡ status_of_failing (number_failing fail_on verdict.now.refused) }
+{
+    if count_failing(verdict.refused(), fail_on) == 0 {
         ACCEPTED
     } else {
         REFUSED
     }
 }
 
-/// Prints the line of the font file with this name, for which this many points may be made, and
-/// returns its exit status: that of a verdict of this profile, or of the fault.
+/// Prints the line of the font file with this name, and returns its exit status: that of its
+/// verdict, or of the fault.
 fn scan_font<R: Files + AllocGlobal, O: Sink>(
     rt: &R,
     name: &str,
-    budget: Option<u64>,
-    profile: Profile,
+    options: ScanOptions,
     out: &mut O,
 ) -> Result<u8, CommandFault>
-    ensures tells { IfOk result (TellsFonts profile (name.now ∷ [])) }
-    ensures printed { IfOk result (λ status. PrintsScan profile budget (name.now ∷ [])
+    ensures tells { IfOk result (TellsFonts options (name.now ∷ [])) }
+    ensures printed { IfOk result (λ status. PrintsScan options (name.now ∷ [])
         status (O.contents out.old) (O.contents out.new)) }
     ensures failures { TellsFailure result (O.failures out.old) (O.failures out.new) }
     ensures faults { IfErr result IsFaultOfPrinting }
 {
-    match file_verdict(rt, name, budget, profile) {
+    match file_verdict(rt, name, options.budget, options.profile) {
         Ok(verdict) => {
-            print_line(out, name, &verdict, profile)?;
-            Ok(verdict_status(&verdict))
+            print_line(out, name, &verdict, options.profile)?;
+            Ok(verdict_status(&verdict, options.fail_on))
         }
         Err(fault) => {
             writeln!(out, "{name}: fault: {fault}")?;
@@ -147,42 +155,65 @@ fn scan_font<R: Files + AllocGlobal, O: Sink>(
     }
 }
 
-/// Prints a line for each of the font files with these names, for each of which this many points
-/// may be made, and returns the greatest exit status of them: 0 where each is accepted by this
-/// profile, 1 where one is refused.
-///
-/// # Errors
-/// `Write` exactly where a write to `out` failed; after the last line, `ScanFault` where the
-/// greatest status is 2, and `ScanUnfinished` where it is 3.
-pub(super) fn scan_fonts<R: Files + AllocGlobal, O: Sink>(
+/// Prints a line for each of the font files with these names, and returns the greatest exit status
+/// of them: 0 where the scan fails for no program, 1 where it fails for one.
+fn scan_all<R: Files + AllocGlobal, O: Sink>(
     rt: &R,
     fonts: &[String],
-    budget: Option<u64>,
-    profile: Profile,
+    options: ScanOptions,
     out: &mut O,
 ) -> Result<u8, CommandFault>
-    ensures status { IfOk result (λ status. status ≤ 1) }
-    ensures safe { IfOk result (λ status. status ≡ 0
-        → All (λ font. (bytes : List ℕ) × HoldSafeBy profile bytes)
-        (map (λ s. string_bytes s) fonts.now)) }
-    ensures refused { IfOk result
-        (λ status. status ≡ 1 → (bytes : List ℕ) × HoldRefusedBy profile bytes) }
+    ensures tells { IfOk result (TellsFonts options (map (λ s. string_bytes s) fonts.now)) }
     ensures printed { IfOk result (λ status.
-        PrintsScan profile budget (map (λ s. string_bytes s) fonts.now)
+        PrintsScan options (map (λ s. string_bytes s) fonts.now)
         status (O.contents out.old) (O.contents out.new)) }
-    ensures scanned { IfErr result (λ fault. IsOfScan fault
-        → PrintsScan profile budget (map (λ s. string_bytes s) fonts.now) (status_of fault)
-        (O.contents out.old) (O.contents out.new)) }
     ensures failures { TellsFailure result (O.failures out.old) (O.failures out.new) }
-    ensures faults { IfErr result (λ fault. IsFaultOfScan fault ⊎ IsFaultOfPrinting fault) }
+    ensures faults { IfErr result IsFaultOfPrinting }
 {
     let mut greatest = ACCEPTED;
     for font in fonts {
-        let status = scan_font(rt, font, budget, profile, out)?;
+        let status = scan_font(rt, font, options, out)?;
         greatest = greatest.max(status);
     }
-    match greatest {
-        ACCEPTED | REFUSED => Ok(greatest),
+    Ok(greatest)
+}
+
+/// Prints a line for each of the font files with these names, and returns the greatest exit status
+/// of them: 0 where the scan fails for no program, 1 where it fails for one.
+///
+/// # Errors
+/// `ClassWord` where the word for which programs the scan is to fail names none, and nothing is
+/// printed then; `Write` exactly where a write to `out` failed; after the last line, `ScanFault`
+/// where the greatest status is 2, and `ScanUnfinished` where it is 3.
+pub(super) fn scan_fonts<R: Files + AllocGlobal, O: Sink>(
+    rt: &R,
+    fonts: &[String],
+    options: ScanOptions,
+    out: &mut O,
+) -> Result<u8, CommandFault>
+    ensures status { IfOk result (λ status. status ≤ 1) }
+    ensures safe { IfOk result (λ status. status ≡ 0 → All
+        (λ font. (bytes : List ℕ) × HoldPassing options.fail_on options.profile bytes)
+        (map (λ s. string_bytes s) fonts.now)) }
+    ensures refused { IfOk result (λ status. status ≡ 1
+        → (bytes : List ℕ) × HoldFailing options.fail_on options.profile bytes) }
+    ensures printed { IfOk result (λ status.
+        PrintsScan options (map (λ s. string_bytes s) fonts.now)
+        status (O.contents out.old) (O.contents out.new)) }
+    ensures scanned { IfErr result (λ fault. IsOfScan fault
+        → PrintsScan options (map (λ s. string_bytes s) fonts.now) (status_of fault)
+        (O.contents out.old) (O.contents out.new)) }
+    ensures failures { TellsFailure result (O.failures out.old) (O.failures out.new) }
+    ensures faults { IfErr result (λ fault. IsFaultOfScan options fault
+        ⊎ (options.fail_on ≢ FailOn.Unknown × IsFaultOfPrinting fault)) }
+    ensures none { OnOk result (options.fail_on ≢ FailOn.Unknown) }
+{
+    if let FailOn::Unknown = options.fail_on {
+        return Err(CommandFault::ClassWord);
+    }
+    match scan_all(rt, fonts, options, out)? {
+        0 => Ok(ACCEPTED),
+        1 => Ok(REFUSED),
         2 => Err(CommandFault::ScanFault),
         _ => Err(CommandFault::ScanUnfinished),
     }

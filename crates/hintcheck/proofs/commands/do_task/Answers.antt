@@ -4,6 +4,7 @@ use Rattle.std.specs.Io.KnownBytes.{Appends}
 use Rattle.std.proofs.lemmas.Result.{IfErr-weaker, IfOk-weaker, on_ok_weaker}
 use Rattle.hintcheck_words.specs.Requests.{asked}
 use Rattle.hintcheck_words.specs.declared.words.Profile.{Profile}
+use Rattle.hintcheck_words.specs.declared.words.ScanOptions.{ScanOptions}
 use Rattle.hintcheck_words.specs.declared.words.Task.{Task}
 use Rattle.hintcheck_words.specs.declared.words.Task.TheVariants as task
 use Rattle.hintcheck.specs.Commands.{IsForVerdict}
@@ -13,12 +14,12 @@ use Rattle.hintcheck.proofs.PrintedLemmas.{prints_for_verdict, prints_upgrade, p
 use Rattle.hintcheck.proofs.ScanFaults.{passed_no_scan, printing_no_scan, task_no_scan, verdict_no_scan}
 use Rattle.hintcheck.proofs.commands.do_task.Goals as goal
 
-for_verdict : (t : Task) → ((fonts : Vec (String Global) Global) (budget : Option ℕ) (profile : Profile) → t ≡ task.Scan fonts budget profile → ⊥) → ((font program : String Global) (offset : Option ℕ) (profile : Profile) → t ≡ task.Explain font program offset profile → ⊥)
+for_verdict : (t : Task) → ((fonts : Vec (String Global) Global) (options : ScanOptions) → t ≡ task.Scan fonts options → ⊥) → ((font program : String Global) (offset : Option ℕ) (profile : Profile) → t ≡ task.Explain font program offset profile → ⊥)
     → ((font program : String Global) → t ≡ task.List font program → ⊥) → ((old new : String Global) → t ≡ task.Upgrade old new → ⊥) → IsForVerdict (asked t)
 unfolding asked
 for_verdict (task.Bare maxp cvt points contours program profile) scan explain other another = tt
 for_verdict (task.Verdict font budget profile) scan explain other another = tt
-for_verdict (task.Scan fonts budget profile) scan explain other another = absurd (scan fonts budget profile refl)
+for_verdict (task.Scan fonts options) scan explain other another = absurd (scan fonts options refl)
 for_verdict (task.Explain font program offset profile) scan explain other another = absurd (explain font program offset profile refl)
 for_verdict (task.Find font certificate budget) scan explain other another = tt
 for_verdict (task.Check font certificate budget) scan explain other another = tt
@@ -47,11 +48,11 @@ returns-in-Scan-clause-scanned g c = IfErr-weaker c.scan_fonts.result _ _ (λ to
 pub returns-in-Scan-clause-faults : goal.returns-in-Scan-clause-faults
 unfolding asked
 returns-in-Scan-clause-faults g c =
-    IfErr-weaker c.scan_fonts.result _ _ (λ told is. rw c.in-Scan.is (elim is [ inl font ↦ inl font | inr printing ↦ inr (tt, printing) ])) c.scan_fonts.ensures.faults
+    IfErr-weaker c.scan_fonts.result _ _ (λ told is. rw c.in-Scan.is is) c.scan_fonts.ensures.faults
 
 pub returns-in-Scan-clause-none : goal.returns-in-Scan-clause-none
 unfolding asked
-returns-in-Scan-clause-none g c = rw c.in-Scan.is (nothing_said c.scan_fonts.result)
+returns-in-Scan-clause-none g c = on_ok_weaker c.scan_fonts.result (λ none. rw c.in-Scan.is none) c.scan_fonts.ensures.none
 
 pub returns-in-Explain-clause-safe : goal.returns-in-Explain-clause-safe
 unfolding asked

@@ -1,24 +1,4 @@
-use Rattle.std.proofs.Common.{refl, ◌∙◌}
-use Rattle.std.specs.Prelude.{string_bytes}
-use Rattle.hintcheck.proofs.ScanLemmas.{all_told, no_fonts, one_more}
-use Rattle.hintcheck.proofs.ScannedLines.{scans_all, scans_more, scans_none}
 use Rattle.hintcheck.proofs.commands.scan_task.scan_fonts.Goals as goal
 
-pub loop-font-init : goal.loop-font-init
-loop-font-init g c = record { tells = no_fonts _; printed = scans_none _ _ _; failures = refl }
-
-pub loop-font-preserved : goal.loop-font-preserved
-loop-font-preserved g c = record {
-  tells = one_more c.args.profile (λ s. string_bytes s) c.args.fonts.now c.loop-font.font-index c.font-item.result _ c.loop-font.greatest c.in_ok-status.status c.max-greatest.result c.loop-font-test.true c.font-item.is
-      c.deref.ensures c.loop-font.invariant.tells c.in_ok-status.ensures.tells c.max-greatest.ensures;
-  printed = scans_more c.args.profile c.args.budget (λ s. string_bytes s) c.args.fonts.now c.loop-font.font-index c.font-item.result _ c.loop-font.greatest c.in_ok-status.status c.max-greatest.result _ _ _ c.loop-font-test.true c.font-item.is
-      c.deref.ensures c.loop-font.invariant.printed c.in_ok-status.ensures.printed c.max-greatest.ensures;
-  failures = c.in_ok-status.ensures.failures ∙ c.loop-font.invariant.failures;
-}
-
 pub returns-in-0-clause-safe : goal.returns-in-0-clause-safe
-returns-in-0-clause-safe g c = (all_told c.args.profile (λ s. string_bytes s) c.args.fonts.now c.loop-font.font-index c.loop-font.greatest c.loop-font-test.false c.loop-font.invariant.tells).safe
-
-pub returns-in-0-clause-printed : goal.returns-in-0-clause-printed
-returns-in-0-clause-printed g c =
-    scans_all c.args.profile c.args.budget (λ s. string_bytes s) c.args.fonts.now c.loop-font.font-index c.loop-font.greatest _ _ _ c.loop-font-test.false refl c.loop-font.invariant.printed
+returns-in-0-clause-safe g c = λ zero. c.in_ok-scan_all.ensures.tells.safe c.in-0.is

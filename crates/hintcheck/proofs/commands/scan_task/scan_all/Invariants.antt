@@ -2,11 +2,11 @@ use Rattle.std.proofs.Common.{◌≡◌, map, take}
 use Rattle.std.specs.Prelude.{string_bytes}
 use Rattle.hintcheck.specs.MeansSafe.{TellsFonts}
 use Rattle.hintcheck.specs.Scans.{PrintsScan}
-use Rattle.hintcheck.proofs.commands.scan_task.scan_fonts.Given as goal
+use Rattle.hintcheck.proofs.commands.scan_task.scan_all.Given as goal
 
 abbrev pub invariant-loop-font : goal.invariant-loop-font
 invariant-loop-font g l = record {
-  tells : TellsFonts l.profile (map (λ s. string_bytes s) (take l.font-index l.fonts)) l.greatest;
-  printed : PrintsScan l.profile l.budget (map (λ s. string_bytes s) (take l.font-index l.fonts)) l.greatest (g.O.Sink.contents l.fn.out) (g.O.Sink.contents l.out);
+  tells : TellsFonts l.options (map (λ s. string_bytes s) (take l.font-index l.fonts)) l.greatest;
+  printed : PrintsScan l.options (map (λ s. string_bytes s) (take l.font-index l.fonts)) l.greatest (g.O.Sink.contents l.fn.out) (g.O.Sink.contents l.out);
   failures : g.O.Sink.failures l.out ≡ g.O.Sink.failures l.fn.out;
 }

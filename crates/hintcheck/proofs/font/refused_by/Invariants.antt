@@ -4,11 +4,11 @@ use Rattle.hintcheck.specs.Representation.ProgramOrder.{stage_of}
 use Rattle.hintcheck.specs.Representation.SessionStages.{KeepsKnown}
 use Rattle.hintcheck.proofs.ProgramSteps.{calls_left}
 use Rattle.hintcheck.proofs.VerdictSteps.{AreRefusedTill}
-use Rattle.hintcheck.proofs.font.refused_programs.Given as goal
+use Rattle.hintcheck.proofs.font.refused_by.Given as goal
 
 abbrev pub invariant-loop-refused : goal.invariant-loop-refused
 invariant-loop-refused l = record {
-  font : l.programs.font.now ≡ l.fn.font;
+  font : l.programs.font.now ≡ l.fn.programs.font.now;
   known : KeepsKnown l.programs.font.now (stage_of l.programs);
   till : AreRefusedTill l.programs.font.now (stage_of l.programs) l.refused.items;
   spends : Spends l.fn.budget l.budget;

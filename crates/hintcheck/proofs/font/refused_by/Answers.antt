@@ -8,15 +8,15 @@ use Rattle.hintcheck.specs.Representation.SessionStages.{KeepsKnown}
 use Rattle.hintcheck.proofs.FindingSteps.{stays_known}
 use Rattle.hintcheck.proofs.ProgramSteps.{calls_left, fewer_after}
 use Rattle.hintcheck.proofs.VerdictSteps.{AreRefusedTill, all_refused_till, known_can_go_on, none_refused_yet, refused_till}
-use Rattle.hintcheck.proofs.font.refused_programs.Goals as goal
+use Rattle.hintcheck.proofs.font.refused_by.Goals as goal
 
 pub loop-refused-init : goal.loop-refused-init
 loop-refused-init c =
-    let yet = none_refused_yet c.new-programs.result.font.now (stage_of c.new-programs.result) c.new-refused.result.items c.new-programs.ensures.stage c.new-refused.ensures.items in
-    record { font = c.new-programs.ensures.font; known = yet.0; till = yet.1; spends = (refl, omega arith) }
+    let yet = none_refused_yet c.args.programs.now.font.now (stage_of c.args.programs.now) c.new-refused.result.items c.requires.start c.new-refused.ensures.items in
+    record { font = refl; known = yet.0; till = yet.1; spends = (refl, omega arith) }
 
 pub judge_next-requires-clause-range : goal.judge_next-requires-clause-range
-judge_next-requires-clause-range c = subst IsFontInRange (sym c.loop-refused.invariant.font) c.requires
+judge_next-requires-clause-range c = subst IsFontInRange (sym c.loop-refused.invariant.font) c.requires.range
 
 pub judge_next-requires-clause-start : goal.judge_next-requires-clause-start
 judge_next-requires-clause-start c = known_can_go_on c.loop-refused.programs.font.now (stage_of c.loop-refused.programs) c.loop-refused.invariant.known
@@ -53,3 +53,6 @@ returns-clause-refused c =
     let d = c.loop-refused.programs.font.now in
     subst (λ (f : FontData). AreAllRefused f c.loop-refused.refused.items) c.loop-refused.invariant.font
     (all_refused_till d c.judge_next.new.judge s t c.in_ok-outcome.field-0 c.loop-refused.refused.items c.in_default.is e.answer c.loop-refused.invariant.till)
+
+pub returns-clause-spends : goal.returns-clause-spends
+returns-clause-spends c = spends_on c.args.budget.now c.loop-refused.budget c.judge_next.new.budget c.loop-refused.invariant.spends c.judge_next.ensures.spends

@@ -2,7 +2,7 @@ use Rattle.std.proofs.Common.{ℕ, List, subst}
 use Rattle.std.proofs.lemmas.Result.{on_ok_weaker}
 use Rattle.tt_abs.specs.Settings.{setting_of}
 use Rattle.hintcheck.specs.Representation.SymbolicChecks.{IsEnded}
-use Rattle.hintcheck.proofs.symbolic_check.check_in_turn.Goals as goal
+use Rattle.hintcheck.proofs.symbolic_check.check_found.Goals as goal
 
 pub returns : goal.returns
 returns c = on_ok_weaker c.check_glyph.result (λ run. record {

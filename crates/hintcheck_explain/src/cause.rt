@@ -1,0 +1,45 @@
+//! Prints what a refusal means by either profile: why, its class, and what to do.
+
+ghost use Rattle.tt_stream.specs.Streams.{CountsPrintFailure};
+
+use crate::describing::{Bounds, Why};
+use crate::meaning::{ADVICE_ON_RANGE, advice_of, class_of, class_text};
+use crate::trouble::Trouble;
+use tt_abs::Setting;
+use tt_code::Reason;
+use tt_stream::{PrintFailed, Sink};
+
+/// Returns what fails of a program that is refused for this reason at no state.
+pub(crate) fn trouble_of_program(setting: &Setting<'_>, reason: Reason) -> Trouble {
+    match reason {
+        Reason::ProgramTooLong => Trouble::Length(setting.main.len()),
+        _ => Trouble::Other,
+    }
+}
+
+/// Prints why a program is refused at an instruction of this name, the class of the reason, and what
+/// to do.
+pub(crate) fn tell_cause<O: Sink>(
+    setting: &Setting<'_>,
+    name: &'static str,
+    reason: Reason,
+    trouble: Trouble,
+    out: &mut O,
+) -> Result<(), PrintFailed>
+    ensures failures { CountsPrintFailure result (O.failures out.old) (O.failures out.new) }
+{
+    let class = class_of(reason, trouble);
+    let bounds = Bounds::of(setting);
+    let why = Why {
+        name,
+        reason,
+        trouble,
+        bounds,
+    };
+    let kind = class_text(reason, class);
+    let advice = match trouble {
+        Trouble::Range { .. } => ADVICE_ON_RANGE,
+        _ => advice_of(reason, class, name),
+    };
+    writeln!(out, "Why: {why}\nClass: {kind}\nWhat to do: {advice}")
+}

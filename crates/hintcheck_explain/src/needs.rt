@@ -1,0 +1,166 @@
+//! How much of a limit of the font a refused program needs, as far as searches with a greater one
+//! tell.
+
+ghost use Rattle.std.specs.Prelude.{◌≡◌, ◌≢◌, Err};
+ghost use Rattle.tt_abs.specs.Entries.{Ascends};
+ghost use Rattle.tt_abs.specs.Settings.{setting_of};
+ghost use Rattle.tt_abs.specs.StateFlow.{FunctionsFit};
+ghost use Rattle.hintcheck_explain.specs.Faults.{TellsFailure};
+
+use crate::asked::{Asked, ExplainFault};
+use crate::place::{Place, program_at};
+use std::alloc::{AllocError, Global};
+use std::fmt;
+use tt_abs::{Refusal, Setting};
+use tt_code::{Limits, Reason};
+use tt_find::explore;
+use tt_stream::Sink;
+
+/// How many searches find the least number of 16 bits.
+const SEARCHES: usize = 16;
+
+/// A limit of the font that can be raised.
+#[derive(Clone, Copy)]
+enum Limit {
+    /// maxStackElements.
+    Stack,
+    /// maxStorage.
+    Storage,
+    /// How many control values the font has.
+    ControlValues,
+}
+
+impl fmt::Display for Limit {
+    fn fmt<W: fmt::Write>(&self, f: &mut fmt::Formatter<W>) -> fmt::Result {
+        match self {
+            Limit::Stack => write!(f, "maxStackElements"),
+            Limit::Storage => write!(f, "maxStorage"),
+            Limit::ControlValues => write!(f, "the number of control values"),
+        }
+    }
+}
+
+/// Returns the limit that a program passes that is refused for this reason, if it can be raised.
+fn limit_of(reason: Reason) -> Option<Limit> {
+    match reason {
+        Reason::Overflow => Some(Limit::Stack),
+        Reason::Storage => Some(Limit::Storage),
+        Reason::Cvt => Some(Limit::ControlValues),
+        _ => None,
+    }
+}
+
+/// Returns the setting where the limit has this number.
+fn with_limit<'a>(setting: &Setting<'a>, limit: Limit, number: u16) -> Setting<'a>
+    ensures start { result.start ≡ setting.now.start }
+    ensures functions { result.limits.functions ≡ setting.now.limits.functions }
+{
+    let limits = setting.limits;
+    match limit {
+        Limit::Stack => Setting {
+            limits: Limits {
+                stack: number,
+                ..limits
+            },
+            ..*setting
+        },
+        Limit::Storage => Setting {
+            limits: Limits {
+                storage: number,
+                ..limits
+            },
+            ..*setting
+        },
+        Limit::ControlValues => Setting {
+            cvt: u32::from(number),
+            ..*setting
+        },
+    }
+}
+
+/// Returns why the program is refused where the limit has this number, if it is.
+fn fault_with(
+    alloc: Global,
+    setting: &Setting<'_>,
+    limit: Limit,
+    number: u16,
+) -> Result<Option<Refusal>, AllocError>
+    requires ascends { Ascends setting.now.start.now }
+    requires fits { FunctionsFit (setting_of setting.now) setting.now.start.now }
+{
+    let raised = with_limit(setting, limit, number);
+    Ok(explore(alloc, &raised)?.fault)
+}
+
+/// Returns the least number of the limit with which the program is accepted, where it is with the
+/// greatest one.
+fn least_number(alloc: Global, setting: &Setting<'_>, limit: Limit) -> Result<u16, AllocError>
+    requires ascends { Ascends setting.now.start.now }
+    requires fits { FunctionsFit (setting_of setting.now) setting.now.start.now }
+{
+    let mut refused: u16 = 0;
+    let mut accepted = u16::MAX;
+    for _ in 0..SEARCHES {
+        let between = accepted.saturating_sub(refused) / 2;
+        if between == 0 {
+            break;
+        }
+        let middle = refused.saturating_add(between);
+        match fault_with(alloc, setting, limit, middle)? {
+            None => accepted = middle,
+            Some(_) => refused = middle,
+        }
+    }
+    Ok(accepted)
+}
+
+/// Prints how much of a limit a program needs that is refused for this reason, if it passes one and
+/// no offset is asked for.
+pub(crate) fn tell_needs<O: Sink>(
+    alloc: Global,
+    setting: &Setting<'_>,
+    asked: Asked,
+    reason: Reason,
+    out: &mut O,
+) -> Result<(), ExplainFault>
+    requires ascends { Ascends setting.now.start.now }
+    requires fits { FunctionsFit (setting_of setting.now) setting.now.start.now }
+    ensures failures { TellsFailure result (O.failures out.old) (O.failures out.new) }
+    ensures other { result ≢ Err ExplainFault.NoInstruction }
+{
+    let Some(limit) = limit_of(reason) else {
+        return Ok(());
+    };
+    if asked.offset.is_some() {
+        return Ok(());
+    }
+    match fault_with(alloc, setting, limit, u16::MAX)? {
+        None => {
+            let least = least_number(alloc, setting, limit)?;
+            writeln!(
+                out,
+                "What it needs: it is accepted where {limit} is at least {least}."
+            )?;
+            Ok(())
+        }
+        Some(
+            Refusal::Refused {
+                spot,
+                offset,
+                reason,
+            },
+        ) => {
+            let place = Place {
+                program: program_at(asked.program, spot),
+                offset,
+            };
+            let number = reason.number();
+            writeln!(
+                out,
+                "What it needs: however great {limit} is, it is refused at {place}: {number} {reason}."
+            )?;
+            Ok(())
+        }
+        Some(Refusal::OutOfMemory(error)) => Err(ExplainFault::OutOfMemory(error)),
+    }
+}
