@@ -11,7 +11,7 @@ const GREATEST_SMALL: u32 = 20;
 
 /// The room: blocks next to each other, of which a call may be left a part, and how many bytes each
 /// has.
-const ROOM: [usize; 12] = [100_000; 12];
+const ROOM: [usize; 16] = [100_000; 16];
 
 /// How many blocks that aren't small are taken at most.
 const LARGE_BLOCKS: usize = 100_000;
