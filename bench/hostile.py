@@ -33,7 +33,7 @@ def font(programs: list[bytes], fpgm: bytes = b"", stack: int = 1100, functions:
 
 
 def font_of_glyphs(glyphs: list[bytes], fpgm: bytes = b"", stack: int = 1100, functions: int = 2, storage: int = 4,
-                   prep: bytes = b"", size: int = 65535) -> bytes:
+                   prep: bytes = b"", size: int = 65535, zones: int = 2, twilight: int = 4, cvt: int = 10) -> bytes:
     """A font file with a font program, a CVT program and these glyphs, whose programs have at most so many bytes."""
     head = bytearray(54)
     head[50:52] = b"\0\1"
@@ -43,8 +43,8 @@ def font_of_glyphs(glyphs: list[bytes], fpgm: bytes = b"", stack: int = 1100, fu
     for glyph in glyphs:
         end += len(glyph)
         loca += struct.pack(">I", end)
-    maxp = struct.pack(">I14H", 0x00010000, len(glyphs), 4, 1, 0, 0, 2, 4, storage, functions, 0, stack, size, 0, 0)
-    tables = {b"cvt ": bytes(20), b"fpgm": fpgm, b"glyf": glyf, b"head": bytes(head), b"loca": bytes(loca), b"maxp": maxp, b"prep": prep}
+    maxp = struct.pack(">I14H", 0x00010000, len(glyphs), 4, 1, 0, 0, zones, twilight, storage, functions, 0, stack, size, 0, 0)
+    tables = {b"cvt ": bytes(2 * cvt), b"fpgm": fpgm, b"glyf": glyf, b"head": bytes(head), b"loca": bytes(loca), b"maxp": maxp, b"prep": prep}
     directory = struct.pack(">IHHHH", 0x00010000, len(tables), 0, 0, 0)
     body = bytearray()
     at = 12 + 16 * len(tables)

@@ -88,10 +88,14 @@ def start(functions: dict[int, int], stack: str) -> checker.State:
 
 def change(state: checker.State, word: str) -> bool:
     """Changes what a word says of a state, if it says anything."""
-    named = re.fullmatch(r"(rp|zp|s|loop)(\d*)=(\?|-?\d+)", word)
+    named = re.fullmatch(r"(rp|zp|s|loop|f)(\d*)=(\?|-?\d+|p:\d+)", word)
     if not named:
         return False
-    what, index, value = named[1], int(named[2] or 0), cell_of(named[3])
+    what, index = named[1], int(named[2] or 0)
+    if what == "f":
+        state.functions = state.functions | {index: body_of(named[3])}
+        return True
+    value = cell_of(named[3])
     if what == "rp":
         state.references[index] = value
     elif what == "zp":
@@ -132,19 +136,13 @@ def refusal(reason: int, program: str | None, offset: int) -> str:
     return f"{reason} at {program + ':' if program else ''}{offset}"
 
 
-def checked(case: Case) -> str:
-    """What the check of a family tells."""
-    programs: dict[str, bytes] = {}
-    functions: dict[int, int] = {}
+def family_of(texts: list[str], functions: dict[int, int]) -> checker.Family:
+    """The calls that these words list and the states, all of them with these functions."""
     calls: list[checker.Call | None] = [None]
     points: list[tuple[range, int, checker.State]] = []
-    words = iter(case.words)
+    words = iter(texts)
     for word in words:
-        if word[1:2] == "=" and word[0] in "fpg":
-            programs[word[0]] = bytes_of(word[2:])
-        elif word.startswith("start="):
-            functions = {0: body_of(word[6:])}
-        elif word == "call":
+        if word == "call":
             calls += calls_of(next(words))
         elif point := POINT.fullmatch(word):
             contexts = range(int(point[1]), int(point[2] or point[1]) + 1)
@@ -156,6 +154,22 @@ def checked(case: Case) -> str:
         for context in contexts:
             there = family.states[context].get(offset)
             family.states[context][offset] = joined(there, state) if there else state
+    return family
+
+
+def checked(case: Case) -> str:
+    """What the check of a family tells."""
+    programs: dict[str, bytes] = {}
+    functions: dict[int, int] = {}
+    others: list[str] = []
+    for word in case.words:
+        if word[1:2] == "=" and word[0] in "fpg":
+            programs[word[0]] = bytes_of(word[2:])
+        elif word.startswith("start="):
+            functions = {0: body_of(word[6:])}
+        else:
+            others.append(word)
+    family = family_of(others, functions)
     try:
         checker.Check(setting(programs, case.limits), family, case.kind == "sparse").run(functions)
     except checker.Broken as broken:
