@@ -12,53 +12,48 @@ the exit status is then 1. The second checker takes about a second for a megabyt
 
 import pathlib
 import random
-import re
 import subprocess
 import sys
 import tempfile
 
 TOP = pathlib.Path(__file__).resolve().parent.parent
+sys.path.append(str(TOP / "bench"))
+
+import vectors  # noqa: E402  (the folder is only known here)
+
 CHECKER = [sys.executable, str(TOP / "examples/checker.py")]
-VECTORS = TOP / "examples/certificates"
 MOST_FONTS = 20
 MOST_BYTES = 300_000
 CHANGES = 20
 
 
-def answer(words: list[str]) -> str:
-    """What a program prints, the lines in one."""
+def asked(words: list[str]) -> vectors.Answer:
+    """What a program answers."""
     ran = subprocess.run(words, capture_output=True, text=True, check=False)
-    return " / ".join((ran.stdout + ran.stderr).splitlines())
+    return vectors.Answer(ran.returncode, ran.stdout.splitlines(), ran.stderr.splitlines())
 
 
-def edited(certificate: bytes, edits: list[str]) -> bytes:
-    """A certificate with the edits of answers.txt."""
-    for edit in edits:
-        start, end, put = re.fullmatch(r"(\d+)-(\d+)=([0-9A-F]*)", edit).groups()
-        certificate = certificate[:int(start)] + bytes.fromhex(put) + certificate[int(end):]
-    return certificate
-
-
-def differs(what: str, seen: str, wanted: str) -> bool:
+def differs(what: str, seen: vectors.Answer, wanted: vectors.Answer) -> bool:
     """Whether these differ, which is then printed."""
     if seen != wanted:
-        print(f"{what}\n  {seen}\n  instead of {wanted}")
+        print(f"{what}\n  {seen.text()}\n  instead of {wanted.text()}")
     return seen != wanted
 
 
-def fails_vectors(checkers: list[list[str]], changed: pathlib.Path) -> int:
+def fails_vectors(checkers: list[list[str]], folder: pathlib.Path) -> int:
     """How many answers of answers.txt aren't given, by all checkers."""
     failed = tried = 0
-    for line in (VECTORS / "answers.txt").read_text().splitlines():
-        if not line or line.startswith("#"):
-            continue
-        asked, expected = line.split(" -> ")
-        font, name, *edits = asked.split()
-        changed.write_bytes(edited((VECTORS / name).read_bytes(), edits))
+    for vector in vectors.read_list()[1]:
+        names = [folder / "asked.ttf", folder / "asked.cert"]
+        for name, data in zip(names, vector.files()):
+            name.unlink(missing_ok=True)
+            if data is not None:
+                name.write_bytes(data)
         for checker in checkers:
             tried += 1
-            seen = answer([*checker, str(VECTORS / font), str(changed)])
-            failed += differs(f"{checker[-1]} {asked}", seen, expected)
+            seen = asked([*checker, *map(str, names)])
+            failed += differs(f"{vector.place}, {pathlib.Path(checker[-1]).name}", seen,
+                              vector.answer)
     print(f"{tried} answers to what is expected, {failed} differ")
     return failed
 
@@ -75,13 +70,13 @@ def changed_certificates(certificate: bytes) -> list[bytes]:
 
 def fails_font(program: str, font: pathlib.Path, changed: pathlib.Path) -> int:
     """How many certificates of a font both checkers answer differently."""
-    found = answer([program, "find", str(font), str(changed)])
+    found = asked([program, "find", str(font), str(changed)])
     certificate = changed.read_bytes() if changed.exists() else b""
     failed = 0
     for number, each in enumerate(changed_certificates(certificate)):
         changed.write_bytes(each)
-        seen = answer([*CHECKER, str(font), str(changed)])
-        wanted = answer([program, "check", str(font), str(changed)])
+        seen = asked([*CHECKER, str(font), str(changed)])
+        wanted = asked([program, "check", str(font), str(changed)])
         failed += differs(f"{font}, certificate {number} of {len(each)} bytes", seen, wanted)
         if number == 0 and certificate:
             failed += differs(f"{font}: as found", seen, found)
@@ -102,7 +97,7 @@ def main() -> int:
     with tempfile.TemporaryDirectory() as name:
         folder = pathlib.Path(name)
         changed = folder / "changed.cert"
-        failed = fails_vectors([CHECKER] + ([[program, "check"]] if program else []), changed)
+        failed = fails_vectors([CHECKER] + ([[program, "check"]] if program else []), folder)
         for font in (fonts or usual_fonts(folder)) if program else []:
             changed.unlink(missing_ok=True)
             failed += fails_font(program, font, changed)
