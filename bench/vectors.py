@@ -1,13 +1,10 @@
 #!/usr/bin/env python3
 """Reads examples/certificates/answers.txt, and makes the fonts and certificates that it tells of.
 
-Usage: bench/vectors.py [--write | --cases FILE]
-Without an option, tells which files of the folder aren't as the list says. --write writes them.
---cases writes the answers as cases of hintcheck_cases, so that they can be asked of hintcheck
-where it isn't built: `rt try --data vectors.txt=FILE -- vectors.txt` in crates/hintcheck_cases.
+Usage: bench/vectors.py [--write]
+Tells which files of the folder aren't as the list says, or writes them.
 """
 
-import collections.abc
 import dataclasses
 import pathlib
 import re
@@ -180,30 +177,12 @@ def files_of(made: Made) -> dict[str, bytes]:
     return {made.font: font, made.certificate: text}
 
 
-def case_lines(vectors: list[Vector]) -> collections.abc.Iterator[str]:
-    """The answers as cases of hintcheck_cases."""
-    for each in vectors:
-        names = []
-        for name, data in zip(("asked.ttf", "asked.cert"), each.files()):
-            names.append(name if data is not None else "none")
-            if data is not None:
-                yield f"file {name} = {data.hex().upper()}"
-        lines = [f"| {line}" for line in each.answer.lines]
-        faults = "".join(f" ! {fault}" for fault in each.answer.faults)
-        yield f"run check {' '.join(names)} -> {each.answer.status}{faults}"
-        yield from lines
-
-
 def main(words: list[str]) -> int:
-    """Compares the files with the list, or writes them, or writes the cases."""
-    made, vectors = read_list()
-    if words[:1] == ["--cases"] and len(words) == 2:
-        pathlib.Path(words[1]).write_text("\n".join(case_lines(vectors)) + "\n")
-        return 0
+    """Compares the files with the list, or writes them."""
     if words not in ([], ["--write"]):
         print(__doc__, file=sys.stderr)
         return 2
-    others = 0
+    made, others = read_list()[0], 0
     for name, data in (item for each in made for item in files_of(each).items()):
         file = FOLDER / name
         if words:
