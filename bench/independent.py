@@ -2,12 +2,14 @@
 """Compares a second checker of certificates, examples/checker.py, with what is expected and with
 `hintcheck check`.
 
-Usage: bench/independent.py [PROGRAM [FONT..]]
-The answers of examples/certificates/answers.txt are asked of the second checker, and of PROGRAM, a
-built hintcheck, where it is given. Then PROGRAM finds a certificate for each FONT, or for the fonts
-of examples/premises and the 20 smallest of /usr/share/fonts; both check it as it is, and where it
-has at most MOST_BYTES also with each of CHANGES bytes changed alone. What differs is printed, and
-the exit status is then 1. The second checker takes about a second for a megabyte.
+Usage: bench/independent.py [--program PROGRAM] [FONT..]
+The files of examples/certificates are compared with what answers.txt says of them. Its answers are
+asked of the second checker, and of PROGRAM, a built hintcheck: crates/hintcheck_cli/out/hintcheck_cli
+where no other is named and it is there. Where there is one, it finds a certificate for each FONT, or
+for the fonts of examples/premises and the 20 smallest of /usr/share/fonts; both check it as it is,
+and where it has at most MOST_BYTES also with each of CHANGES bytes changed alone. What differs is
+printed, and the exit status is then 1. The second checker takes about a second for a megabyte.
+Without a built hintcheck, bench/independent_trials.py compares them.
 """
 
 import pathlib
@@ -21,6 +23,7 @@ sys.path.append(str(TOP / "bench"))
 
 import vectors  # noqa: E402  (the folder is only known here)
 
+PROGRAM = TOP / "crates/hintcheck_cli/out/hintcheck_cli"
 CHECKER = [sys.executable, str(TOP / "examples/checker.py")]
 MOST_FONTS = 20
 MOST_BYTES = 300_000
@@ -91,19 +94,25 @@ def usual_fonts(folder: pathlib.Path) -> list[pathlib.Path]:
     return [*sorted(folder.glob("*.ttf")), *smallest]
 
 
-def main() -> int:
+def main(words: list[str]) -> int:
     """Makes all comparisons."""
-    program, fonts = (sys.argv[1:2] or [None])[0], [pathlib.Path(word) for word in sys.argv[2:]]
+    program = str(PROGRAM) if PROGRAM.exists() else ""
+    if words[:1] == ["--program"]:
+        program, words = words[1], words[2:]
+    failed = vectors.main([])
     with tempfile.TemporaryDirectory() as name:
         folder = pathlib.Path(name)
         changed = folder / "changed.cert"
-        failed = fails_vectors([CHECKER] + ([[program, "check"]] if program else []), folder)
-        for font in (fonts or usual_fonts(folder)) if program else []:
+        failed += fails_vectors([CHECKER] + ([[program, "check"]] if program else []), folder)
+        fonts = [pathlib.Path(word) for word in words] or (usual_fonts(folder) if program else [])
+        for font in fonts if program else []:
             changed.unlink(missing_ok=True)
             failed += fails_font(program, font, changed)
             print(f"{font}: compared")
+    if not program:
+        print("hintcheck isn't built: only the second checker was asked")
     return int(failed > 0)
 
 
 if __name__ == "__main__":
-    sys.exit(main())
+    sys.exit(main(sys.argv[1:]))
