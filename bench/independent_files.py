@@ -122,7 +122,7 @@ def shown(data: bytes) -> list[str]:
 def checked(names: tuple[str, str], files: dict[str, bytes], library: bool) -> list[str]:
     """What the check of a font tells, as `check_font` or as the command."""
     if not library and set(names) & set(MISSING):
-        return ["2 ! fault: 44 read"]
+        return ["2 ! fault: 44 read: no such file"]
     if not set(names) <= set(files):
         raise Unknown
     try:

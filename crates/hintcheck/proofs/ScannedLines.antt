@@ -123,6 +123,7 @@ glyph_line profile name programs v rs shown r id old new first rs_are shown_are 
 pub fault_line : (profile : Profile) (name : List ℕ) (f : CommandFault) (old new : Option (List ℕ)) → IsFaultOfFontFile f
     → AppendsText (Some name ++? (Some (codes ": fault: ") ++? (command_fault_text f ++? Some (codes "\n")))) old new → Appends old new (line_of profile (record { name = name; answer = unread f }))
 fault_line profile name (fault.Font numbered) old new is written = written
+fault_line profile name (fault.Unopened why) old new is written = written
 fault_line profile name fault.Read old new is written = written
 fault_line profile name fault.OutOfMemory old new is written = written
 fault_line profile name fault.Budget old new is written = written

@@ -77,6 +77,7 @@ IsFaultOfGlyph maxp program other = ⊥
 -- why there is no verdict on a font file
 abbrev pub IsFaultOfFontFile : CommandFault → Type 0
 IsFaultOfFontFile (fault.Font numbered) = IsFaultOfSomeFont numbered.0
+IsFaultOfFontFile (fault.Unopened why) = Unit {0}
 IsFaultOfFontFile fault.Read = Unit {0}
 IsFaultOfFontFile fault.OutOfMemory = Unit {0}
 IsFaultOfFontFile fault.Budget = Unit {0}
@@ -92,8 +93,14 @@ IsFaultOfScan options fault.ScanUnfinished =
     (reported : CommandFault) × IsFaultOfFontFile reported × (status_of reported ≡ 3)
 IsFaultOfScan options other = ⊥
 
+-- why a file isn't opened
+abbrev pub IsFaultOfOpening : CommandFault → Type 0
+IsFaultOfOpening (fault.Unopened why) = Unit {0}
+IsFaultOfOpening other = ⊥
+
 -- why the bytes of a file aren't read
 abbrev pub IsFaultOfReading : CommandFault → Type 0
+IsFaultOfReading (fault.Unopened why) = Unit {0}
 IsFaultOfReading fault.Read = Unit {0}
 IsFaultOfReading fault.OutOfMemory = Unit {0}
 IsFaultOfReading other = ⊥

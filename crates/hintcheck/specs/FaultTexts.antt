@@ -1,15 +1,24 @@
 -- The faults of a command in words. (Own: the texts are this product's.)
-use Rattle.std.specs.Prelude.{codes, List, ◌++◌, Option, None, Some, ℕ}
+use Rattle.std.specs.Prelude.{codes, List, ◌++◌, Option, None, Some, [], ℕ}
 use Rattle.std.specs.Fmt.{decimal}
 use Rattle.tt_font.specs.FaultNumbers.{fault_number}
 use Rattle.tt_font.specs.FaultTexts.{fault_text}
 use Rattle.tt_font.specs.declared.fault.FontFault.{FontFault}
 use Rattle.hintcheck.specs.declared.commands.faults.CommandFault.{CommandFault}
 use Rattle.hintcheck.specs.declared.commands.faults.CommandFault.TheVariants as fault
+use Rattle.hintcheck.specs.declared.commands.faults.Unopened.{Unopened}
+use Rattle.hintcheck.specs.declared.commands.faults.Unopened.TheVariants as why
 
 -- a font's fault: its number, and the fault in words
 abbrev pub numbered_text : FontFault → List ℕ
 numbered_text f = decimal (fault_number f) ++ (codes " " ++ fault_text f)
+
+-- why a file can't be opened, as it follows the fault's own text
+abbrev pub unopened_text : Unopened → List ℕ
+unopened_text why.NotFound = codes ": no such file"
+unopened_text why.PermissionDenied = codes ": permission denied"
+unopened_text why.Directory = codes ": a directory"
+unopened_text why.Other = []
 
 -- The fault as it is printed after `fault: `. The text for words that the command line doesn't take
 -- is clap's, and is left unspecified.
@@ -28,6 +37,7 @@ command_fault_text fault.OutOfMemory = Some (codes "9 out of memory")
 command_fault_text fault.ScanFault = Some (codes "fault of a font")
 command_fault_text fault.ScanUnfinished = Some (codes "unfinished font")
 command_fault_text fault.Budget = Some (codes "46 budget")
+command_fault_text (fault.Unopened why) = Some (codes "44 read" ++ unopened_text why)
 command_fault_text fault.Read = Some (codes "44 read")
 command_fault_text fault.Write = Some (codes "45 write")
 command_fault_text fault.File = Some (codes "45 write")

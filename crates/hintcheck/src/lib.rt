@@ -26,7 +26,7 @@ pub mod symbolic_verdict;
 pub use bare_program::bare;
 pub use certificate::{FindFontFault, find_font, find_font_within};
 pub use certificate_upgrade::{UpgradeFault, upgrade};
-pub use commands::faults::CommandFault;
+pub use commands::faults::{CommandFault, Unopened};
 pub use commands::{command, try_command, verdict_of};
 pub use explanation::explain_program;
 pub use font::{VerdictFault, read_font, verdict, verdict_within};

@@ -115,32 +115,54 @@ const LISTED: &str = "0: b10700 PUSHB\n3: 2b CALL\nend: 4\n";
 /// What is printed of the certificate.
 const UPGRADED: &str = "upgraded: 3 sections\n";
 
-#[test]
-fn commands_on_files(rt: HostRuntime) -> Result<(), Fail> {
-    let files = files_of(rt.alloc(), &CALL_POPS)?;
+/// Asserts that these subcommands are refused memory on a font file, its certificate and a new file.
+fn assert_refused_on_files(
+    rt: &(impl Abort + Print),
+    host: &HostRuntime,
+    subcommands: &[&str],
+) -> Result<(), Fail> {
+    let files = files_of(host.alloc(), &CALL_POPS)?;
     let paths = [
-        path_of(&rt, "ttf").ok_or("a path")?,
-        path_of(&rt, "cert").ok_or("a path")?,
-        path_of(&rt, "new").ok_or("a path")?,
+        path_of(host, "ttf").ok_or("a path")?,
+        path_of(host, "cert").ok_or("a path")?,
+        path_of(host, "new").ok_or("a path")?,
     ];
     let [font, cert, new] = [paths[0].as_str(), paths[1].as_str(), paths[2].as_str()];
-    fs::write(&rt, font, &files.font)?;
-    fs::write(&rt, cert, &files.certificate)?;
-    let mut heap = Heap::new(rt.alloc());
-    let verdict = ["hintcheck", "verdict", font];
-    assert_command_refused(&rt, &rt, &mut heap, &verdict, ACCEPTED);
-    let find = ["hintcheck", "find", font, new];
-    assert_command_refused(&rt, &rt, &mut heap, &find, ACCEPTED);
-    let check = ["hintcheck", "check", font, cert];
-    assert_command_refused(&rt, &rt, &mut heap, &check, ACCEPTED);
-    let list = ["hintcheck", "list", font, "g0"];
-    assert_command_refused(&rt, &rt, &mut heap, &list, LISTED);
-    let upgrade = ["hintcheck", "upgrade", cert, new];
-    assert_command_refused(&rt, &rt, &mut heap, &upgrade, UPGRADED);
+    fs::write(host, font, &files.font)?;
+    fs::write(host, cert, &files.certificate)?;
+    let mut heap = Heap::new(host.alloc());
+    for name in subcommands {
+        let (last, text) = match *name {
+            "find" => (new, ACCEPTED),
+            "check" => (cert, ACCEPTED),
+            "list" => ("g0", LISTED),
+            "upgrade" => (new, UPGRADED),
+            _ => ("", ACCEPTED),
+        };
+        let first = if *name == "upgrade" { cert } else { font };
+        let words = ["hintcheck", name, first, last];
+        let count = if last.is_empty() { 3 } else { 4 };
+        assert_command_refused(rt, host, &mut heap, &words[..count], text);
+    }
     for path in [font, cert, new] {
-        fs::remove_file(&rt, path)?;
+        let _ = fs::remove_file(host, path);
     }
     Ok(())
+}
+
+#[test]
+fn commands_that_read_files(rt: HostRuntime) -> Result<(), Fail> {
+    assert_refused_on_files(&rt, &rt, &["verdict", "check", "list"])
+}
+
+#[test]
+fn certificate_to_a_file(rt: HostRuntime) -> Result<(), Fail> {
+    assert_refused_on_files(&rt, &rt, &["find"])
+}
+
+#[test]
+fn upgrade_to_a_file(rt: HostRuntime) -> Result<(), Fail> {
+    assert_refused_on_files(&rt, &rt, &["upgrade"])
 }
 
 #[test]

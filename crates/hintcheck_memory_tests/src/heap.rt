@@ -11,7 +11,7 @@ const GREATEST_SMALL: u32 = 20;
 
 /// The room: blocks next to each other, of which a call may be left a part, and how many bytes each
 /// has.
-const ROOM: [usize; 16] = [100_000; 16];
+const ROOM: [usize; 12] = [100_000; 12];
 
 /// How many blocks that aren't small are taken at most.
 const LARGE_BLOCKS: usize = 100_000;
@@ -26,6 +26,10 @@ const KEPT_SIZES: usize = 64;
 /// How many freed blocks of each of these sizes it keeps. A freed block that is kept lies between
 /// others, which then aren't joined over it.
 const KEPT_BLOCKS: usize = 7;
+
+/// How often as many blocks are drawn as the C library keeps: where it finds one elsewhere, it keeps
+/// others of that size that it finds there.
+const DRAWS: usize = 2;
 
 /// A block of this size isn't one of these.
 const APART: usize = 2_048;
@@ -111,7 +115,7 @@ impl Hoard {
             most: LARGE_BLOCKS,
             kept: 0,
             fillers,
-            drawn: Vec::with_capacity(alloc, KEPT_SIZES * KEPT_BLOCKS).ok()?,
+            drawn: Vec::with_capacity(alloc, DRAWS * KEPT_SIZES * KEPT_BLOCKS).ok()?,
         };
         hoard.take_large(alloc);
         hoard.most = hoard.blocks.len().saturating_add(SMALL_BLOCKS);
@@ -136,7 +140,9 @@ impl Hoard {
     /// Gives the room back, joined to one block again: what the C library kept of it is drawn, and
     /// the fillers are kept in its place as long as the blocks of the room are freed.
     fn give_back(&mut self, alloc: Global) {
-        take_kept_sizes(&mut self.drawn, alloc);
+        for _ in 0..DRAWS {
+            take_kept_sizes(&mut self.drawn, alloc);
+        }
         self.fillers.clear();
         self.drawn.clear();
         self.blocks.truncate(self.kept);

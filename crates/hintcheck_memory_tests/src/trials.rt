@@ -17,9 +17,9 @@ use std::test::Fail;
 /// How many bytes more a call is left from one trial to the next, as the C library's blocks grow.
 const STEP: usize = 16;
 
-/// How many trials are made at most. In the last one a call is left 1,300,000 bytes: commands have
+/// How many trials are made at most. In the last one a call is left 1,100,000 bytes: commands have
 /// buffers of 256 KB to read and of 512 KB to write.
-const TRIALS: usize = 81_251;
+const TRIALS: usize = 68_751;
 
 /// How many growths of a call are refused by their number at most.
 const GROWTHS: usize = 100_000;

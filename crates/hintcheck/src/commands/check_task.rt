@@ -8,12 +8,11 @@ ghost use Rattle.hintcheck.specs.FontPrograms.{IsFontInRange, IsSafeFont};
 ghost use Rattle.hintcheck.specs.MeansSafe.{HoldFont, HoldSafeFont, IsCheckOn};
 
 use super::faults::CommandFault;
-use super::files::file_bytes;
+use super::files::{file_bytes, opened};
 use crate::font::read_font;
 use crate::font_check::{check_read_font, check_read_font_within};
 use crate::report::Verdict;
 use std::alloc::Global;
-use std::fs;
 use std::io::Read;
 use std::rt::Files;
 use tt_family::Budget;
@@ -68,8 +67,6 @@ pub(super) fn check_verdict<R: Files + AllocGlobal>(
 {
     let bytes = file_bytes(rt, font)?;
     let font = read_font(rt.alloc(), &bytes)?;
-    let Ok(file) = fs::open(rt, certificate) else {
-        return Err(CommandFault::Read);
-    };
+    let file = opened(rt, certificate)?;
     verdict_by_file(rt.alloc(), &font, file, budget)
 }

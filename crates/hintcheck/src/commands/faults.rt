@@ -11,7 +11,8 @@ use hintcheck_explain::ExplainFault;
 use hintcheck_words::{TaskFault, WordFault};
 use std::alloc::AllocError;
 use std::error::Error;
-use std::fmt;
+use std::io::ErrorKind;
+use std::{fmt, io};
 use tt_font::FontFault;
 use tt_stream::{PrintFailed, ReadFault};
 
@@ -34,6 +35,47 @@ impl fmt::Display for Numbered {
     fn fmt<W: fmt::Write>(&self, f: &mut fmt::Formatter<W>) -> fmt::Result {
         let number = self.0.number();
         write!(f, "{number} {}", self.0)
+    }
+}
+
+/// Why a file can't be opened. Its text follows the fault's own.
+#[derive(Clone, Copy, Debug, PartialEq, Eq)]
+pub enum Unopened {
+    /// No file has the name.
+    NotFound,
+    /// The file may not be read.
+    PermissionDenied,
+    /// The name is a directory's.
+    Directory,
+    /// For another reason, which isn't told.
+    Other,
+}
+
+impl Unopened {
+    /// Returns why a file isn't opened of which the system tells this.
+    pub(super) fn of(error: &io::Error) -> Unopened {
+        match error.kind() {
+            ErrorKind::NotFound => Unopened::NotFound,
+            ErrorKind::PermissionDenied => Unopened::PermissionDenied,
+            ErrorKind::IsADirectory => Unopened::Directory,
+            _ => Unopened::Other,
+        }
+    }
+}
+
+impl fmt::Display for Unopened {
+    ghost use Rattle.std.specs.Prelude.{Some};
+    ghost use Rattle.hintcheck.specs.FaultTexts.{unopened_text};
+
+    ghost output = { λ why. Some (unopened_text why) };
+
+    fn fmt<W: fmt::Write>(&self, f: &mut fmt::Formatter<W>) -> fmt::Result {
+        match self {
+            Unopened::NotFound => write!(f, ": no such file"),
+            Unopened::PermissionDenied => write!(f, ": permission denied"),
+            Unopened::Directory => write!(f, ": a directory"),
+            Unopened::Other => Ok(()),
+        }
     }
 }
 
@@ -68,7 +110,9 @@ pub enum CommandFault {
     ScanUnfinished,
     /// More points were to be made than may be.
     Budget,
-    /// A file can't be opened or read.
+    /// A file can't be opened.
+    Unopened(Unopened),
+    /// A file can't be read.
     Read,
     /// The output can't be written.
     Write,
@@ -99,6 +143,7 @@ impl fmt::Display for CommandFault {
             CommandFault::Budget => write!(f, "46 budget"),
             CommandFault::ScanUnfinished => write!(f, "unfinished font"),
             CommandFault::ScanFault => write!(f, "fault of a font"),
+            CommandFault::Unopened(why) => write!(f, "44 read{why}"),
             CommandFault::Read => write!(f, "44 read"),
             CommandFault::Write | CommandFault::File => write!(f, "45 write"),
             CommandFault::Text => write!(f, "text"),

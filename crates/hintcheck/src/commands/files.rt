@@ -5,9 +5,9 @@ ghost use Rattle.std.specs.Prelude.{◌≡◌, ◌≢◌, ◌↔◌, IfErr, IfOk
 ghost use Rattle.std.specs.Io.Buffered.{writer_contents};
 ghost use Rattle.std.specs.Io.KnownBytes.{Keeps};
 ghost use Rattle.hintcheck.specs.Commands.{HasAll, IsNoWriteFault};
-ghost use Rattle.hintcheck.specs.CommandFaults.{IsFaultOfReading};
+ghost use Rattle.hintcheck.specs.CommandFaults.{IsFaultOfOpening, IsFaultOfReading};
 
-use super::faults::CommandFault;
+use super::faults::{CommandFault, Unopened};
 use std::alloc::Global;
 use std::fs;
 use std::io::{BufWriter, Read, Write};
@@ -19,6 +19,27 @@ use tt_stream::{Counted, read_all};
 /// short. With a write for each section the system takes half as long again, and with writes of an
 /// eighth of this a quarter.
 pub(super) const ROOM: usize = 524_288;
+
+/// Whether the name is a directory's, as far as that can be known.
+fn is_directory<R: Files>(rt: &R, name: &str) -> bool {
+    match fs::metadata(rt, name) {
+        Ok(metadata) => metadata.is_dir(),
+        Err(_) => false,
+    }
+}
+
+/// Opens the file with this name, to be read.
+pub(super) fn opened<R: Files>(rt: &R, name: &str) -> Result<R::File, CommandFault>
+    ensures { IfErr result IsFaultOfOpening }
+{
+    if is_directory(rt, name) {
+        return Err(CommandFault::Unopened(Unopened::Directory));
+    }
+    match fs::open(rt, name) {
+        Ok(file) => Ok(file),
+        Err(error) => Err(CommandFault::Unopened(Unopened::of(&error))),
+    }
+}
 
 /// Returns the bytes that are left in the file.
 fn read_file<F: Read + Drop>(alloc: Global, file: F) -> Result<Vec<u8>, CommandFault>
@@ -38,9 +59,7 @@ pub(super) fn file_bytes<R: Files + AllocGlobal>(
     ensures fault { IfErr result IsNoWriteFault }
     ensures faults { IfErr result IsFaultOfReading }
 {
-    let Ok(file) = fs::open(rt, name) else {
-        return Err(CommandFault::Read);
-    };
+    let file = opened(rt, name)?;
     read_file(rt.alloc(), file)
 }
 

@@ -9,7 +9,7 @@ ghost use Rattle.hintcheck.specs.Upgrades.{IsNumberOfPrograms, IsUpgradeOf, Upgr
 
 use super::ACCEPTED;
 use super::faults::CommandFault;
-use super::files::{ROOM, file_numbers, is_same_file, write_rest};
+use super::files::{ROOM, file_numbers, is_same_file, opened, write_rest};
 use crate::certificate_upgrade::upgrade;
 use std::alloc::Global;
 use std::fs;
@@ -58,9 +58,7 @@ fn upgrade_named<R: Files + AllocGlobal>(rt: &R, old: &str, new: &str) -> Result
     if old == new || is_same_file(file_numbers(rt, old), file_numbers(rt, new)) {
         return Err(CommandFault::NewWord);
     }
-    let Ok(old) = fs::open(rt, old) else {
-        return Err(CommandFault::Read);
-    };
+    let old = opened(rt, old)?;
     let Ok(new) = fs::create(rt, new) else {
         return Err(CommandFault::File);
     };

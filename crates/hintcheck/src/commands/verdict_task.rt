@@ -7,12 +7,12 @@ ghost use Rattle.hintcheck.specs.MeansSafe.{HoldRefusedBy, HoldSafeBy, IsVerdict
 ghost use Rattle.hintcheck.specs.SymbolicAnswers.{IsSymbolicVerdictOn};
 
 use super::faults::CommandFault;
+use super::files::opened;
 use crate::font::{self, verdict_within};
 use crate::report::Verdict;
 use crate::symbolic_verdict::{verdict_symbolic, verdict_symbolic_within};
 use hintcheck_words::Profile;
 use std::alloc::Global;
-use std::fs;
 use std::io::Read;
 use std::rt::Files;
 use tt_family::Budget;
@@ -126,8 +126,6 @@ pub(super) fn file_verdict<R: Files + AllocGlobal>(
     ensures faults { IfErr result
         (λ fault. IsFaultOfFontFile fault × IsWithin budget fault) }
 {
-    let Ok(file) = fs::open(rt, name) else {
-        return Err(CommandFault::Read);
-    };
+    let file = opened(rt, name)?;
     verdict_on_bytes(rt.alloc(), file, budget, profile)
 }
