@@ -28,7 +28,8 @@ command_fault_text fault.MaxpWord = Some (codes "words: MAXP")
 command_fault_text fault.ProgramWord = Some (codes "words: PROGRAM")
 command_fault_text fault.OffsetWord = Some (codes "words: OFFSET")
 command_fault_text fault.ClassWord = Some (codes "words: CLASS")
-command_fault_text fault.CertificateWord = Some (codes "words: CERT")
+command_fault_text fault.CertificateWord =
+    Some (codes "words: CERT: the font would be written over")
 command_fault_text fault.NewWord = Some (codes "words: NEW")
 command_fault_text (fault.Font numbered) = Some (numbered_text numbered.0)
 command_fault_text (fault.Form place) =

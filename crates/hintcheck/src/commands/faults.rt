@@ -135,7 +135,9 @@ impl fmt::Display for CommandFault {
             CommandFault::ProgramWord => write!(f, "words: PROGRAM"),
             CommandFault::OffsetWord => write!(f, "words: OFFSET"),
             CommandFault::ClassWord => write!(f, "words: CLASS"),
-            CommandFault::CertificateWord => write!(f, "words: CERT"),
+            CommandFault::CertificateWord => {
+                write!(f, "words: CERT: the font would be written over")
+            }
             CommandFault::NewWord => write!(f, "words: NEW"),
             CommandFault::Font(numbered) => write!(f, "{numbered}"),
             CommandFault::Form(place) => write!(f, "43 certificate form at byte {place}"),

@@ -41,7 +41,7 @@ fn one_font_by_two_names(rt: HostRuntime) -> Result<(), Fail> {
     let bytes = font_of(rt.alloc(), &[], &[], &[&glyph])?;
     fs::write(&rt, font.as_str(), &bytes)?;
     fs::hard_link(&rt, font.as_str(), link.as_str())?;
-    let line = "fault: words: CERT\n";
+    let line = "fault: words: CERT: the font would be written over\n";
     let names = (font.as_str(), link.as_str());
     assert!(rt;
         is_kept(&rt, "find", names, line, &bytes)?,
