@@ -29,7 +29,7 @@ const KEPT_BLOCKS: usize = 7;
 
 /// How often as many blocks are drawn as the C library keeps: where it finds one elsewhere, it keeps
 /// others of that size that it finds there.
-const DRAWS: usize = 2;
+const DRAWS: usize = 4;
 
 /// A block of this size isn't one of these.
 const APART: usize = 2_048;
