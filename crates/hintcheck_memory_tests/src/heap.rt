@@ -27,9 +27,15 @@ const KEPT_SIZES: usize = 64;
 /// others, which then aren't joined over it.
 const KEPT_BLOCKS: usize = 7;
 
-/// How often as many blocks are drawn as the C library keeps: where it finds one elsewhere, it keeps
-/// others of that size that it finds there.
-const DRAWS: usize = 4;
+/// How many blocks of a size are drawn to be sure that the C library keeps none: where it finds one
+/// elsewhere, it keeps others of that size that it finds there.
+const DRAWN_BLOCKS: usize = 2 * KEPT_BLOCKS;
+
+/// The same of blocks of at most 248 bytes, of which more lie elsewhere.
+const DRAWN_SMALL_BLOCKS: usize = 8 * KEPT_BLOCKS;
+
+/// How many of the sizes are greater than that.
+const LARGE_SIZES: usize = 49;
 
 /// A block of this size isn't one of these.
 const APART: usize = 2_048;
@@ -48,9 +54,9 @@ struct Hoard {
     drawn: Vec<Vec<u8>>,
 }
 
-/// Takes as many blocks of a size as the C library keeps, or as there are.
-fn take_kept_blocks(blocks: &mut Vec<Vec<u8>>, alloc: Global, size: usize) {
-    for _ in 0..KEPT_BLOCKS {
+/// Takes this many blocks of a size, or as many as there are.
+fn take_blocks_of(blocks: &mut Vec<Vec<u8>>, alloc: Global, size: usize, count: usize) {
+    for _ in 0..count {
         let Ok(block) = Vec::with_capacity(alloc, size) else {
             return;
         };
@@ -63,7 +69,19 @@ fn take_kept_blocks(blocks: &mut Vec<Vec<u8>>, alloc: Global, size: usize) {
 /// Takes as many blocks of each size that the C library keeps as it keeps.
 fn take_kept_sizes(blocks: &mut Vec<Vec<u8>>, alloc: Global) {
     for less in 0..KEPT_SIZES {
-        take_kept_blocks(blocks, alloc, 1_032 - 16 * less);
+        take_blocks_of(blocks, alloc, 1_032 - 16 * less, KEPT_BLOCKS);
+    }
+}
+
+/// Takes the blocks that the C library keeps, of each size.
+fn draw_kept_sizes(blocks: &mut Vec<Vec<u8>>, alloc: Global) {
+    for less in 0..KEPT_SIZES {
+        let count = if less < LARGE_SIZES {
+            DRAWN_BLOCKS
+        } else {
+            DRAWN_SMALL_BLOCKS
+        };
+        take_blocks_of(blocks, alloc, 1_032 - 16 * less, count);
     }
 }
 
@@ -115,7 +133,7 @@ impl Hoard {
             most: LARGE_BLOCKS,
             kept: 0,
             fillers,
-            drawn: Vec::with_capacity(alloc, DRAWS * KEPT_SIZES * KEPT_BLOCKS).ok()?,
+            drawn: Vec::with_capacity(alloc, KEPT_SIZES * DRAWN_SMALL_BLOCKS).ok()?,
         };
         hoard.take_large(alloc);
         hoard.most = hoard.blocks.len().saturating_add(SMALL_BLOCKS);
@@ -140,9 +158,7 @@ impl Hoard {
     /// Gives the room back, joined to one block again: what the C library kept of it is drawn, and
     /// the fillers are kept in its place as long as the blocks of the room are freed.
     fn give_back(&mut self, alloc: Global) {
-        for _ in 0..DRAWS {
-            take_kept_sizes(&mut self.drawn, alloc);
-        }
+        draw_kept_sizes(&mut self.drawn, alloc);
         self.fillers.clear();
         self.drawn.clear();
         self.blocks.truncate(self.kept);
