@@ -1,10 +1,12 @@
 -- Entries that agree.
-use Rattle.std.proofs.Common.{◌≡◌, ℕ, ◌+◌, ◌<◌, List, [], ◌∷◌, Option, Some, Bool, true, false, nat_eq, if◌then◌else◌, get_or, length, take, refl, sym, ◌∙◌, subst}
+use Rattle.std.proofs.Common.{◌≡◌, ℕ, zero, suc, ◌+◌, ◌<◌, List, [], ◌∷◌, Option, Some, Bool, true, false, nat_eq, if◌then◌else◌, get_or, length, take, refl, sym, ◌∙◌, ap, subst, arith}
 use Rattle.std.specs.List.{All}
 use Rattle.std.proofs.lemmas.Bool.{eqb-true}
 use Rattle.std.proofs.lemmas.List.Elements.{All-head, All-tail, All-more, All-weaker}
 use Rattle.tt_abs.specs.Cells.{CoversFunctions}
-use Rattle.tt_abs.specs.Entries.{listed}
+use Rattle.tt_abs.specs.Entries.{Ascends, listed}
+use Rattle.tt_abs.specs.EntryLaws.{listed-here, listed-there}
+use Rattle.tt_abs.proofs.EntryEdits.{all-at}
 use Rattle.tt_abs.specs.Representation.EntryFacts.{listed-named}
 use Rattle.tt_symbolic_state.specs.declared.cell.Cell.{Cell}
 use Rattle.tt_symbolic_state.specs.declared.cell.Range.{Range}
@@ -38,3 +40,11 @@ entries_more old new ranges mine theirs i d cell x lt all is a =
     All-more (λ (e : ℕ × Cell). IsEntryOf new ranges mine e) theirs i d lt
     (All-weaker (λ (e : ℕ × Cell). IsEntryOf old ranges mine e) (λ (e : ℕ × Cell). IsEntryOf new ranges mine e) (λ e h. (h.0, h.1, later old new ranges h.0 e.1 x h.2)) (take i theirs) all)
     (cell, is, a)
+
+-- what is at a place of a sorted map is listed with its number
+pub listed_place : {V : Type 0} (xs : List (ℕ × V)) (i : ℕ) (e : ℕ × V) (n : ℕ) → Ascends xs → i < length xs → e ≡ get_or xs i e → e.0 ≡ n → listed xs n ≡ Some e.1
+listed_place [] i e n r lt is same = absurd (omega arith)
+listed_place {V} (x ∷ xs) zero e n r lt is same = listed-here x xs n (ap (λ (y : ℕ × V). y.0) (sym is) ∙ same) ∙ ap (λ (y : ℕ × V). Some y.1) (sym is)
+listed_place {V} (x ∷ xs) (suc i) e n r lt is same =
+    listed-there x xs n (λ q. let a = all-at x.0 xs i e r.0 (omega arith) in let b : e.0 ≡ (get_or xs i e).0 = ap (λ (y : ℕ × V). y.0) is in omega arith)
+    ∙ listed_place xs i e n r.1 (omega arith) is same

@@ -1,6 +1,7 @@
 -- Walks, and what they say about runs.
 use Rattle.std.proofs.Common.{◌≡◌, ℕ, zero, suc, ◌+◌, ◌<◌, ℤ, List, [], ◌∷◌, ◌++◌, reverse, Ok, Err, Some, Bool, true, false, length, set, get_or, refl, sym, ◌∙◌, ap, subst, arith, ◌⊎◌, inl, inr}
-use Rattle.std.specs.Prelude.{slice_get}
+use Rattle.std.specs.Prelude.{slice_get, Box}
+use Rattle.std.specs.declared.alloc.Global.{Global}
 use Rattle.std.proofs.lemmas.Int.{by_lt_z}
 use Rattle.std.proofs.lemmas.Bool.{cases_eq, cases_lt}
 use Rattle.std.proofs.lemmas.Option.{slice_get_within, slice_get-get_or, get_or_from_slice_get}
@@ -128,7 +129,7 @@ module _ (setting : Setting) (kept : Kept) (listed : List State) where
   same_extends : (old new : Walk) → new.walked.items ≡ old.walked.items → new.ends.items ≡ old.ends.items → Extends old new
   same_extends old new w e = record { walked = λ i h. ap (λ (l : List Bool). slice_get l i) w ∙ h; ends = λ a h. subst (λ (l : List State). IsIn l a) (sym e) h }
 
-  pub put_reaches : (state : State) (b : Bool) (old new : Walk) → PutsPending state b old new → Reaches setting kept listed old new (λ final. Walks setting kept listed final b state)
+  pub put_reaches : (state : Box State Global) (b : Bool) (old new : Walk) → PutsPending state b old new → Reaches setting kept listed old new (λ final. Walks setting kept listed final b state.value)
   put_reaches state b old new p = record {
     extends = same_extends old new p.walked p.ends;
     reaches = λ final x all. (
@@ -151,12 +152,12 @@ module _ (setting : Setting) (kept : Kept) (listed : List State) where
     );
   }
 
-  pub step_reaches : (a c : State) (old new : Walk) → EndsAs setting a false → StepsTo setting a c → StepsKeep (setting_of setting) kept a → PutsPending c true old new → Reaches setting kept listed old new (λ final. Walks setting kept listed final false a)
-  step_reaches a c old new e h k p = reaches_to old new (λ final. Walks setting kept listed final true c) (λ final. Walks setting kept listed final false a) (λ final x w. goes false a c e h k w) (put_reaches c true old new p)
+  pub step_reaches : (a : State) (c : Box State Global) (old new : Walk) → EndsAs setting a false → StepsTo setting a c.value → StepsKeep (setting_of setting) kept a → PutsPending c true old new → Reaches setting kept listed old new (λ final. Walks setting kept listed final false a)
+  step_reaches a c old new e h k p = reaches_to old new (λ final. Walks setting kept listed final true c.value) (λ final. Walks setting kept listed final false a) (λ final x w. goes false a c.value e h k w) (put_reaches c true old new p)
 
-  pub split_reaches : (a low high : State) (old middle new : Walk) → IsSplit a low high → PutsPending high false old middle → PutsPending low false middle new → Reaches setting kept listed old new (λ final. Walks setting kept listed final false a)
+  pub split_reaches : (a : State) (low high : Box State Global) (old middle new : Walk) → IsSplit a low.value high.value → PutsPending high false old middle → PutsPending low false middle new → Reaches setting kept listed old new (λ final. Walks setting kept listed final false a)
   split_reaches a low high old middle new h p q =
-      reaches_then old middle new (λ final. Walks setting kept listed final false high) (λ final. Walks setting kept listed final false low) (λ final. Walks setting kept listed final false a) (λ final u l. splits false a low high h l u)
+      reaches_then old middle new (λ final. Walks setting kept listed final false high.value) (λ final. Walks setting kept listed final false low.value) (λ final. Walks setting kept listed final false a) (λ final u l. splits false a low.value high.value h l u)
       (put_reaches high false old middle p) (put_reaches low false middle new q)
 
   -- a listed state that is walked from now on
@@ -182,8 +183,8 @@ module _ (setting : Setting) (kept : Kept) (listed : List State) where
         slice_get-get_or (set xs i true) k true (omega arith) ∙ ap Some (get_or-set_other xs i k true true other ∙ get_or_from_slice_get xs k true true e)
   ]
 
-  pub stop_reaches : (old marked new : Walk) (place : ℕ) (there copy : State) → slice_get listed place ≡ Some there → place < length old.walked.items → marked.walked.items ≡ set old.walked.items place true → marked.pending.items ≡ old.pending.items → marked.ends.items ≡ old.ends.items
-      → IsCopy there copy → PutsPending copy false marked new → Reaches setting kept listed old new (λ final. slice_get final.walked.items place ≡ Some true)
+  pub stop_reaches : (old marked new : Walk) (place : ℕ) (there : State) (copy : Box State Global) → slice_get listed place ≡ Some there → place < length old.walked.items → marked.walked.items ≡ set old.walked.items place true → marked.pending.items ≡ old.pending.items → marked.ends.items ≡ old.ends.items
+      → IsCopy there copy.value → PutsPending copy false marked new → Reaches setting kept listed old new (λ final. slice_get final.walked.items place ≡ Some true)
   stop_reaches old marked new place there copy found lt walked pending ends' is p = record {
     extends = extends_more old marked new (record {
       walked = λ i h. ap (λ (l : List Bool). slice_get l i) walked ∙ set_there old.walked.items place i lt h;
@@ -199,27 +200,27 @@ module _ (setting : Setting) (kept : Kept) (listed : List State) where
               | inr same ↦
                   let one : Some there ≡ Some a = sym found ∙ ap (slice_get listed) (sym same) ∙ at in
                   let two : there ≡ a = cc in
-                  inr (subst (λ (y : State). Walks setting kept listed final false y) two (copy_walks final there copy is w))
+                  inr (subst (λ (y : State). Walks setting kept listed final false y) two (copy_walks final there copy.value is w))
             ]
             | inr walks ↦ inr walks
           ]),
         );
   }
     where
-      r : Reaches setting kept listed marked new (λ final. Walks setting kept listed final false copy)
+      r : Reaches setting kept listed marked new (λ final. Walks setting kept listed final false copy.value)
       r = put_reaches copy false marked new p
 
   pub meet_reaches : (old new : Walk) (place : ℕ) (a : State) → IsCoveredBy listed place a → Reaches setting kept listed old new (λ final. slice_get final.walked.items place ≡ Some true) → Reaches setting kept listed old new (λ final. Walks setting kept listed final true a)
   meet_reaches old new place a c r = reaches_to old new _ _ (λ final x w. meets a place c w) r
 
-  pub take_reaches : (old middle new : Walk) (p : Pending) → TakesPending old middle p → Reaches setting kept listed middle new (λ final. Walks setting kept listed final p.may_stop p.state) → Reaches setting kept listed old new (λ final. Unit {0})
+  pub take_reaches : (old middle new : Walk) (p : Pending) → TakesPending old middle p → Reaches setting kept listed middle new (λ final. Walks setting kept listed final p.may_stop p.state.value) → Reaches setting kept listed old new (λ final. Unit {0})
   take_reaches old middle new p t r = record {
     extends = extends_more old middle new (same_extends old middle t.walked t.ends) r.extends;
     reaches = λ final x all.
         let (all', w, walked) = r.reaches final x all in (
           (λ i q found. elim (more_get middle.pending.items p i q (ap (λ (l : List Pending). slice_get l i) (sym t.pending) ∙ found)) [
             | inl before ↦ all' i q before
-            | inr same ↦ subst (λ (y : Pending). Walks setting kept listed final y.may_stop y.state) (sym same) w
+            | inr same ↦ subst (λ (y : Pending). Walks setting kept listed final y.may_stop y.state.value) (sym same) w
           ]),
           tt,
           (λ i a at e. elim (walked i a at e) [ inl before ↦ inl (ap (λ (l : List Bool). slice_get l i) (sym t.walked) ∙ before) | inr w' ↦ inr w' ]),
@@ -334,7 +335,7 @@ module _ (setting : Setting) (kept : Kept) (listed : List State) (starts : List 
       λ i start found. b.begins final all i start (let lt = slice_get_within starts i start found in omega arith) found in
       (walk_is_safe setting kept listed final listed' starts walks, walk_has_ends setting kept listed final listed' starts walks, walk_keeps setting kept listed final listed' starts walks)
 
-  pub begin_more : (count : ℕ) (state : State) (start : Start) (old new : Walk) → slice_get starts count ≡ Some start → IsStartState start state → Begins setting kept listed count starts old → PutsPending state true old new → Begins setting kept listed (count + 1) starts new
+  pub begin_more : (count : ℕ) (state : Box State Global) (start : Start) (old new : Walk) → slice_get starts count ≡ Some start → IsStartState start state.value → Begins setting kept listed count starts old → PutsPending state true old new → Begins setting kept listed (count + 1) starts new
   begin_more count state start old new found is b p = record {
     none_walked = λ i e. b.none_walked i (ap (λ (l : List Bool). slice_get l i) (sym p.walked) ∙ e);
     begins = λ final all i s lt at.
@@ -346,7 +347,7 @@ module _ (setting : Setting) (kept : Kept) (listed : List State) (starts : List 
               let one : Some start ≡ Some s = sym found ∙ ap (slice_get starts) (sym same) ∙ at in
               let two : start ≡ s = cc in
               subst (StartWalks setting kept listed final) two (record {
-                state = state;
+                state = state.value;
                 is_start = is;
                 walks = all (length old.pending.items) (record { state = state; may_stop = true }) (ap (λ (l : List Pending). slice_get l (length old.pending.items)) p.pending ∙ get_last old.pending.items (record { state = state; may_stop = true }));
               })

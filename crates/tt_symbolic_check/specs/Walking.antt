@@ -1,5 +1,6 @@
 -- Walks from symbolic states: to the main program's end, or to listed states that are walked too.
-use Rattle.std.specs.Prelude.{◌≡◌, ◌⊎◌, ◌≤◌, ℕ, suc, ℤ, List, [], ◌∷◌, ◌++◌, Some, slice_get, Bool, true, false}
+use Rattle.std.specs.Prelude.{◌≡◌, ◌⊎◌, ◌≤◌, ℕ, suc, ℤ, List, [], ◌∷◌, ◌++◌, Some, slice_get, Bool, true, false, Box}
+use Rattle.std.specs.declared.alloc.Global.{Global}
 use Rattle.tt_code.specs.Runs.{is_at_end}
 use Rattle.tt_code.specs.States.{Machine}
 use Rattle.tt_abs.specs.declared.setting.Setting.{Setting}
@@ -57,7 +58,7 @@ pub record Extends (old new : Walk) : Type 0 where
 abbrev pub AllWalk : Setting → Kept → List State → Walk → List Pending → Type 0
 AllWalk setting kept listed final pending =
     (i : ℕ) (p : Pending) → slice_get pending i ≡ Some p
-    → Walks setting kept listed final p.may_stop p.state
+    → Walks setting kept listed final p.may_stop p.state.value
 
 -- the listed states that are walked, and weren't before, walk
 abbrev pub ListedWalk : Setting → Kept → List State → Walk → Walk → Walk → Type 0
@@ -76,7 +77,8 @@ pub record Reaches (setting : Setting) (kept : Kept) (listed : List State)
       × ListedWalk setting kept listed old new final
 
 -- the state waits too
-pub record PutsPending (state : State) (may_stop : Bool) (old new : Walk) : Type 0 where
+pub record PutsPending (state : Box State Global) (may_stop : Bool) (old new : Walk)
+    : Type 0 where
   pub pending : new.pending.items
       ≡ old.pending.items ++ record { state = state; may_stop = may_stop } ∷ []
   pub walked : new.walked.items ≡ old.walked.items

@@ -5,6 +5,7 @@ ghost use Rattle.std.specs.Prelude.{◌≡◌, ◌+ℤ◌, ◌*ℤ◌, IfOk, IfS
 ghost use Rattle.tt_symbolic_state.specs.Values.{Assigns, Valuation, value};
 ghost use Rattle.tt_symbolic_check.specs.Covering.{AgreeAll, AgreeCall, AgreeCalls, AgreeEntries, AgreeGraphics, AgreeStates, Agrees, Covers, Extends, IsImageWithin, RangesWithin};
 ghost use Rattle.tt_abs.specs.Cells.{CoversFunctions};
+ghost use Rattle.tt_abs.specs.Entries.{listed};
 
 use std::alloc::{AllocError, Global};
 use tt_abs::SortedMap;
@@ -179,6 +180,20 @@ fn agree_all(
     true
 }
 
+/// Returns what is listed with a number, which is mostly found at a place.
+fn listed_near<T: Copy>(entries: &SortedMap<T>, place: usize, number: u16) -> Option<T>
+    ensures { result ≡ listed entries.now number }
+{
+    let list = entries.as_slice();
+    if place < list.len() {
+        let entry = list[place];
+        if entry.0 == number {
+            return Some(entry.1);
+        }
+    }
+    entries.get(number)
+}
+
 /// Whether the entries of the covering map agree with those of the other.
 fn agree_entries(
     assigned: &mut [Option<Cell>],
@@ -189,8 +204,9 @@ fn agree_entries(
     ensures extends { Extends assigned.old assigned.new }
     ensures agrees { result ≡ true → AgreeEntries assigned.new ranges.now mine.now theirs.now }
 {
-    for entry in theirs {
-        match mine.get(entry.0) {
+    for i in 0..theirs.len() {
+        let entry = theirs[i];
+        match listed_near(mine, i, entry.0) {
             Some(cell) => {
                 if !agree(assigned, ranges, cell, entry.1) {
                     return false;
@@ -206,8 +222,9 @@ fn agree_entries(
 pub fn has_functions(mine: &SortedMap<u32>, theirs: &[(u16, u32)]) -> bool
     ensures { result ≡ true → CoversFunctions theirs.now mine.now }
 {
-    for entry in theirs {
-        match mine.get(entry.0) {
+    for i in 0..theirs.len() {
+        let entry = theirs[i];
+        match listed_near(mine, i, entry.0) {
             Some(body) => {
                 if body != entry.1 {
                     return false;
@@ -217,17 +234,6 @@ pub fn has_functions(mine: &SortedMap<u32>, theirs: &[(u16, u32)]) -> bool
         }
     }
     true
-}
-
-/// Whether the functions of the covering state are those of the other, which may have more. Where
-/// both have the same, one comparison tells.
-fn covers_functions(mine: &SortedMap<u32>, theirs: &SortedMap<u32>) -> bool
-    ensures { result ≡ true → CoversFunctions theirs.now mine.now }
-{
-    if mine.is_same(theirs) {
-        return true;
-    }
-    has_functions(mine, theirs.as_slice())
 }
 
 /// Whether both are the same zone.
@@ -320,7 +326,7 @@ fn agree_states(
     if mine.offset != theirs.offset {
         return false;
     }
-    if !covers_functions(&mine.functions, &theirs.functions) {
+    if !has_functions(&mine.functions, theirs.functions.as_slice()) {
         return false;
     }
     if !agree_graphics(assigned, ranges, &mine.graphics, &theirs.graphics) {
@@ -368,15 +374,6 @@ fn may_cover(mine: &State, theirs: &State) -> bool {
         && are_in_same_calls(mine.calls.as_slice(), theirs.calls.as_slice())
 }
 
-/// Makes a list in which nothing is assigned to any of so many symbols.
-fn unassigned(alloc: Global, symbols: usize) -> Result<Vec<Option<Cell>>, AllocError> {
-    let mut assigned = Vec::new(alloc);
-    for _ in 0..symbols {
-        assigned.push(None)?;
-    }
-    Ok(assigned)
-}
-
 /// Whether the second state shows each machine that the first shows.
 ///
 /// # Errors
@@ -387,7 +384,7 @@ pub fn covers(alloc: Global, mine: &State, theirs: &State) -> Result<bool, Alloc
     if !may_cover(mine, theirs) {
         return Ok(false);
     }
-    let mut assigned = unassigned(alloc, theirs.ranges.len())?;
+    let mut assigned = vec![in alloc; None; theirs.ranges.len()]?;
     let cells = assigned.as_mut_slice();
     let ranges = mine.ranges.as_slice();
     if !agree_states(cells, ranges, mine, theirs) {

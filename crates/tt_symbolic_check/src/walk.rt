@@ -37,8 +37,8 @@ pub const USUAL_EFFORT: Effort = Effort {
 /// A state that waits to be carried on.
 #[derive(Drop)]
 pub struct Pending {
-    /// The state.
-    pub state: State,
+    /// The state, in a box, so that no step moves it.
+    pub state: Box<State>,
     /// Whether it goes no further where a listed state covers it.
     pub may_stop: bool,
 }
@@ -54,8 +54,15 @@ pub struct Walk {
     pub ends: Vec<State>,
 }
 
+/// Puts a state into a box.
+fn boxed(alloc: Global, state: State) -> Result<Box<State>, AllocError>
+    ensures { IfOk result (λ b. b.value ≡ state) }
+{
+    Ok(Box::new(alloc, state)?)
+}
+
 /// Lets a state wait.
-fn put_pending(walk: &mut Walk, state: State, may_stop: bool) -> Result<(), AllocError>
+fn put_pending(walk: &mut Walk, state: Box<State>, may_stop: bool) -> Result<(), AllocError>
     ensures { OnOk result (PutsPending state may_stop walk.old walk.new) }
 {
     walk.pending.push(Pending { state, may_stop })?;
@@ -156,7 +163,8 @@ fn stop_at(
     if place >= walk.walked.len() {
         return Err(AllocError);
     }
-    let copy = copied(alloc, there)?;
+    let state = copied(alloc, there)?;
+    let copy = boxed(alloc, state)?;
     mark(&mut walk.walked, place);
     put_pending(walk, copy, false)?;
     Ok(())
@@ -169,13 +177,14 @@ fn split_up(
     kept: &Kept<'_>,
     listed: &[State],
     walk: &mut Walk,
-    state: State,
+    state: Box<State>,
     split: Split,
 ) -> Result<(), AllocError>
     ensures { OnOk result (Reaches setting.now kept.now listed.now walk.old walk.new
-        (λ final. Walks setting.now kept.now listed.now final false state)) }
+        (λ final. Walks setting.now kept.now listed.now final false state.value)) }
 {
-    let mut low = copied(alloc, &state)?;
+    let copy = copied(alloc, &state)?;
+    let mut low = boxed(alloc, copy)?;
     lower(&mut low, split);
     let mut high = state;
     raise(&mut high, split);
@@ -190,11 +199,11 @@ fn step_on(
     kept: &Kept<'_>,
     listed: &[State],
     walk: &mut Walk,
-    state: State,
+    state: Box<State>,
 ) -> Result<(), StepRefusal>
-    requires { EndsAs setting.now state false }
+    requires { EndsAs setting.now state.value false }
     ensures { OnOk result (Reaches setting.now kept.now listed.now walk.old walk.new
-        (λ final. Walks setting.now kept.now listed.now final false state)) }
+        (λ final. Walks setting.now kept.now listed.now final false state.value)) }
 {
     let keeps_entries = keeps(setting, &state, kept);
     let mut next = state;
@@ -213,12 +222,12 @@ fn split_or_step(
     kept: &Kept<'_>,
     listed: &[State],
     walk: &mut Walk,
-    state: State,
+    state: Box<State>,
     widest: i64,
 ) -> Result<(), StepRefusal>
-    requires { EndsAs setting.now state false }
+    requires { EndsAs setting.now state.value false }
     ensures { OnOk result (Reaches setting.now kept.now listed.now walk.old walk.new
-        (λ final. Walks setting.now kept.now listed.now final false state)) }
+        (λ final. Walks setting.now kept.now listed.now final false state.value)) }
 {
     match wanted(setting, &state, widest) {
         Some(split) => {
@@ -236,14 +245,14 @@ fn carry_on(
     kept: &Kept<'_>,
     listed: &[State],
     walk: &mut Walk,
-    state: State,
+    state: Box<State>,
     widest: i64,
 ) -> Result<(), StepRefusal>
     ensures { OnOk result (Reaches setting.now kept.now listed.now walk.old walk.new
-        (λ final. Walks setting.now kept.now listed.now final false state)) }
+        (λ final. Walks setting.now kept.now listed.now final false state.value)) }
 {
     if is_at_end(setting, &state) {
-        put_end(walk, state)?;
+        put_end(walk, Box::into_inner(state))?;
         return Ok(());
     }
     split_or_step(alloc, setting, kept, listed, walk, state, widest)
@@ -257,7 +266,7 @@ fn met(
     entry: &Pending,
 ) -> Result<Option<usize>, AllocError>
     ensures { IfOk result (λ found. IfSome found (λ i. (entry.now.may_stop ≡ true)
-        × IsCoveredBy listed.now i entry.now.state)) }
+        × IsCoveredBy listed.now i entry.now.state.value)) }
 {
     if !entry.may_stop {
         return Ok(None);
@@ -277,7 +286,7 @@ fn go_on(
     widest: i64,
 ) -> Result<(), StepRefusal>
     ensures { OnOk result (Reaches setting.now kept.now listed.now walk.old walk.new
-        (λ final. Walks setting.now kept.now listed.now final entry.may_stop entry.state)) }
+        (λ final. Walks setting.now kept.now listed.now final entry.may_stop entry.state.value)) }
 {
     let found = met(alloc, listed, index, &entry)?;
     match found {
@@ -301,7 +310,7 @@ fn advance(
     widest: i64,
 ) -> Result<(), CheckRefusal>
     ensures { OnOk result (Reaches setting.now kept.now listed.now walk.old walk.new
-        (λ final. Walks setting.now kept.now listed.now final entry.may_stop entry.state)) }
+        (λ final. Walks setting.now kept.now listed.now final entry.may_stop entry.state.value)) }
 {
     let place = Place::of(&entry.state);
     match go_on(alloc, setting, kept, listed, index, walk, entry, widest) {
@@ -361,7 +370,8 @@ pub fn begin(
 {
     let mut walk = fresh_walk(alloc, setting, kept, starts, listed)?;
     for i in 0..starts.len() {
-        let state = start_state(alloc, &starts[i])?;
+        let start = start_state(alloc, &starts[i])?;
+        let state = boxed(alloc, start)?;
         put_pending(&mut walk, state, true)?;
     }
     Ok(walk)

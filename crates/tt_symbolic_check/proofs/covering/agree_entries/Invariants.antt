@@ -4,5 +4,5 @@ use Rattle.tt_symbolic_state.specs.declared.cell.Cell.{Cell}
 use Rattle.tt_symbolic_check.specs.Covering.{Extends, IsEntryOf}
 use Rattle.tt_symbolic_check.proofs.covering.agree_entries.Given as goal
 
-abbrev pub invariant-loop-entry : goal.invariant-loop-entry
-invariant-loop-entry l = Extends l.initial.assigned l.assigned × All (λ (e : ℕ × Cell). IsEntryOf l.assigned l.ranges l.mine e) (take l.entry-index l.theirs)
+abbrev pub invariant-loop-i : goal.invariant-loop-i
+invariant-loop-i l = Extends l.initial.assigned l.assigned × All (λ (e : ℕ × Cell). IsEntryOf l.assigned l.ranges l.mine e) (take l.i l.theirs)

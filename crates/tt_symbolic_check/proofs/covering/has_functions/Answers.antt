@@ -6,8 +6,8 @@ use Rattle.tt_abs.specs.Entries.{listed}
 use Rattle.tt_symbolic_check.proofs.Listings.{functions_within}
 use Rattle.tt_symbolic_check.proofs.covering.has_functions.Goals as goal
 
-pub loop-entry-preserved : goal.loop-entry-preserved
-loop-entry-preserved c = All-more (λ (e : ℕ × ℕ). listed c.args.mine.now e.0 ≡ Some e.1) c.args.theirs.now c.loop-entry.entry-index (0, 0) c.loop-entry-test.true c.loop-entry.invariant (sym c.get.ensures ∙ c.in-Some.is ∙ ap Some c.if-body-entry.false)
+pub loop-i-preserved : goal.loop-i-preserved
+loop-i-preserved c = All-more (λ (e : ℕ × ℕ). listed c.args.mine.now e.0 ≡ Some e.1) c.args.theirs.now c.loop-i.i (0, 0) c.loop-i-test.true c.loop-i.invariant (sym c.listed_near.ensures ∙ c.in-Some.is ∙ ap Some c.if-body-entry.false)
 
 pub returns : goal.returns
-returns c = λ e. functions_within c.args.mine.now c.args.theirs.now (subst (All (λ (e : ℕ × ℕ). listed c.args.mine.now e.0 ≡ Some e.1)) (take_all c.loop-entry.entry-index c.args.theirs.now c.loop-entry-test.false) c.loop-entry.invariant)
+returns c = λ e. functions_within c.args.mine.now c.args.theirs.now (subst (All (λ (e : ℕ × ℕ). listed c.args.mine.now e.0 ≡ Some e.1)) (take_all c.loop-i.i c.args.theirs.now c.loop-i-test.false) c.loop-i.invariant)

@@ -3,5 +3,5 @@ use Rattle.std.specs.List.{All}
 use Rattle.tt_abs.specs.Entries.{listed}
 use Rattle.tt_symbolic_check.proofs.covering.has_functions.Given as goal
 
-abbrev pub invariant-loop-entry : goal.invariant-loop-entry
-invariant-loop-entry l = All (λ (e : ℕ × ℕ). listed l.mine e.0 ≡ Some e.1) (take l.entry-index l.theirs)
+abbrev pub invariant-loop-i : goal.invariant-loop-i
+invariant-loop-i l = All (λ (e : ℕ × ℕ). listed l.mine e.0 ≡ Some e.1) (take l.i l.theirs)

@@ -1,5 +1,15 @@
+use Rattle.std.proofs.Common.{subst, sym, ◌∙◌}
+use Rattle.std.specs.Box.{with_value}
+use Rattle.tt_symbolic_state.specs.declared.state.State.{State}
+use Rattle.tt_symbolic_check.specs.Copying.{IsCopy, IsUpper}
 use Rattle.tt_symbolic_check.proofs.Walkings.{parts_split, split_reaches}
 use Rattle.tt_symbolic_check.proofs.walk.split_up.Goals as goal
 
 pub returns : goal.returns
-returns c = split_reaches c.args.setting.now c.args.kept.now c.args.listed.now c.args.state c.lower.new.state c.raise.new.state c.args.walk.now c.put_pending.new.walk c.put_pending-2.new.walk (parts_split c.args.split c.args.state c.in_ok-low.low c.lower.new.state c.raise.new.state c.in_ok-low.ensures c.lower.ensures c.raise.ensures) c.in_ok-put_pending.ensures c.in_ok-put_pending-2.ensures
+returns c =
+    let copied = subst (λ (y : State). IsCopy y c.in_ok-copy.copy) c.deref.ensures c.in_ok-copy.ensures in
+    let boxed = subst (λ (y : State). IsCopy c.args.state.value y) (sym (c.deref_mut.ensures.value ∙ c.in_ok-low.ensures)) copied in
+    let upper = subst (λ (y : State). IsUpper c.args.split y c.raise.new.state) c.deref_mut-2.ensures.value c.raise.ensures in
+    split_reaches c.args.setting.now c.args.kept.now c.args.listed.now c.args.state.value (with_value c.in_ok-low.low c.lower.new.state) (with_value c.args.state c.raise.new.state) c.args.walk.now c.put_pending.new.walk c.put_pending-2.new.walk
+    (parts_split c.args.split c.args.state.value c.deref_mut.result.now c.lower.new.state c.raise.new.state boxed c.lower.ensures upper)
+    c.in_ok-put_pending.ensures c.in_ok-put_pending-2.ensures
