@@ -13,16 +13,24 @@ use crate::judge::Judge;
 use crate::program::{Search, find_and_check};
 use crate::report::Name;
 use std::alloc::{AllocError, Global};
+use std::mem;
 use tt_abs::{Kind, Refusal, Setting};
 use tt_family::{Budget, Certificate};
 use tt_find::{Finder, Found};
 
 /// Judges a program by its least family, which is found and, where the search asks for that,
 /// checked. Its finder keeps what was found last, and uses its memory again.
-#[derive(Drop)]
 pub(crate) struct Finding {
     search: Search,
     finder: Finder,
+}
+
+// Written out, so that who holds a judge proves in one step that its memory is given back.
+impl Drop for Finding {
+    fn drop(self) {
+        let Finding { search: _, finder } = self;
+        drop(finder);
+    }
 }
 
 /// Whether it is a glyph program without instructions, in which nothing can be refused.
@@ -56,11 +64,11 @@ impl Finding {
         self.finder.certificate()
     }
 
-    /// Returns what was found last.
-    pub(crate) fn into_found(self) -> Option<Found>
-        ensures { result ≡ self.finder.found }
+    /// Takes what was found last.
+    pub(crate) fn take_found(&mut self, alloc: Global) -> Option<Found>
+        ensures { result ≡ self.old.finder.found }
     {
-        self.finder.into_found()
+        mem::replace(&mut self.finder, Finder::new(alloc)).into_found()
     }
 }
 

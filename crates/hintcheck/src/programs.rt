@@ -52,12 +52,23 @@ pub(crate) struct Next<'a> {
 }
 
 /// Which of a font's programs is next, and what those before it leave.
-#[derive(Drop)]
 pub(crate) struct Programs<'a, K: Drop> {
     pub(crate) font: &'a Font<'a>,
     before: Before<'a, K>,
     /// The number of the next glyph, once glyph programs are next.
     glyph: u16,
+}
+
+// Written out, so that who holds programs proves in one step that their memory is given back.
+impl<'a, K: Drop> Drop for Programs<'a, K> {
+    fn drop(self) {
+        let Programs {
+            font: _,
+            before,
+            glyph: _,
+        } = self;
+        drop(before);
+    }
 }
 
 /// The programs of a font, where functions are known at their ends, by ascending number.

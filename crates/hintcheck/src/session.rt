@@ -214,7 +214,7 @@ fn find_from<'a>(
         return Ok(None);
     };
     match outcome.refused {
-        None => Ok(Some((outcome, judge.into_found()))),
+        None => Ok(Some((outcome, judge.take_found(alloc)))),
         Some(_) => Ok(Some((outcome, None))),
     }
 }
@@ -223,12 +223,25 @@ fn find_from<'a>(
 /// program. A session keeps which program is next, what the next ones start with, and a fault; and
 /// of a certificate only its form, how far it was read, the state that was read last, and memory
 /// for the next section. It holds no family between two calls.
-#[derive(Drop)]
 pub struct Session<'a> {
     programs: FontPrograms<'a>,
     decoder: Decoder,
     progress: Option<Progress>,
     fault: Option<SessionFault>,
+}
+
+// Written out, so that who holds a session proves in one step that its memory is given back.
+impl<'a> Drop for Session<'a> {
+    fn drop(self) {
+        let Session {
+            programs,
+            decoder,
+            progress: _,
+            fault: _,
+        } = self;
+        drop(programs);
+        drop(decoder);
+    }
 }
 
 impl<'a> Model for Session<'a> {

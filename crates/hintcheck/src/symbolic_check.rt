@@ -22,7 +22,6 @@ use tt_symbolic_search::{Insight, Question, Search, USUAL_SEARCH};
 
 /// Judges a program by symbolic states, which are found and checked. What was learnt from one program
 /// of a font serves the next ones.
-#[derive(Drop)]
 pub(crate) struct SymbolicCheck {
     search: Search,
     /// How many steps the search may make, for all programs together.
@@ -35,6 +34,23 @@ pub(crate) struct SymbolicCheck {
     may_write_kept: bool,
     /// What is to be explained; nothing where no answer is.
     explained: Option<Asked>,
+}
+
+// Written out, so that who holds a judge proves in one step that its memory is given back.
+impl Drop for SymbolicCheck {
+    fn drop(self) {
+        let SymbolicCheck {
+            search,
+            most_steps: _,
+            ends,
+            starts,
+            may_write_kept: _,
+            explained: _,
+        } = self;
+        drop(search);
+        drop(ends);
+        drop(starts);
+    }
 }
 
 /// Returns how much may be done for the next program, where so many steps may be made for all

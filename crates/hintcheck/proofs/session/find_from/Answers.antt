@@ -30,10 +30,10 @@ returns-in-None-clause-found c =
     let j = c.judge_next.new.judge in
     let certificate = subst (λ (x : Search). IsForCertificate x) (sym (c.judge_next.ensures.keeps ∙ c.new-judge.ensures)) tt in
     let outcome = subst (λ (a : Option Outcome). AnswersFinding d j s a t) c.in-Some.is c.in_ok-outcome.ensures.answer in
-    subst (λ (x : Option Found). IsOutcomeByFinding d s c.in-Some.outcome x t) (sym c.into_found.ensures) (found_outcome d j s t c.in-Some.outcome certificate outcome c.in-None.is)
+    subst (λ (x : Option Found). IsOutcomeByFinding d s c.in-Some.outcome x t) (sym c.take_found.ensures) (found_outcome d j s t c.in-Some.outcome certificate outcome c.in-None.is)
 
-pub returns-in-Some-refused-clause-found : goal.returns-in-Some-refused-clause-found
-returns-in-Some-refused-clause-found c =
+pub returns-clause-found : goal.returns-clause-found
+returns-clause-found c =
     let d = c.args.programs.now.font.now in
     let s = stage_of c.args.programs.now in
     let t = stage_of c.judge_next.new.self in
@@ -53,8 +53,8 @@ returns-in-None-clause-known c =
     subst (λ (f : Bor FontData). KeepsKnown f.now t) (sym c.judge_next.ensures.font)
     (stays_known c.args.programs.now.font.now c.judge_next.new.judge (stage_of c.args.programs.now) t c.in_ok-outcome.field-0 c.in_ok-outcome.ensures.answer c.requires.known)
 
-pub returns-in-Some-refused-clause-known : goal.returns-in-Some-refused-clause-known
-returns-in-Some-refused-clause-known c =
+pub returns-clause-known : goal.returns-clause-known
+returns-clause-known c =
     let t = stage_of c.judge_next.new.self in
     subst (λ (f : Bor FontData). KeepsKnown f.now t) (sym c.judge_next.ensures.font)
     (stays_known c.args.programs.now.font.now c.judge_next.new.judge (stage_of c.args.programs.now) t c.in_ok-outcome.field-0 c.in_ok-outcome.ensures.answer c.requires.known)

@@ -10,7 +10,7 @@ use Rattle.hintcheck.proofs.UpgradeSteps.{begun_on, comes_on, lack_next, none_up
 use Rattle.tt_cert.specs.Readers.{place_after}
 use Rattle.hintcheck.specs.FailedReads.{HasReadOld}
 use Rattle.hintcheck.proofs.UpgradeReads.{lack_after}
-use Rattle.hintcheck.proofs.certificate_upgrade.upgrade_sections.Goals as goal
+use Rattle.hintcheck.proofs.certificate_upgrade.upgrade_each.Goals as goal
 
 pub loop-number-init : goal.loop-number-init
 loop-number-init g c = record {
