@@ -149,21 +149,12 @@ fn found_text(alloc: Global, setting: &Setting<'_>, found: &Found, points: u32) 
     Ok(text)
 }
 
-/// Returns how many points a search knows where it ends.
-fn points_of(alloc: Global, setting: &Setting<'_>) -> Result<u32>
-    requires ascends { Ascends setting.now.start.now }
-    requires fits { FunctionsFit (setting_of setting.now) setting.now.start.now }
-{
-    let explored = explore(alloc, setting)?;
-    Ok(explored.found.certificate.points())
-}
-
 /// Returns how large the least family is, and which of its states are listed.
 fn find_text(alloc: Global, setting: &Setting<'_>) -> Result<String>
     requires ascends { Ascends setting.now.start.now }
     requires fits { FunctionsFit (setting_of setting.now) setting.now.start.now }
 {
-    let points = points_of(alloc, setting)?;
+    let points = explore(alloc, setting)?.found.certificate.points();
     match find(alloc, setting) {
         Ok(found) => found_text(alloc, setting, &found, points),
         Err(refusal) => Ok(refusal_text(alloc, &refusal)?),

@@ -123,28 +123,16 @@ fn push_cells(stack: &mut Vec<Cell>, word: &str) -> Result<()> {
     Ok(())
 }
 
-/// Adds the last cell of a stack, where its word isn't empty.
-fn push_last(stack: &mut Vec<Cell>, word: &str) -> Result<()> {
-    if word.is_empty() {
-        return Ok(());
-    }
-    push_cells(stack, word)
-}
-
-/// Adds the words of a text.
-fn push_words<'a>(words: &mut VecDeque<&'a str>, text: &'a str) -> Result<()> {
-    for word in text.split_whitespace() {
-        words.push_back(word)?;
-    }
-    Ok(())
-}
-
 impl<'a> Words<'a> {
     /// Returns the words of two texts, one after the other.
     pub fn of(alloc: Global, first: &'a str, second: &'a str) -> Result<Words<'a>> {
         let mut words = VecDeque::new(alloc);
-        push_words(&mut words, first)?;
-        push_words(&mut words, second)?;
+        for word in first.split_whitespace() {
+            words.push_back(word)?;
+        }
+        for word in second.split_whitespace() {
+            words.push_back(word)?;
+        }
         Ok(Words { words })
     }
 
@@ -233,26 +221,22 @@ impl<'a> Words<'a> {
         }
     }
 
-    /// Takes the cells up to the end of a stack, of which this is the next word, and adds them.
-    fn push_stack(&mut self, stack: &mut Vec<Cell>, first: &str) -> Result<()> {
-        let mut word = first;
+    /// Takes a stack, the bottom first: `[1 2 ?]`; in `[7*40]` a cell is repeated.
+    pub fn stack(&mut self, alloc: Global) -> Result<Vec<Cell>> {
+        let mut stack = Vec::new(alloc);
+        let Some(mut word) = self.next()?.strip_prefix('[') else {
+            return Err(anyhow!("a stack is missing"));
+        };
         for _ in 0..MOST_TIMES {
             if let Some(last) = word.strip_suffix(']') {
-                return push_last(stack, last);
+                if !last.is_empty() {
+                    push_cells(&mut stack, last)?;
+                }
+                return Ok(stack);
             }
-            push_cells(stack, word)?;
+            push_cells(&mut stack, word)?;
             word = self.next()?;
         }
         Err(anyhow!("a stack without an end"))
-    }
-
-    /// Takes a stack, the bottom first: `[1 2 ?]`; in `[7*40]` a cell is repeated.
-    pub fn stack(&mut self, alloc: Global) -> Result<Vec<Cell>> {
-        let Some(first) = self.next()?.strip_prefix('[') else {
-            return Err(anyhow!("a stack is missing"));
-        };
-        let mut stack = Vec::new(alloc);
-        self.push_stack(&mut stack, first)?;
-        Ok(stack)
     }
 }
