@@ -25,6 +25,18 @@ pub struct Context<'a> {
     pub beginning: &'a str,
 }
 
+/// Takes the limits of a `maxp` table that words give, and those of the small fonts for the others.
+fn limits_given(words: &mut Words<'_>) -> Result<Limits> {
+    Ok(Limits {
+        storage: words.number("storage", LIMITS.storage)?,
+        functions: words.number("functions", LIMITS.functions)?,
+        stack: words.number("stack", LIMITS.stack)?,
+        program_size: words.number("size", LIMITS.program_size)?,
+        zones: words.number("zones", LIMITS.zones)?,
+        twilight: words.number("twilight", LIMITS.twilight)?,
+    })
+}
+
 impl<'a> Context<'a> {
     /// Returns the context at the head of a file.
     pub fn new(rt: &'a HostRuntime, file: &'a str) -> Context<'a> {
@@ -50,14 +62,7 @@ impl<'a> Context<'a> {
 
     /// Takes the limits that words give, and those of the small fonts for the others.
     fn set_limits(&mut self, words: &mut Words<'a>) -> Result<()> {
-        self.limits = Limits {
-            storage: words.number("storage", LIMITS.storage)?,
-            functions: words.number("functions", LIMITS.functions)?,
-            stack: words.number("stack", LIMITS.stack)?,
-            program_size: words.number("size", LIMITS.program_size)?,
-            zones: words.number("zones", LIMITS.zones)?,
-            twilight: words.number("twilight", LIMITS.twilight)?,
-        };
+        self.limits = limits_given(words)?;
         self.cvt = words.number("cvt", 10)?;
         self.points = words.number("points", 4)?;
         self.contours = words.number("contours", 1)?;
@@ -66,21 +71,17 @@ impl<'a> Context<'a> {
 
     /// Takes a line that changes the context; whether it is one.
     pub fn set_up(&mut self, words: &mut Words<'a>) -> Result<bool> {
-        match words.first() {
-            Some("limits") => {
-                words.next()?;
-                self.set_limits(words)?;
-            }
-            Some("units") => {
-                words.next()?;
-                self.units.clear();
-            }
-            Some("unit") => {
-                words.next()?;
+        let Some(kind @ ("limits" | "units" | "unit")) = words.first() else {
+            return make_file(self, words);
+        };
+        words.next()?;
+        match kind {
+            "limits" => self.set_limits(words)?,
+            "units" => self.units.clear(),
+            _ => {
                 let unit = pieces_of(self, words)?;
                 self.units.push(unit).map_err(AllocError::from)?;
             }
-            _ => return make_file(self, words),
         }
         Ok(true)
     }

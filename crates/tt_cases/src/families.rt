@@ -1,6 +1,6 @@
 //! Cases of families: their check, and the search for the least one.
 
-ghost use Rattle.std.specs.Prelude.{◌≡◌, []};
+ghost use Rattle.std.specs.Prelude.{◌≡◌, [], IfOk};
 ghost use Rattle.tt_abs.specs.Entries.{Ascends};
 ghost use Rattle.tt_abs.specs.Settings.{setting_of};
 ghost use Rattle.tt_abs.specs.StateFlow.{FunctionsFit};
@@ -8,11 +8,11 @@ ghost use Rattle.tt_abs.specs.States.{state_order};
 
 use crate::context::Context;
 use crate::places::{calls_of, frame_text, refusal_text};
-use crate::programs::cut;
+use crate::programs::{Programs, bytes_given, cut_all};
 use crate::states::change_all;
 use crate::words::{Words, body_of, number_of, pair_of};
 use anyhow::{Context as _, Result, bail, ensure};
-use std::alloc::Global;
+use std::alloc::{AllocError, Global};
 use tt_abs::{Kind, Refusal, Setting, State};
 use tt_code::Frame;
 use tt_family::{Builder, Certificate, ContextFault, check, check_full};
@@ -53,9 +53,35 @@ fn join_each(builder: &mut Builder, first: u32, last: u32, offset: u32, state: &
     true
 }
 
+/// Returns the state that begins with these functions, with the changes that the next words say.
+fn state_from(alloc: Global, words: &mut Words<'_>, start: &[(u16, u32)]) -> Result<State>
+    requires { Ascends start.now }
+    ensures { IfOk result (λ state. state_order.InRange state) }
+{
+    let mut state = State::start(alloc, start)?;
+    change_all(&mut state, words, alloc)?;
+    Ok(state)
+}
+
 /// Joins the next state, which begins with these functions, at its point, `1:3`; or in each of the
-/// contexts of `1-9:3`.
+/// contexts of `1-9:3`. Whether it can be joined.
 fn put_state(
+    alloc: Global,
+    builder: &mut Builder,
+    words: &mut Words<'_>,
+    start: &[(u16, u32)],
+) -> Result<bool>
+    requires { Ascends start.now }
+{
+    let (contexts, offset) = pair_of(words.next()?, ':')?;
+    let (first, last) = contexts.split_once('-').unwrap_or((contexts, contexts));
+    let (first, last, offset) = (number_of(first)?, number_of(last)?, number_of(offset)?);
+    let state = state_from(alloc, words, start)?;
+    Ok(join_each(builder, first, last, offset, &state))
+}
+
+/// Adds what the words say to a family: its contexts, each after `call`, and its states.
+fn add_all(
     alloc: Global,
     builder: &mut Builder,
     words: &mut Words<'_>,
@@ -63,33 +89,26 @@ fn put_state(
 ) -> Result<()>
     requires { Ascends start.now }
 {
-    let (contexts, offset) = pair_of(words.next()?, ':')?;
-    let (first, last) = contexts.split_once('-').unwrap_or((contexts, contexts));
-    let (first, last, offset) = (number_of(first)?, number_of(last)?, number_of(offset)?);
-    let mut state = State::start(alloc, start)?;
-    change_all(&mut state, words, alloc)?;
-    let is_joined = join_each(builder, first, last, offset, &state);
-    ensure!(is_joined, "a state that can't be joined");
+    for _ in 0..MOST {
+        if words.take_word("call") {
+            let are_added = add_contexts(builder, words.next()?)?;
+            ensure!(are_added, "too many contexts");
+        } else if words.is_empty() {
+            break;
+        } else {
+            let is_joined = put_state(alloc, builder, words, start)?;
+            ensure!(is_joined, "a state that can't be joined");
+        }
+    }
     Ok(())
 }
 
-/// Returns the family that the words say: its contexts, each after `call`, and its states.
+/// Returns the family that the words say.
 fn family_of(alloc: Global, words: &mut Words<'_>, start: &[(u16, u32)]) -> Result<Certificate>
     requires { Ascends start.now }
 {
     let mut builder = Builder::new(alloc);
-    for _ in 0..MOST {
-        if words.take_word("call") {
-            ensure!(
-                add_contexts(&mut builder, words.next()?)?,
-                "too many contexts"
-            );
-        } else if words.is_empty() {
-            break;
-        } else {
-            put_state(alloc, &mut builder, words, start)?;
-        }
-    }
+    add_all(alloc, &mut builder, words, start)?;
     builder.finish().ok().context("no memory for the family")
 }
 
@@ -108,9 +127,9 @@ fn show_points(text: &mut String, family: &Certificate) -> Result<()> {
 }
 
 /// Returns what a check tells.
-fn check_text(alloc: Global, told: Result<(), Refusal>) -> Result<String> {
+fn check_text(alloc: Global, told: Result<(), Refusal>) -> Result<String, AllocError> {
     match told {
-        Ok(()) => Ok(String::from_str(alloc, "good")?),
+        Ok(()) => String::from_str(alloc, "good"),
         Err(refusal) => refusal_text(alloc, &refusal),
     }
 }
@@ -138,7 +157,7 @@ fn find_text(alloc: Global, setting: &Setting<'_>) -> Result<String>
     let points = explore(alloc, setting)?.found.certificate.points();
     match find(alloc, setting) {
         Ok(found) => found_text(alloc, setting, &found, points),
-        Err(refusal) => refusal_text(alloc, &refusal),
+        Err(refusal) => Ok(refusal_text(alloc, &refusal)?),
     }
 }
 
@@ -161,6 +180,22 @@ fn explore_text(alloc: Global, setting: &Setting<'_>) -> Result<String>
     explored_text(alloc, &explored)
 }
 
+/// Checks a family, all states of which are listed where the check is to be `full`.
+fn told_of_check(
+    alloc: Global,
+    setting: &Setting<'_>,
+    family: &Certificate,
+    kind: &str,
+) -> Result<(), Refusal>
+    requires { Ascends setting.now.start.now }
+{
+    if kind == "full" {
+        check_full(alloc, setting, family)
+    } else {
+        check(alloc, setting, family)
+    }
+}
+
 /// Returns what is told of a program in a setting.
 fn told(alloc: Global, setting: &Setting<'_>, words: &mut Words<'_>, kind: &str) -> Result<String>
     requires ascends { Ascends setting.now.start.now }
@@ -169,13 +204,9 @@ fn told(alloc: Global, setting: &Setting<'_>, words: &mut Words<'_>, kind: &str)
     match kind {
         "find" => find_text(alloc, setting),
         "explore" => explore_text(alloc, setting),
-        "full" => {
-            let family = family_of(alloc, words, setting.start)?;
-            check_text(alloc, check_full(alloc, setting, &family))
-        }
         _ => {
             let family = family_of(alloc, words, setting.start)?;
-            check_text(alloc, check(alloc, setting, &family))
+            Ok(check_text(alloc, told_of_check(alloc, setting, &family, kind))?)
         }
     }
 }
@@ -204,6 +235,31 @@ fn told_from(
     }
 }
 
+/// Returns what is told of the program of this kind.
+fn told_of_programs(
+    context: &Context<'_>,
+    programs: &Programs<'_>,
+    program: Kind,
+    words: &mut Words<'_>,
+    kind: &str,
+) -> Result<String> {
+    let main = match program {
+        Kind::Font => &programs.font,
+        Kind::Cvt => &programs.prep,
+        Kind::Glyph { .. } => &programs.glyph,
+    };
+    let setting = Setting {
+        limits: context.limits,
+        cvt: u32::from(context.cvt),
+        kind: program,
+        main,
+        font: &programs.font,
+        prep: &programs.prep,
+        start: &[],
+    };
+    told_from(context.rt.alloc(), &setting, words, kind)
+}
+
 /// `full PROGRAMS FAMILY` and `sparse PROGRAMS FAMILY`: what the check of a family tells, and that
 /// of one which may leave states out. `find PROGRAMS`: how many contexts and points the least family
 /// has, how many updates made it, and which states are listed; or why there is none. `explore
@@ -211,33 +267,15 @@ fn told_from(
 /// programs `f=`, `p=` and `g=` the last one that is given is looked at; it starts with function 0
 /// where `start=` gives its body.
 pub(crate) fn told_of(context: &Context<'_>, kind: &str, words: &mut Words<'_>) -> Result<String> {
-    let alloc = context.rt.alloc();
     let program = match (words.has("g"), words.has("p")) {
         (true, _) => context.glyph(),
         (false, true) => Kind::Cvt,
         (false, false) => Kind::Font,
     };
-    let font = words.bytes(alloc, "f")?;
-    let prep = words.bytes(alloc, "p")?;
-    let glyph = words.bytes(alloc, "g")?;
-    let main = match program {
-        Kind::Font => &font,
-        Kind::Cvt => &prep,
-        Kind::Glyph { .. } => &glyph,
-    };
-    let main = cut(alloc, main)?;
-    let font = cut(alloc, &font)?;
-    let prep = cut(alloc, &prep)?;
-    let setting = Setting {
-        limits: context.limits,
-        cvt: u32::from(context.cvt),
-        kind: program,
-        main: &main,
-        font: &font,
-        prep: &prep,
-        start: &[],
-    };
-    told_from(alloc, &setting, words, kind)
+    let alloc = context.rt.alloc();
+    let bytes = bytes_given(alloc, words)?;
+    let programs = cut_all(alloc, &bytes.font, &bytes.prep, &bytes.glyph)?;
+    told_of_programs(context, &programs, program, words, kind)
 }
 
 /// Adds the calls that are open in a context of a family, the outermost first.

@@ -5,7 +5,7 @@ use crate::words::{Words, bytes_of, number_of, pair_of};
 use anyhow::{Result, anyhow, ensure};
 use std::alloc::{AllocError, Global};
 use std::fs;
-use tt_test_fixtures::fonts::{Glyphs, MADE, file_of, square};
+use tt_test_fixtures::fonts::{Glyphs, MADE, NoFile, file_of, square};
 
 /// Returns a `maxp` table with the context's limits, for this many glyphs.
 pub fn maxp(context: &Context<'_>, glyphs: u16) -> Result<Vec<u8>, AllocError> {
@@ -47,19 +47,30 @@ fn glyph_of(alloc: Global, word: &str) -> Result<Vec<u8>> {
     }
 }
 
+/// Adds a glyph this many times.
+fn push_glyph(glyphs: &mut Glyphs, glyph: &[u8], times: u16) -> Result<(), NoFile> {
+    for _ in 0..times {
+        glyphs.push(glyph)?;
+    }
+    Ok(())
+}
+
+/// Adds the glyphs that the words tell, all of them as often as `times=` says.
+fn push_glyphs(alloc: Global, glyphs: &mut Glyphs, words: &mut Words<'_>) -> Result<()> {
+    let times = words.number("times", 1)?;
+    for word in words.rest(alloc)? {
+        push_glyph(glyphs, &glyph_of(alloc, word)?, times)?;
+    }
+    Ok(())
+}
+
 /// Returns the font file that words tell: `f=` its font program, `p=` its CVT program, then its
 /// glyphs, all of them as often as `times=` says.
 pub fn font_of(context: &Context<'_>, words: &mut Words<'_>) -> Result<Vec<u8>> {
     let alloc = context.rt.alloc();
     let (fpgm, prep) = (words.bytes(alloc, "f")?, words.bytes(alloc, "p")?);
-    let times: u16 = words.number("times", 1)?;
     let mut glyphs = Glyphs::new(alloc)?;
-    for word in words.rest(alloc)? {
-        let glyph = glyph_of(alloc, word)?;
-        for _ in 0..times {
-            glyphs.push(&glyph)?;
-        }
-    }
+    push_glyphs(alloc, &mut glyphs, words)?;
     let maxp = maxp(context, glyphs.count())?;
     Ok(glyphs.font_within(alloc, &maxp, &fpgm, &prep)?)
 }
@@ -94,6 +105,11 @@ pub(crate) fn file_of_tables(context: &Context<'_>, words: &mut Words<'_>) -> Re
 /// Returns what a file holds.
 pub fn held(context: &Context<'_>, name: &str) -> Result<Vec<u8>> {
     Ok(fs::read(context.rt, name)?)
+}
+
+/// Takes the name of a file, and returns what that holds.
+pub fn next_held(context: &Context<'_>, words: &mut Words<'_>) -> Result<Vec<u8>> {
+    held(context, words.next()?)
 }
 
 /// Returns the bytes of a piece: digits, or `@NAME`, or `@NAME:FROM:TO` of another file.
@@ -162,13 +178,13 @@ pub fn likeness(bytes: &[u8], want: &[u8]) -> &'static str {
 
 /// `compare NAME WANT`: how what one file holds compares with what another one does.
 pub(crate) fn compare(context: &Context<'_>, words: &mut Words<'_>) -> Result<String> {
-    let bytes = held(context, words.next()?)?;
-    let want = held(context, words.next()?)?;
+    let bytes = next_held(context, words)?;
+    let want = next_held(context, words)?;
     Ok(String::from_str(context.rt.alloc(), likeness(&bytes, &want))?)
 }
 
 /// `size NAME`: how many bytes a file has.
 pub(crate) fn size(context: &Context<'_>, words: &mut Words<'_>) -> Result<String> {
-    let bytes = held(context, words.next()?)?;
+    let bytes = next_held(context, words)?;
     Ok(format!(in context.rt.alloc(); "{} bytes", bytes.len())?)
 }

@@ -3,27 +3,27 @@
 
 use crate::words::{body_of, number_of, pair_of};
 use anyhow::Result;
-use std::alloc::Global;
+use std::alloc::{AllocError, Global};
 use tt_abs::setting::body_offset;
 use tt_abs::{Refusal, Spot};
 use tt_code::Frame;
 
 /// Returns a body's text.
-pub(crate) fn body_text(alloc: Global, body: u32) -> Result<String> {
+pub(crate) fn body_text(alloc: Global, body: u32) -> Result<String, AllocError> {
     let offset = body_offset(body);
     if offset == body {
-        return Ok(format!(in alloc; "{offset}")?);
+        return format!(in alloc; "{offset}");
     }
-    Ok(format!(in alloc; "p:{offset}")?)
+    format!(in alloc; "p:{offset}")
 }
 
 /// Returns a call's text.
-pub(crate) fn frame_text(alloc: Global, frame: &Frame) -> Result<String> {
+pub(crate) fn frame_text(alloc: Global, frame: &Frame) -> Result<String, AllocError> {
     let body = body_text(alloc, frame.body)?;
     if frame.turn == 1 && frame.count == 1 {
-        return Ok(format!(in alloc; "{}>{body}", frame.call)?);
+        return format!(in alloc; "{}>{body}", frame.call);
     }
-    Ok(format!(in alloc; "{}>{body}*{}/{}", frame.call, frame.turn, frame.count)?)
+    format!(in alloc; "{}>{body}*{}/{}", frame.call, frame.turn, frame.count)
 }
 
 /// Returns the call that a text says, and the last of its turns that are meant: the same one, or
@@ -49,19 +49,19 @@ pub(crate) fn frame_of(text: &str) -> Result<Frame> {
 }
 
 /// Returns a refusal's text, as `26 at f:3`.
-pub(crate) fn refusal_text(alloc: Global, refusal: &Refusal) -> Result<String> {
+pub(crate) fn refusal_text(alloc: Global, refusal: &Refusal) -> Result<String, AllocError> {
     let (spot, offset, reason) = match refusal {
         Refusal::Refused {
             spot,
             offset,
             reason,
         } => (*spot, *offset, *reason),
-        Refusal::OutOfMemory(_) => return Ok(String::from_str(alloc, "9")?),
+        Refusal::OutOfMemory(_) => return String::from_str(alloc, "9"),
     };
     let program = match spot {
         Spot::Main => "",
         Spot::Font => "f:",
         Spot::Prep => "p:",
     };
-    Ok(format!(in alloc; "{} at {program}{offset}", reason.number())?)
+    format!(in alloc; "{} at {program}{offset}", reason.number())
 }

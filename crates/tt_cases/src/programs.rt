@@ -1,7 +1,7 @@
 //! Cases of programs: whether their bytes can be cut, and what starts at an offset.
 
 use crate::context::Context;
-use crate::words::{Words, bytes_of, number_of};
+use crate::words::Words;
 use anyhow::{Result, ensure};
 use std::alloc::Global;
 use tt_code::{Body, CodeFault, Program};
@@ -15,18 +15,62 @@ pub(crate) fn cut(alloc: Global, bytes: &[u8]) -> Result<Program<'_>> {
     Ok(Program::cut(alloc, bytes)?)
 }
 
+/// The bytes of a font program, of a CVT program and of a glyph program.
+#[derive(Drop)]
+pub(crate) struct Bytes {
+    pub(crate) font: Vec<u8>,
+    pub(crate) prep: Vec<u8>,
+    pub(crate) glyph: Vec<u8>,
+}
+
+/// Takes the bytes that the words give after `f=`, `p=` and `g=`.
+pub(crate) fn bytes_given(alloc: Global, words: &mut Words<'_>) -> Result<Bytes> {
+    Ok(Bytes {
+        font: words.bytes(alloc, "f")?,
+        prep: words.bytes(alloc, "p")?,
+        glyph: words.bytes(alloc, "g")?,
+    })
+}
+
+/// A font program, a CVT program and a glyph program.
+#[derive(Drop)]
+pub(crate) struct Programs<'a> {
+    pub(crate) font: Program<'a>,
+    pub(crate) prep: Program<'a>,
+    pub(crate) glyph: Program<'a>,
+}
+
+/// Cuts a font program, a CVT program and a glyph program.
+pub(crate) fn cut_all<'a>(
+    alloc: Global,
+    font: &'a [u8],
+    prep: &'a [u8],
+    glyph: &'a [u8],
+) -> Result<Programs<'a>> {
+    Ok(Programs {
+        font: cut(alloc, font)?,
+        prep: cut(alloc, prep)?,
+        glyph: cut(alloc, glyph)?,
+    })
+}
+
+/// Returns why bytes can't be cut, if they can't.
+fn fault_of(alloc: Global, bytes: &[u8]) -> Result<Option<CodeFault>> {
+    ensure!(bytes.len() <= MOST_BYTES, "a program that is too long");
+    Ok(Program::cut(alloc, bytes).err())
+}
+
 /// `cut PROGRAM`: whether it can be cut.
 pub(crate) fn cut_text(context: &Context<'_>, words: &mut Words<'_>) -> Result<String> {
     let alloc = context.rt.alloc();
-    let bytes = bytes_of(alloc, words.next()?)?;
-    ensure!(bytes.len() <= MOST_BYTES, "a program that is too long");
-    let text = match Program::cut(alloc, &bytes) {
-        Ok(_) => String::from_str(alloc, "good")?,
-        Err(CodeFault::CannotCut(offset)) => format!(in alloc; "20 at {offset}")?,
-        Err(CodeFault::Structure(offset)) => format!(in alloc; "21 at {offset}")?,
-        Err(CodeFault::OutOfMemory(_)) => String::from_str(alloc, "9")?,
+    let bytes = words.next_bytes(alloc)?;
+    let text = match fault_of(alloc, &bytes)? {
+        None => String::from_str(alloc, "good"),
+        Some(CodeFault::CannotCut(offset)) => format!(in alloc; "20 at {offset}"),
+        Some(CodeFault::Structure(offset)) => format!(in alloc; "21 at {offset}"),
+        Some(CodeFault::OutOfMemory(_)) => String::from_str(alloc, "9"),
     };
-    Ok(text)
+    Ok(text?)
 }
 
 /// Adds a target and its name, if there is one.
@@ -39,34 +83,22 @@ fn show_target(text: &mut String, name: &str, target: Option<u32>) -> Result<()>
 
 /// Adds the body that an instruction belongs to.
 fn show_body(text: &mut String, body: Option<Body>) -> Result<()> {
-    match body {
-        Some(Body::Main) => text.push_str(", main")?,
-        Some(Body::Function(start)) => write!(text, ", function {start}")?,
-        Some(Body::Instruction(start)) => write!(text, ", instruction {start}")?,
-        None => text.push_str(", no body")?,
-    }
-    Ok(())
+    let shown = match body {
+        Some(Body::Main) => write!(text, ", main"),
+        Some(Body::Function(start)) => write!(text, ", function {start}"),
+        Some(Body::Instruction(start)) => write!(text, ", instruction {start}"),
+        None => write!(text, ", no body"),
+    };
+    Ok(shown?)
 }
 
-/// `at OFFSET PROGRAM`: how long the instruction there is, where control goes from it, and to which
-/// body it belongs.
-pub(crate) fn at(context: &Context<'_>, words: &mut Words<'_>) -> Result<String> {
-    let alloc = context.rt.alloc();
-    let offset = number_of(words.next()?)?;
-    let bytes = bytes_of(alloc, words.next()?)?;
-    let program = cut(alloc, &bytes)?;
+/// Ensures that the instruction and the body found together at an offset are those found there one
+/// by one.
+fn ensure_found(program: &Program<'_>, offset: u32) -> Result<()> {
     let (found, body) = match program.found_at(offset) {
         Some((instruction, body)) => (Some(instruction.len()), Some(body)),
         None => (None, None),
     };
-    let mut text = match program.at(offset) {
-        Some(instruction) => format!(in alloc; "{} of {}", instruction.len(), program.len())?,
-        None => format!(in alloc; "none of {}", program.len())?,
-    };
-    show_target(&mut text, "if", program.after_if(offset))?;
-    show_target(&mut text, "else", program.after_else(offset))?;
-    show_target(&mut text, "fdef", program.after_fdef(offset))?;
-    show_body(&mut text, program.body_at(offset))?;
     ensure!(
         found == program.at(offset).map(|i| i.len()),
         "found_at tells another length"
@@ -75,5 +107,31 @@ pub(crate) fn at(context: &Context<'_>, words: &mut Words<'_>) -> Result<String>
         body == program.body_at(offset),
         "found_at tells another body"
     );
+    Ok(())
+}
+
+/// Adds what a program has at an offset.
+fn show_at(text: &mut String, program: &Program<'_>, offset: u32) -> Result<()> {
+    let shown = match program.at(offset) {
+        Some(instruction) => write!(text, "{} of {}", instruction.len(), program.len()),
+        None => write!(text, "none of {}", program.len()),
+    };
+    shown?;
+    show_target(text, "if", program.after_if(offset))?;
+    show_target(text, "else", program.after_else(offset))?;
+    show_target(text, "fdef", program.after_fdef(offset))?;
+    show_body(text, program.body_at(offset))?;
+    ensure_found(program, offset)
+}
+
+/// `at OFFSET PROGRAM`: how long the instruction there is, where control goes from it, and to which
+/// body it belongs.
+pub(crate) fn at(context: &Context<'_>, words: &mut Words<'_>) -> Result<String> {
+    let alloc = context.rt.alloc();
+    let offset = words.next_number()?;
+    let bytes = words.next_bytes(alloc)?;
+    let program = cut(alloc, &bytes)?;
+    let mut text = String::new(alloc);
+    show_at(&mut text, &program, offset)?;
     Ok(text)
 }

@@ -7,8 +7,9 @@ use crate::places::frame_text;
 use crate::states::plain_text;
 use crate::words::{Words, number_of};
 use anyhow::{Context as _, Result, anyhow, bail, ensure};
-use std::alloc::Global;
+use std::alloc::{AllocError, Global};
 use tt_cert::Form;
+use tt_family::Certificate;
 use tt_test_fixtures::section_calls::{
     Section, Told, decoded, encoded, read_ahead, told_of_end, told_of_file_by, told_of_header,
     written_header,
@@ -29,40 +30,55 @@ enum Reading {
 }
 
 /// Returns the text of what is told, where places are counted from a start.
-fn told_text(alloc: Global, told: &Told, start: u64) -> Result<String> {
-    let text = match told {
-        Told::Section { after, left: 0 } => format!(in alloc;
-            "ends at {}",
-            after.wrapping_sub(start)
-        )?,
-        Told::Section { after, left } => {
-            format!(in alloc; "ends at {}, {left} left", after.wrapping_sub(start))?
+fn told_text(alloc: Global, told: &Told, start: u64) -> Result<String, AllocError> {
+    match told {
+        Told::Section { after, left: 0 } => {
+            format!(in alloc; "ends at {}", after.wrapping_sub(start))
         }
-        Told::Header(form, sections) => format!(in alloc; "form {form}, {sections} sections")?,
-        Told::Done => String::from_str(alloc, "end")?,
-        Told::Form(place) => format!(in alloc; "43 at {}", place.wrapping_sub(start))?,
-        Told::Read => String::from_str(alloc, "44")?,
-        Told::Write => String::from_str(alloc, "45")?,
-        Told::OutOfMemory => String::from_str(alloc, "9")?,
-    };
-    Ok(text)
+        Told::Section { after, left } => {
+            format!(in alloc; "ends at {}, {left} left", after.wrapping_sub(start))
+        }
+        Told::Header(form, sections) => format!(in alloc; "form {form}, {sections} sections"),
+        Told::Done => String::from_str(alloc, "end"),
+        Told::Form(place) => format!(in alloc; "43 at {}", place.wrapping_sub(start)),
+        Told::Read => String::from_str(alloc, "44"),
+        Told::Write => String::from_str(alloc, "45"),
+        Told::OutOfMemory => String::from_str(alloc, "9"),
+    }
+}
+
+/// Returns what reading a section tells.
+fn told_of_section(alloc: Global, steps: Steps<'_>, start: u64, form: Form) -> Told {
+    let (_, told) = decoded(alloc, steps, start, form);
+    told
 }
 
 /// Returns what reading tells, of a section from a place on.
-fn told_by(alloc: Global, reading: Reading, steps: Steps<'_>, start: u64) -> Result<String> {
-    match reading {
-        Reading::Section(form) => told_text(alloc, &decoded(alloc, steps, start, form).1, start),
-        Reading::File => told_text(alloc, &told_of_file_by(alloc, steps), 0),
-        Reading::Header => told_text(alloc, &told_of_header(steps), 0),
-        Reading::End(place) => told_text(alloc, &told_of_end(steps, place), 0),
-    }
+fn told_by(
+    alloc: Global,
+    reading: Reading,
+    steps: Steps<'_>,
+    start: u64,
+) -> Result<String, AllocError> {
+    let (told, start) = match reading {
+        Reading::Section(form) => (told_of_section(alloc, steps, start, form), start),
+        Reading::File => (told_of_file_by(alloc, steps), 0),
+        Reading::Header => (told_of_header(steps), 0),
+        Reading::End(place) => (told_of_end(steps, place), 0),
+    };
+    told_text(alloc, &told, start)
 }
 
 /// How many bytes a call gives, and where a section begins.
 const WAYS: [(usize, u64); 6] = [(1000, 0), (1000, 1000), (1, 0), (2, 7), (3, 0), (5, 0)];
 
 /// Returns what reading a section ahead tells: the same however many bytes a call gives.
-fn told_ahead(alloc: Global, form: Form, bytes: &[u8], steps: &[usize]) -> Result<String> {
+fn told_ahead(
+    alloc: Global,
+    form: Form,
+    bytes: &[u8],
+    steps: &[usize],
+) -> Result<String, AllocError> {
     let mut told = String::new(alloc);
     for &step in steps {
         let steps = Steps {
@@ -72,7 +88,7 @@ fn told_ahead(alloc: Global, form: Form, bytes: &[u8], steps: &[usize]) -> Resul
         };
         let next = told_text(alloc, &read_ahead(alloc, steps, form), 0)?;
         if !told.is_empty() && told.as_str() != next.as_str() {
-            return Ok(format!(in alloc; "{told}, but {next} by {step}")?);
+            return format!(in alloc; "{told}, but {next} by {step}");
         }
         told = next;
     }
@@ -81,12 +97,17 @@ fn told_ahead(alloc: Global, form: Form, bytes: &[u8], steps: &[usize]) -> Resul
 
 /// Returns what reading bytes tells: the same however many a call gives, and wherever a section
 /// begins.
-fn told_in_steps(alloc: Global, reading: Reading, bytes: &[u8], calls: usize) -> Result<String> {
+fn told_in_steps(
+    alloc: Global,
+    reading: Reading,
+    bytes: &[u8],
+    calls: usize,
+) -> Result<String, AllocError> {
     let mut told = String::new(alloc);
     for (step, start) in WAYS {
         let next = told_by(alloc, reading, Steps { bytes, step, calls }, start)?;
         if !told.is_empty() && told.as_str() != next.as_str() {
-            return Ok(format!(in alloc; "{told}, but {next} by {step} from {start}")?);
+            return format!(in alloc; "{told}, but {next} by {step} from {start}");
         }
         told = next;
     }
@@ -94,7 +115,12 @@ fn told_in_steps(alloc: Global, reading: Reading, bytes: &[u8], calls: usize) ->
 }
 
 /// Returns what reading bytes tells: where no call fails, a section tells the same ahead.
-fn told_alike(alloc: Global, reading: Reading, bytes: &[u8], calls: usize) -> Result<String> {
+fn told_alike(
+    alloc: Global,
+    reading: Reading,
+    bytes: &[u8],
+    calls: usize,
+) -> Result<String, AllocError> {
     let told = told_in_steps(alloc, reading, bytes, calls)?;
     let Reading::Section(form) = reading else {
         return Ok(told);
@@ -106,7 +132,7 @@ fn told_alike(alloc: Global, reading: Reading, bytes: &[u8], calls: usize) -> Re
     if told.as_str() == ahead.as_str() {
         return Ok(told);
     }
-    Ok(format!(in alloc; "{told}, but ahead {ahead}")?)
+    format!(in alloc; "{told}, but ahead {ahead}")
 }
 
 /// Returns the form that the words give, if they do.
@@ -131,28 +157,61 @@ fn readings_of(kind: &str, words: &mut Words<'_>) -> Result<[Reading; 2]> {
         },
         "whole" => Ok([Reading::File; 2]),
         "header" => Ok([Reading::Header; 2]),
-        "end" => Ok([Reading::End(number_of(words.next()?)?); 2]),
+        "end" => Ok([Reading::End(words.next_number()?); 2]),
         _ => bail!("nothing that is read is called {kind}"),
     }
+}
+
+/// Takes the number of a unit and the `=` after it.
+fn changed_unit(context: &Context<'_>, words: &mut Words<'_>) -> Result<usize> {
+    let number = words.next_number()?;
+    ensure!(words.take_word("="), "= is missing");
+    ensure!(number < context.units.len(), "no such unit");
+    Ok(number)
+}
+
+/// Adds the bytes of all units, of which the one with this number is another one.
+fn push_units(
+    bytes: &mut Vec<u8>,
+    units: &[Vec<u8>],
+    changed: usize,
+    other: &[u8],
+) -> Result<(), AllocError> {
+    for (number, unit) in units.iter().enumerate() {
+        bytes.extend_from_slice(if number == changed { other } else { unit })?;
+    }
+    Ok(())
 }
 
 /// Takes the bytes that the words say: all units, those with one changed, `unit 3 = 0002`, or the
 /// words' own.
 fn bytes_said(context: &Context<'_>, words: &mut Words<'_>) -> Result<Vec<u8>> {
-    let mut changed = usize::MAX;
-    if words.take_word("unit") {
-        changed = number_of(words.next()?)?;
-        ensure!(words.take_word("="), "= is missing");
-        ensure!(changed < context.units.len(), "no such unit");
-    } else if !words.take_word("units") {
+    let changed = if words.take_word("unit") {
+        changed_unit(context, words)?
+    } else if words.take_word("units") {
+        usize::MAX
+    } else {
         return pieces_of(context, words);
-    }
+    };
     let other = pieces_of(context, words)?;
     let mut bytes = Vec::new(context.rt.alloc());
-    for (number, unit) in context.units.iter().enumerate() {
-        bytes.extend_from_slice(if number == changed { &other } else { unit })?;
-    }
+    push_units(&mut bytes, &context.units, changed, &other)?;
     Ok(bytes)
+}
+
+/// Returns what two ways of reading bytes tell, once where they tell the same.
+fn told_by_both(
+    alloc: Global,
+    [reading, other]: [Reading; 2],
+    bytes: &[u8],
+    calls: usize,
+) -> Result<String, AllocError> {
+    let told = told_alike(alloc, reading, bytes, calls)?;
+    let told_otherwise = told_alike(alloc, other, bytes, calls)?;
+    if told.as_str() == told_otherwise.as_str() {
+        return Ok(told);
+    }
+    format!(in alloc; "{told} in form 3, {told_otherwise} in form 4")
 }
 
 /// `section BYTES`, `whole BYTES`, `header BYTES`, `end PLACE BYTES`: what reading tells, where the
@@ -169,14 +228,18 @@ pub(crate) fn told(context: &Context<'_>, kind: &str, words: &mut Words<'_>) -> 
             step: ALL,
             calls,
         };
-        return told_by(alloc, other, steps, number_of(start)?);
+        return Ok(told_by(alloc, other, steps, number_of(start)?)?);
     }
-    let told = told_alike(alloc, reading, &bytes, calls)?;
-    let told_otherwise = told_alike(alloc, other, &bytes, calls)?;
-    if told.as_str() == told_otherwise.as_str() {
-        return Ok(told);
+    Ok(told_by_both(alloc, [reading, other], &bytes, calls)?)
+}
+
+/// Returns the reader that gives a byte a call, and of which the call after so many others fails.
+fn byte_steps(bytes: &[u8], calls: usize) -> Steps<'_> {
+    Steps {
+        bytes,
+        step: 1,
+        calls,
     }
-    Ok(format!(in alloc; "{told} in form 3, {told_otherwise} in form 4")?)
 }
 
 /// What is told of a failed read.
@@ -184,27 +247,15 @@ const FAILED: &str = "44";
 
 /// Returns what reading a byte a call tells, where the call after so many others fails; ahead too,
 /// if a section is read, where that is a failed read.
-fn told_of_calls(alloc: Global, reading: Reading, bytes: &[u8], calls: usize) -> Result<String> {
-    let told = told_by(
-        alloc,
-        reading,
-        Steps {
-            bytes,
-            step: 1,
-            calls,
-        },
-        0,
-    )?;
+fn told_of_calls(
+    alloc: Global,
+    reading: Reading,
+    bytes: &[u8],
+    calls: usize,
+) -> Result<String, AllocError> {
+    let told = told_by(alloc, reading, byte_steps(bytes, calls), 0)?;
     if let (FAILED, Reading::Section(form)) = (told.as_str(), reading) {
-        let ahead = read_ahead(
-            alloc,
-            Steps {
-                bytes,
-                step: 1,
-                calls,
-            },
-            form,
-        );
+        let ahead = read_ahead(alloc, byte_steps(bytes, calls), form);
         return told_text(alloc, &ahead, 0);
     }
     Ok(told)
@@ -228,12 +279,8 @@ pub(crate) fn calls(context: &Context<'_>, words: &mut Words<'_>) -> Result<Stri
 /// `ahead BYTES`: what reading a section ahead tells, up to as many bytes a call as there are.
 pub(crate) fn ahead(context: &Context<'_>, words: &mut Words<'_>) -> Result<String> {
     let bytes = bytes_said(context, words)?;
-    told_ahead(
-        context.rt.alloc(),
-        Form::Four,
-        &bytes,
-        &[1000, 262_144, ALL],
-    )
+    let alloc = context.rt.alloc();
+    Ok(told_ahead(alloc, Form::Four, &bytes, &[1000, 262_144, ALL])?)
 }
 
 /// `cuts section BYTES` and the like: whether each beginning of the bytes tells that it is cut
@@ -262,9 +309,8 @@ fn section_of(context: &Context<'_>, words: &mut Words<'_>, start: u64) -> Resul
     Ok((section.context("no section")?, told))
 }
 
-/// Adds a line for each context and each state of a section.
-fn show_content(alloc: Global, text: &mut String, section: &Section) -> Result<()> {
-    let family = &section.certificate;
+/// Adds a line for each context and each state of a section's family.
+fn show_family(alloc: Global, text: &mut String, family: &Certificate) -> Result<()> {
     for number in 1..family.contexts() {
         if let Some((parent, frame)) = family.context(number) {
             write!(text, "\n| call {parent}:{}", frame_text(alloc, &frame)?)?;
@@ -279,14 +325,18 @@ fn show_content(alloc: Global, text: &mut String, section: &Section) -> Result<(
     Ok(())
 }
 
+/// Returns whose section it is, what was told of it, and its contexts and states.
+fn section_text(alloc: Global, section: &Section, told: &Told) -> Result<String> {
+    let told = told_text(alloc, told, 100)?;
+    let mut text = format!(in alloc; "{} {told}", section.name)?;
+    show_family(alloc, &mut text, &section.certificate)?;
+    Ok(text)
+}
+
 /// `content BYTES`: whose section it is, how long, what is left, and its contexts and states.
 pub(crate) fn content(context: &Context<'_>, words: &mut Words<'_>) -> Result<String> {
-    let alloc = context.rt.alloc();
     let (section, told) = section_of(context, words, 100)?;
-    let told = told_text(alloc, &told, 100)?;
-    let mut text = format!(in alloc; "{} {told}", section.name)?;
-    show_content(alloc, &mut text, &section)?;
-    Ok(text)
+    section_text(context.rt.alloc(), &section, &told)
 }
 
 /// Whether a writer that takes a byte a call, and of which a call fails or takes nothing, is told of
@@ -309,40 +359,65 @@ fn untold_call(alloc: Global, section: &Section, want: &[u8]) -> Option<usize> {
     None
 }
 
+/// Whether a section is written as these bytes to a writer that takes so many a call.
+fn is_written_as(alloc: Global, section: &Section, step: usize, want: &[u8]) -> bool {
+    let (told, bytes) = encoded(alloc, section, Taker::new(alloc, step, ALL));
+    told == Told::Done && bytes.as_slice() == want
+}
+
+/// Returns whether a section is written as these bytes, and each failed call of the writer is told.
+fn writing_text(alloc: Global, section: &Section, want: &[u8]) -> Result<String, AllocError> {
+    for step in [ALL, 1] {
+        if !is_written_as(alloc, section, step, want) {
+            return format!(in alloc; "other bytes by {step}");
+        }
+    }
+    match untold_call(alloc, section, want) {
+        Some(calls) => format!(in alloc; "another answer after {calls}"),
+        None => String::from_str(alloc, "same"),
+    }
+}
+
+/// Takes `as` and the bytes that are wanted, and returns what writing a section comes to.
+fn told_of_writing(
+    context: &Context<'_>,
+    section: &Section,
+    words: &mut Words<'_>,
+) -> Result<String> {
+    ensure!(words.take_word("as"), "as is missing");
+    let want = bytes_said(context, words)?;
+    Ok(writing_text(context.rt.alloc(), section, &want)?)
+}
+
 /// `written BYTES as BYTES`: whether the section is written as these bytes, and each failed call of
 /// the writer is told.
 pub(crate) fn written(context: &Context<'_>, words: &mut Words<'_>) -> Result<String> {
-    let alloc = context.rt.alloc();
     let (section, _) = section_of(context, words, 0)?;
-    ensure!(words.take_word("as"), "as is missing");
-    let want = bytes_said(context, words)?;
-    for step in [ALL, 1] {
-        let (told, bytes) = encoded(alloc, &section, Taker::new(alloc, step, ALL));
-        if told != Told::Done || bytes.as_slice() != want.as_slice() {
-            return Ok(format!(in alloc; "other bytes by {step}")?);
+    told_of_writing(context, &section, words)
+}
+
+/// Returns how many calls of a writer are made before one fails, untold, where a header is written
+/// as these bytes; nothing where each is told.
+fn untold_call_of_header(alloc: Global, sections: u32, want: &[u8]) -> Option<usize> {
+    for calls in 0..want.len() {
+        for takes_nothing in [false, true] {
+            let taker = Taker::failing(alloc, calls, takes_nothing);
+            if !is_told_of_failure(&written_header(sections, taker), &want[..calls]) {
+                return Some(calls);
+            }
         }
     }
-    match untold_call(alloc, &section, &want) {
-        Some(calls) => Ok(format!(in alloc; "another answer after {calls}")?),
-        None => Ok(String::from_str(alloc, "same")?),
-    }
+    None
 }
 
 /// `head SECTIONS`: the header that is written. Each failed call of the writer is told.
 pub(crate) fn head(context: &Context<'_>, words: &mut Words<'_>) -> Result<String> {
     let alloc = context.rt.alloc();
-    let sections = number_of(words.next()?)?;
+    let sections = words.next_number()?;
     let (told, bytes) = written_header(sections, Taker::new(alloc, 4, ALL));
     ensure!(told == Told::Done, "no header is written");
-    for calls in 0..bytes.len() {
-        for takes_nothing in [false, true] {
-            let taker = Taker::failing(alloc, calls, takes_nothing);
-            let written = written_header(sections, taker);
-            ensure!(
-                is_told_of_failure(&written, &bytes[..calls]),
-                "another answer after {calls}"
-            );
-        }
+    if let Some(calls) = untold_call_of_header(alloc, sections, &bytes) {
+        bail!("another answer after {calls}");
     }
     Ok(hex::encode_upper(alloc, &bytes)?)
 }

@@ -2,33 +2,64 @@
 
 use crate::context::Context;
 use crate::states::Shown;
-use crate::words::{Words, bytes_of, number_of};
+use crate::words::Words;
 use anyhow::{Context as _, Result, bail, ensure};
-use std::alloc::Global;
-use tt_abs::Stack;
+use std::alloc::{AllocError, Global};
+use tt_abs::{Cell, Stack};
+
+/// Pushes cells, one at a time.
+fn push_each(stack: &mut Stack, cells: &[Cell]) -> Result<(), AllocError> {
+    for cell in cells {
+        stack.push(*cell)?;
+    }
+    Ok(())
+}
+
+/// Pushes the next cells: one at a time, or, after `cells`, at once.
+fn push_cells(alloc: Global, stack: &mut Stack, kind: &str, words: &mut Words<'_>) -> Result<()> {
+    let cells = words.stack(alloc)?;
+    let pushed = match kind {
+        "cells" => stack.push_cells(&cells),
+        _ => push_each(stack, &cells),
+    };
+    Ok(pushed?)
+}
+
+/// Pushes the next bytes, or, after `words`, the words that they are.
+fn push_data(alloc: Global, stack: &mut Stack, kind: &str, words: &mut Words<'_>) -> Result<()> {
+    let bytes = words.next_bytes(alloc)?;
+    let pushed = match kind {
+        "words" => stack.push_words(&bytes),
+        _ => stack.push_bytes(&bytes),
+    };
+    Ok(pushed?)
+}
+
+/// Cuts as many cells as the next word says, or, after `remove`, removes the cell under so many.
+fn shorten(stack: &mut Stack, kind: &str, words: &mut Words<'_>) -> Result<()> {
+    let number = words.next_number()?;
+    if kind == "remove" {
+        ensure!(number < stack.len(), "no such cell");
+        stack.remove(number);
+    } else {
+        stack.cut(number);
+    }
+    Ok(())
+}
 
 /// Makes the next change: `push [..]`, a cell at a time, `cells [..]`, at once, `bytes HEX` and
 /// `words HEX`, `remove N`, the cell under N others, `cut N`, from the top, or `clear`.
 fn change(alloc: Global, stack: &mut Stack, words: &mut Words<'_>) -> Result<()> {
     match words.next()? {
-        "push" => {
-            for cell in &words.stack(alloc)? {
-                stack.push(*cell)?;
-            }
+        kind @ ("push" | "cells") => push_cells(alloc, stack, kind, words),
+        kind @ ("bytes" | "words") => push_data(alloc, stack, kind, words),
+        kind @ ("remove" | "cut") => shorten(stack, kind, words),
+        "clear" => {
+            stack.clear();
+            Ok(())
         }
-        "cells" => stack.push_cells(&words.stack(alloc)?)?,
-        "bytes" => stack.push_bytes(&bytes_of(alloc, words.next()?)?)?,
-        "words" => stack.push_words(&bytes_of(alloc, words.next()?)?)?,
-        "remove" => {
-            let place: usize = number_of(words.next()?)?;
-            ensure!(place < stack.len(), "no such cell");
-            stack.remove(place);
-        }
-        "cut" => stack.cut(number_of(words.next()?)?),
-        "clear" => stack.clear(),
         word => bail!("no change of a stack is called {word}"),
     }
-    Ok(())
 }
 
 /// Returns what an empty stack becomes by the changes up to `|`.
@@ -67,14 +98,20 @@ pub(crate) fn stack(context: &Context<'_>, words: &mut Words<'_>) -> Result<Stri
     stack_text(alloc, &stack)
 }
 
+/// Whether two stacks, each by its changes, have as many cells at the bottom as the first word says,
+/// and the same ones.
+fn shares_bottom(alloc: Global, words: &mut Words<'_>) -> Result<bool> {
+    let count = words.next_number()?;
+    let one = stack_of(alloc, words)?;
+    let other = stack_of(alloc, words)?;
+    Ok(one.shares_bottom(&other, count))
+}
+
 /// `share COUNT CHANGES | CHANGES`: whether two stacks have that many cells at the bottom, and the
 /// same ones.
 pub(crate) fn share(context: &Context<'_>, words: &mut Words<'_>) -> Result<String> {
     let alloc = context.rt.alloc();
-    let count = number_of(words.next()?)?;
-    let one = stack_of(alloc, words)?;
-    let other = stack_of(alloc, words)?;
-    let answer = if one.shares_bottom(&other, count) {
+    let answer = if shares_bottom(alloc, words)? {
         "yes"
     } else {
         "no"

@@ -115,29 +115,57 @@ pub(crate) fn plain_state(alloc: Global, words: &mut Words<'_>) -> Result<State>
     Ok(state)
 }
 
-/// Returns what a state becomes by the next word, or by a change: `copy`, `over STATE`, a copy over
-/// another state, `join STATE`, or `then`, before a change; nothing where the word is another one.
-fn changed(alloc: Global, state: State, words: &mut Words<'_>) -> Result<(State, bool)>
-    requires { state_order.InRange state }
-    ensures { IfOk result (λ changed. state_order.InRange changed.0) }
+/// Makes a state a copy of itself over the state that the next words say.
+fn copy_over(alloc: Global, state: &mut State, words: &mut Words<'_>) -> Result<()>
+    requires { state_order.InRange state.old }
+    ensures { IfOk result (λ _. state_order.InRange state.new) }
 {
-    let mut state = state;
+    let mut other = plain_state(alloc, words)?;
+    other.copy_from(state)?;
+    *state = other;
+    Ok(())
+}
+
+/// Joins a state with the one that the next words say.
+fn join_next(alloc: Global, state: &mut State, words: &mut Words<'_>) -> Result<()>
+    requires { state_order.InRange state.old }
+    ensures { IfOk result (λ _. state_order.InRange state.new) }
+{
+    let other = plain_state(alloc, words)?;
+    state.join(&other)?;
+    Ok(())
+}
+
+/// Changes a state by the next word: `copy`, `over STATE`, a copy over another state, `join STATE`,
+/// or `then`, before a change, or by a change; whether there is one of these.
+fn change_next(alloc: Global, state: &mut State, words: &mut Words<'_>) -> Result<bool>
+    requires { state_order.InRange state.old }
+    ensures { IfOk result (λ _. state_order.InRange state.new) }
+{
     if words.take_word("copy") {
-        return Ok((state.copy()?, true));
+        *state = state.copy()?;
+    } else if words.take_word("over") {
+        copy_over(alloc, state, words)?;
+    } else if words.take_word("join") {
+        join_next(alloc, state, words)?;
+    } else {
+        let is_more = words.take_word("then");
+        return Ok(change(state, words, alloc)? || is_more);
     }
-    if words.take_word("over") {
-        let mut other = plain_state(alloc, words)?;
-        other.copy_from(&state)?;
-        return Ok((other, true));
+    Ok(true)
+}
+
+/// Changes a state by all of the next words that say how.
+fn change_by_all(alloc: Global, state: &mut State, words: &mut Words<'_>) -> Result<()>
+    requires { state_order.InRange state.old }
+    ensures { IfOk result (λ _. state_order.InRange state.new) }
+{
+    for _ in 0..MOST {
+        if !change_next(alloc, state, words)? {
+            return Ok(());
+        }
     }
-    if words.take_word("join") {
-        let other = plain_state(alloc, words)?;
-        state.join(&other)?;
-        return Ok((state, true));
-    }
-    let is_more = words.take_word("then");
-    let has_changed = change(&mut state, words, alloc)?;
-    Ok((state, is_more || has_changed))
+    Err(anyhow!("too many changes"))
 }
 
 /// Returns the state that the next words say.
@@ -145,14 +173,8 @@ pub(crate) fn state_of(alloc: Global, words: &mut Words<'_>) -> Result<State>
     ensures { IfOk result (λ state. state_order.InRange state) }
 {
     let mut state = State::start(alloc, &[])?;
-    for _ in 0..MOST {
-        let (next, has_changed) = changed(alloc, state, words)?;
-        state = next;
-        if !has_changed {
-            return Ok(state);
-        }
-    }
-    Err(anyhow!("too many changes"))
+    change_by_all(alloc, &mut state, words)?;
+    Ok(state)
 }
 
 /// A cell as text.

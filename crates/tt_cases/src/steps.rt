@@ -9,21 +9,20 @@ use crate::context::Context;
 use crate::places::{frame_of, frame_text, refusal_text};
 use crate::programs::cut;
 use crate::states::{state_of, state_text};
-use crate::words::{Words, body_of, bytes_of};
+use crate::words::{Words, body_of};
 use anyhow::{Result, ensure};
-use std::alloc::Global;
+use std::alloc::{AllocError, Global};
 use tt_abs::{Move, Point, Setting, State, Successor, Successors, transfer};
 use tt_code::Frame;
 
 /// Returns where a move leads.
-fn way_text(alloc: Global, way: &Move) -> Result<String> {
-    let text = match way {
-        Move::To(offset) => format!(in alloc; "to {offset}")?,
-        Move::Enter(frame) => format!(in alloc; "enter {}", frame_text(alloc, frame)?)?,
-        Move::NextTurn => String::from_str(alloc, "next turn")?,
-        Move::Return => String::from_str(alloc, "return")?,
-    };
-    Ok(text)
+fn way_text(alloc: Global, way: &Move) -> Result<String, AllocError> {
+    match way {
+        Move::To(offset) => format!(in alloc; "to {offset}"),
+        Move::Enter(frame) => format!(in alloc; "enter {}", frame_text(alloc, frame)?),
+        Move::NextTurn => String::from_str(alloc, "next turn"),
+        Move::Return => String::from_str(alloc, "return"),
+    }
 }
 
 /// Returns where a successor leads, and what has changed there.
@@ -54,7 +53,7 @@ fn told(alloc: Global, setting: &Setting<'_>, point: &Point<'_>, state: &State) 
     match transfer(setting, point, state) {
         Ok(Successors::One(next)) => successor_text(alloc, &next, state),
         Ok(Successors::Two(next, other)) => both_texts(alloc, &next, &other, state),
-        Err(refusal) => refusal_text(alloc, &refusal),
+        Err(refusal) => Ok(refusal_text(alloc, &refusal)?),
     }
 }
 
@@ -98,21 +97,28 @@ fn state_with(alloc: Global, words: &mut Words<'_>, function: Option<&str>) -> R
     Ok(state)
 }
 
-/// `step PROGRAM STATE`, with `at=OFFSET`, `in=CALL`, `f=FONT_PROGRAM`, `start=BODY`: where the
-/// instruction leads, the stack there, and what else has changed; or why it is refused.
-pub(crate) fn step(context: &Context<'_>, words: &mut Words<'_>) -> Result<String> {
+/// Takes the call that the words say after `in=`, if they do.
+fn call_of(words: &mut Words<'_>) -> Result<Option<Frame>> {
+    match words.take("in") {
+        Some(call) => Ok(Some(frame_of(call)?)),
+        None => Ok(None),
+    }
+}
+
+/// Returns the same of the bytes of a font program and of a glyph program.
+fn told_of_bytes(
+    context: &Context<'_>,
+    font: &[u8],
+    main: &[u8],
+    call: Option<Frame>,
+    offset: u32,
+    state: &State,
+) -> Result<String>
+    requires { state_order.InRange state.now }
+{
     let alloc = context.rt.alloc();
-    let font = words.bytes(alloc, "f")?;
-    let offset = words.number("at", 0)?;
-    let call = match words.take("in") {
-        Some(call) => Some(frame_of(call)?),
-        None => None,
-    };
-    let function = words.take("start");
-    let main = bytes_of(alloc, words.next()?)?;
-    let state = state_with(alloc, words, function)?;
-    let font = cut(alloc, &font)?;
-    let main = cut(alloc, &main)?;
+    let font = cut(alloc, font)?;
+    let main = cut(alloc, main)?;
     let setting = Setting {
         limits: context.limits,
         cvt: u32::from(context.cvt),
@@ -122,5 +128,18 @@ pub(crate) fn step(context: &Context<'_>, words: &mut Words<'_>) -> Result<Strin
         prep: &font,
         start: &[],
     };
-    told_in(alloc, &setting, call, offset, &state)
+    told_in(alloc, &setting, call, offset, state)
+}
+
+/// `step PROGRAM STATE`, with `at=OFFSET`, `in=CALL`, `f=FONT_PROGRAM`, `start=BODY`: where the
+/// instruction leads, the stack there, and what else has changed; or why it is refused.
+pub(crate) fn step(context: &Context<'_>, words: &mut Words<'_>) -> Result<String> {
+    let alloc = context.rt.alloc();
+    let offset = words.number("at", 0)?;
+    let call = call_of(words)?;
+    let function = words.take("start");
+    let font = words.bytes(alloc, "f")?;
+    let main = words.next_bytes(alloc)?;
+    let state = state_with(alloc, words, function)?;
+    told_of_bytes(context, &font, &main, call, offset, &state)
 }

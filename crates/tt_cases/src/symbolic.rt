@@ -1,12 +1,11 @@
 //! Cases of the check by symbolic states.
 
 use crate::context::Context;
-use crate::programs::cut;
+use crate::programs::{Programs, bytes_given, cut_all};
 use crate::words::{Words, number_of};
 use anyhow::Result;
-use std::alloc::Global;
+use std::alloc::{AllocError, Global};
 use tt_abs::Setting;
-use tt_code::Program;
 use tt_symbolic::kept::{Kept, NOTHING_KEPT};
 use tt_symbolic_check::{CheckRefusal, Effort, Start, USUAL_EFFORT, check, start_state};
 use tt_symbolic_state::{Cell, OpenCall, Range, State};
@@ -24,49 +23,46 @@ const SMALL: Effort = Effort {
 };
 
 /// Returns the text of what a check tells.
-fn told_text<T: Drop>(alloc: Global, told: Result<T, CheckRefusal>) -> Result<String> {
+fn told_text<T: Drop>(alloc: Global, told: Result<T, CheckRefusal>) -> Result<String, AllocError> {
     let number = match told {
-        Ok(_) => return Ok(String::from_str(alloc, "good")?),
+        Ok(_) => return String::from_str(alloc, "good"),
         Err(CheckRefusal::Refused { reason, .. }) => reason.number(),
         Err(CheckRefusal::KeptEntry { .. }) => 47,
         Err(CheckRefusal::OutOfMemory(_)) => 9,
         Err(CheckRefusal::BudgetMet) => 46,
     };
-    Ok(format!(in alloc; "{number}")?)
+    format!(in alloc; "{number}")
 }
 
 /// Checks a program from a start, and returns what is known at the last of its ends.
 fn end_of(alloc: Global, setting: &Setting<'_>, start: Start) -> Result<Start, CheckRefusal> {
-    let mut ends = check(alloc, setting, &NOTHING_KEPT, &[start], &[], WIDE)?;
-    Ok(match ends.pop() {
-        Some(end) => Start {
-            storage: end.storage,
-            controls: end.controls,
-            functions: end.functions,
-            ranges: end.ranges,
-        },
-        None => Start::unknown(alloc),
+    let ends = check(alloc, setting, &NOTHING_KEPT, &[start], &[], WIDE)?;
+    match ends.last() {
+        Some(end) => Ok(Start::after(alloc, end)?),
+        None => Ok(Start::unknown(alloc)),
+    }
+}
+
+/// Checks a font program, and returns what is known at the last of its ends: only the functions.
+fn functions_after(alloc: Global, setting: &Setting<'_>) -> Result<Start, CheckRefusal> {
+    let end = end_of(alloc, setting, Start::unknown(alloc))?;
+    Ok(Start {
+        functions: end.functions,
+        ..Start::unknown(alloc)
     })
 }
 
 /// Checks programs one after the other, each from what is known at the end of the one before; of
 /// the font program's end only the functions.
-fn check_all(
-    context: &Context<'_>,
-    font: &Program<'_>,
-    prep: &Program<'_>,
-    glyph: &Program<'_>,
-) -> Result<Start, CheckRefusal> {
+fn check_all(context: &Context<'_>, programs: &Programs<'_>) -> Result<Start, CheckRefusal> {
     let alloc = context.rt.alloc();
-    let for_font = Setting::for_font_program(context.limits, u32::from(context.cvt), font);
-    let for_cvt = for_font.for_cvt_program(prep, &[]);
+    let cvt = u32::from(context.cvt);
+    let for_font = Setting::for_font_program(context.limits, cvt, &programs.font);
+    let for_cvt = for_font.for_cvt_program(&programs.prep, &[]);
+    let glyph = &programs.glyph;
     let for_glyph = for_cvt.for_glyph_program(context.points, context.contours, glyph, &[]);
-    let first = end_of(alloc, &for_font, Start::unknown(alloc))?;
-    let functions = Start {
-        functions: first.functions,
-        ..Start::unknown(alloc)
-    };
-    let second = end_of(alloc, &for_cvt, functions)?;
+    let first = functions_after(alloc, &for_font)?;
+    let second = end_of(alloc, &for_cvt, first)?;
     end_of(alloc, &for_glyph, second)
 }
 
@@ -74,11 +70,9 @@ fn check_all(
 /// listed.
 pub(crate) fn symbolic(context: &Context<'_>, words: &mut Words<'_>) -> Result<String> {
     let alloc = context.rt.alloc();
-    let font = words.bytes(alloc, "f")?;
-    let prep = words.bytes(alloc, "p")?;
-    let glyph = words.bytes(alloc, "g")?;
-    let (font, prep, glyph) = (cut(alloc, &font)?, cut(alloc, &prep)?, cut(alloc, &glyph)?);
-    told_text(alloc, check_all(context, &font, &prep, &glyph))
+    let bytes = bytes_given(alloc, words)?;
+    let programs = cut_all(alloc, &bytes.font, &bytes.prep, &bytes.glyph)?;
+    Ok(told_text(alloc, check_all(context, &programs))?)
 }
 
 /// Checks a glyph program by listed states, where these entries are kept.
@@ -86,24 +80,29 @@ fn check_glyph(
     context: &Context<'_>,
     font: &[u8],
     glyph: &[u8],
-    start: Start,
+    starts: &[Start],
     kept: &Kept<'_>,
     listed: &[State],
 ) -> Result<String> {
     let alloc = context.rt.alloc();
-    let (font, prep, glyph) = (cut(alloc, font)?, cut(alloc, &[])?, cut(alloc, glyph)?);
-    let for_font = Setting::for_font_program(context.limits, u32::from(context.cvt), &font);
-    let for_cvt = for_font.for_cvt_program(&prep, &[]);
-    let setting = for_cvt.for_glyph_program(context.points, context.contours, &glyph, &[]);
-    told_text(alloc, check(alloc, &setting, kept, &[start], listed, SMALL))
+    let programs = cut_all(alloc, font, &[], glyph)?;
+    let cvt = u32::from(context.cvt);
+    let for_font = Setting::for_font_program(context.limits, cvt, &programs.font);
+    let for_cvt = for_font.for_cvt_program(&programs.prep, &[]);
+    let glyph = &programs.glyph;
+    let setting = for_cvt.for_glyph_program(context.points, context.contours, glyph, &[]);
+    Ok(told_text(alloc, check(alloc, &setting, kept, starts, listed, SMALL))?)
 }
 
-/// Returns the state in the body at 3 of the font program, after a call at 3 of the glyph program,
-/// of which as many turns are left as a symbol says, times a factor.
-fn in_body(alloc: Global, words: &mut Words<'_>) -> Result<State> {
+/// Returns the start at which only function 0 is known, which has its body at 3.
+fn start_with_function(alloc: Global) -> Result<Start> {
     let mut start = Start::unknown(alloc);
     start.functions.put(0, 3)?;
-    let mut state = start_state(alloc, &start)?;
+    Ok(start)
+}
+
+/// Puts a state into the body at 3, after a call at 3, as the words say.
+fn put_in_body(state: &mut State, words: &mut Words<'_>) -> Result<()> {
     state.offset = 3;
     let left = Cell {
         symbol: 0,
@@ -123,6 +122,15 @@ fn in_body(alloc: Global, words: &mut Words<'_>) -> Result<State> {
             high: words.number("high", 0)?,
         })?;
     }
+    Ok(())
+}
+
+/// Returns the state in the body at 3 of the font program, after a call at 3 of the glyph program,
+/// of which as many turns are left as a symbol says, times a factor.
+fn in_body(alloc: Global, words: &mut Words<'_>) -> Result<State> {
+    let start = start_with_function(alloc)?;
+    let mut state = start_state(alloc, &start)?;
+    put_in_body(&mut state, words)?;
     Ok(state)
 }
 
@@ -131,11 +139,19 @@ fn in_body(alloc: Global, words: &mut Words<'_>) -> Result<State> {
 /// says, times the factor. `uncalled`: it is in no call; `unranged`: the symbol has no range.
 pub(crate) fn turns(context: &Context<'_>, words: &mut Words<'_>) -> Result<String> {
     let alloc = context.rt.alloc();
-    let listed = in_body(alloc, words)?;
-    let mut start = Start::unknown(alloc);
-    start.functions.put(0, 3)?;
+    let listed = [in_body(alloc, words)?];
+    let starts = [start_with_function(alloc)?];
     let (font, glyph) = ([0xb0, 0x00, 0x2c, 0x2d], [0x4b, 0xb0, 0x00, 0x2a]);
-    check_glyph(context, &font, &glyph, start, &NOTHING_KEPT, &[listed])
+    check_glyph(context, &font, &glyph, &starts, &NOTHING_KEPT, &listed)
+}
+
+/// Takes the index that the words give after a name, if they do.
+fn indexes_given(alloc: Global, words: &mut Words<'_>, name: &str) -> Result<Vec<u16>> {
+    let mut indexes = Vec::new(alloc);
+    if let Some(index) = words.take(name) {
+        indexes.push(number_of(index)?)?;
+    }
+    Ok(indexes)
 }
 
 /// `kept storage=1 g=GLYPH`, `kept control=2 g=GLYPH`: what the check of a program tells that has to
@@ -143,17 +159,12 @@ pub(crate) fn turns(context: &Context<'_>, words: &mut Words<'_>) -> Result<Stri
 pub(crate) fn kept(context: &Context<'_>, words: &mut Words<'_>) -> Result<String> {
     let alloc = context.rt.alloc();
     let glyph = words.bytes(alloc, "g")?;
-    let mut storage = Vec::new(alloc);
-    if let Some(index) = words.take("storage") {
-        storage.push(number_of(index)?)?;
-    }
-    let mut controls = Vec::new(alloc);
-    if let Some(index) = words.take("control") {
-        controls.push(number_of(index)?)?;
-    }
+    let storage = indexes_given(alloc, words, "storage")?;
+    let controls = indexes_given(alloc, words, "control")?;
     let kept = Kept {
         storage: &storage,
         controls: &controls,
     };
-    check_glyph(context, &[], &glyph, Start::unknown(alloc), &kept, &[])
+    let starts = [Start::unknown(alloc)];
+    check_glyph(context, &[], &glyph, &starts, &kept, &[])
 }

@@ -159,6 +159,19 @@ impl<'a> Words<'a> {
         }
     }
 
+    /// Takes the number that the next word says.
+    pub fn next_number<T: FromStr>(&mut self) -> Result<T>
+    where
+        T::Err: Drop,
+    {
+        number_of(self.next()?)
+    }
+
+    /// Takes the bytes that the next word says.
+    pub fn next_bytes(&mut self, alloc: Global) -> Result<Vec<u8>> {
+        bytes_of(alloc, self.next()?)
+    }
+
     /// Takes the next word if it is this one; whether it is.
     pub fn take_word(&mut self, word: &str) -> bool {
         if self.first() != Some(word) {
