@@ -16,9 +16,6 @@ const STORAGE_WIDTH: i64 = (1 << 32) - 1;
 /// How many numbers the range of a control value may have that isn't worth to be listed.
 const CONTROL_WIDTH: i64 = 1 << 24;
 
-/// How many cells the graphics state has.
-const MOST_REGISTERS: usize = 4;
-
 /// In place of a new number: there is none.
 const NONE: u32 = u32::MAX;
 
@@ -38,14 +35,6 @@ impl Symbols {
             ranges: Vec::new(alloc),
             origins: Vec::new(alloc),
         }
-    }
-
-    /// Makes no symbols, with room for so many.
-    fn with_room(alloc: Global, count: usize) -> Result<Symbols, AllocError> {
-        Ok(Symbols {
-            ranges: Vec::with_capacity(alloc, count)?,
-            origins: Vec::with_capacity(alloc, count)?,
-        })
     }
 
     /// Takes the symbols out of a track, which is left without any.
@@ -185,36 +174,12 @@ pub(crate) fn listed_near(entries: &SortedMap<Cell>, place: usize, number: u16) 
     }
 }
 
-/// Returns how many of the entries' cells have symbols.
-fn symbolic_entry_count(entries: &SortedMap<Cell>) -> usize {
-    let mut count = 0usize;
-    for entry in entries.as_slice() {
-        if entry.1.factor != 0 {
-            count = count.saturating_add(1);
-        }
-    }
-    count
-}
-
-/// Returns how many cells of a state have symbols at most.
-fn symbolic_count(state: &State) -> usize {
-    let mut count = state.calls.len().saturating_add(MOST_REGISTERS);
-    for cell in state.stack.as_slice() {
-        if cell.factor != 0 {
-            count = count.saturating_add(1);
-        }
-    }
-    count
-        .saturating_add(symbolic_entry_count(&state.storage))
-        .saturating_add(symbolic_entry_count(&state.controls))
-}
-
 /// Returns the entries whose cells have symbols.
 fn symbolic_entries(
     alloc: Global,
     entries: &SortedMap<Cell>,
 ) -> Result<Vec<(u16, Cell)>, AllocError> {
-    let mut list = Vec::with_capacity(alloc, symbolic_entry_count(entries))?;
+    let mut list = Vec::new(alloc);
     for entry in entries.as_slice() {
         if entry.1.factor != 0 {
             list.push(*entry)?;
@@ -265,10 +230,9 @@ pub(crate) fn rename(alloc: Global, track: &mut Track, sharing: Sharing) -> Resu
         Sharing::Kept => vec![in alloc; NONE; old.ranges.len()]?,
         Sharing::Dropped => Vec::new(alloc),
     };
-    let new = Symbols::with_room(alloc, symbolic_count(&track.state))?;
     let mut renaming = Renaming {
         old,
-        new,
+        new: Symbols::new(alloc),
         sharing,
         numbers,
     };

@@ -32,13 +32,7 @@ impl Ranges<'_> {
         let Some(range) = self.theirs.get(theirs.symbol as usize) else {
             return false;
         };
-        // The usual case: the listed cell is a symbol alone.
-        let image = if theirs.factor == 1 && theirs.offset == 0 {
-            bounds(mine, self.mine)
-        } else {
-            image(mine, self.mine, theirs)
-        };
-        match image {
+        match image(mine, self.mine, theirs) {
             Some((low, high)) => i64::from(range.low) <= low && high <= i64::from(range.high),
             None => false,
         }

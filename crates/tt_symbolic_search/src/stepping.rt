@@ -83,7 +83,6 @@ impl Before {
     fn note(&mut self, track: &Track, effect: &'static Effect) -> Result<(), AllocError> {
         let count = match effect {
             Effect::Plain(line) => taken_by(track, line),
-            Effect::Push(_) => 0,
             _ => MOST_TAKEN,
         };
         let cells = track.state.stack.as_slice();

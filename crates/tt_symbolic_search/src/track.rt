@@ -125,15 +125,16 @@ impl Track {
 
     /// Whether a place comes before the one where it is, or is the same.
     pub(crate) fn is_at_or_after(&self, place: &[(u32, u32)]) -> bool {
-        for (level, theirs) in place.iter().enumerate() {
+        for level in 0..place.len() {
+            let theirs = place[level];
             let Some(own) = self.place_at(level) else {
                 return false;
             };
-            if theirs.0 != own.0 {
-                return theirs.0 < own.0;
+            if theirs < own {
+                return true;
             }
-            if theirs.1 != own.1 {
-                return theirs.1 < own.1;
+            if own < theirs {
+                return false;
             }
         }
         true
