@@ -115,54 +115,60 @@ const LISTED: &str = "0: b10700 PUSHB\n3: 2b CALL\nend: 4\n";
 /// What is printed of the certificate.
 const UPGRADED: &str = "upgraded: 3 sections\n";
 
-/// Asserts that these subcommands are refused memory on a font file, its certificate and a new file.
-fn assert_refused_on_files(
-    rt: &(impl Abort + Print),
-    host: &HostRuntime,
-    subcommands: &[&str],
-) -> Result<(), Fail> {
-    let files = files_of(host.alloc(), &CALL_POPS)?;
+/// Writes a font file and its certificate: returns their names, and that of a new file.
+fn write_files(rt: &HostRuntime) -> Result<[PathBuf; 3], Fail> {
+    let files = files_of(rt.alloc(), &CALL_POPS)?;
     let paths = [
-        path_of(host, "ttf").ok_or("a path")?,
-        path_of(host, "cert").ok_or("a path")?,
-        path_of(host, "new").ok_or("a path")?,
+        path_of(rt, "ttf").ok_or("a path")?,
+        path_of(rt, "cert").ok_or("a path")?,
+        path_of(rt, "new").ok_or("a path")?,
     ];
-    let [font, cert, new] = [paths[0].as_str(), paths[1].as_str(), paths[2].as_str()];
-    fs::write(host, font, &files.font)?;
-    fs::write(host, cert, &files.certificate)?;
-    let mut heap = Heap::new(host.alloc());
-    for name in subcommands {
-        let (last, text) = match *name {
-            "find" => (new, ACCEPTED),
-            "check" => (cert, ACCEPTED),
-            "list" => ("g0", LISTED),
-            "upgrade" => (new, UPGRADED),
-            _ => ("", ACCEPTED),
-        };
-        let first = if *name == "upgrade" { cert } else { font };
-        let words = ["hintcheck", name, first, last];
-        let count = if last.is_empty() { 3 } else { 4 };
-        assert_command_refused(rt, host, &mut heap, &words[..count], text);
-    }
-    for path in [font, cert, new] {
-        let _ = fs::remove_file(host, path);
+    fs::write(rt, paths[0].as_str(), &files.font)?;
+    fs::write(rt, paths[1].as_str(), &files.certificate)?;
+    Ok(paths)
+}
+
+#[test]
+fn commands_that_read_files(rt: HostRuntime) -> Result<(), Fail> {
+    let paths = write_files(&rt)?;
+    let [font, cert] = [paths[0].as_str(), paths[1].as_str()];
+    let mut heap = Heap::new(rt.alloc());
+    let verdict = ["hintcheck", "verdict", font];
+    assert_command_refused(&rt, &rt, &mut heap, &verdict, ACCEPTED);
+    let check = ["hintcheck", "check", font, cert];
+    assert_command_refused(&rt, &rt, &mut heap, &check, ACCEPTED);
+    let list = ["hintcheck", "list", font, "g0"];
+    assert_command_refused(&rt, &rt, &mut heap, &list, LISTED);
+    for path in [font, cert] {
+        fs::remove_file(&rt, path)?;
     }
     Ok(())
 }
 
 #[test]
-fn commands_that_read_files(rt: HostRuntime) -> Result<(), Fail> {
-    assert_refused_on_files(&rt, &rt, &["verdict", "check", "list"])
-}
-
-#[test]
 fn certificate_to_a_file(rt: HostRuntime) -> Result<(), Fail> {
-    assert_refused_on_files(&rt, &rt, &["find"])
+    let paths = write_files(&rt)?;
+    let [font, cert, new] = [paths[0].as_str(), paths[1].as_str(), paths[2].as_str()];
+    let mut heap = Heap::new(rt.alloc());
+    let find = ["hintcheck", "find", font, new];
+    assert_command_refused(&rt, &rt, &mut heap, &find, ACCEPTED);
+    for path in [font, cert, new] {
+        fs::remove_file(&rt, path)?;
+    }
+    Ok(())
 }
 
 #[test]
 fn upgrade_to_a_file(rt: HostRuntime) -> Result<(), Fail> {
-    assert_refused_on_files(&rt, &rt, &["upgrade"])
+    let paths = write_files(&rt)?;
+    let [font, cert, new] = [paths[0].as_str(), paths[1].as_str(), paths[2].as_str()];
+    let mut heap = Heap::new(rt.alloc());
+    let upgrade = ["hintcheck", "upgrade", cert, new];
+    assert_command_refused(&rt, &rt, &mut heap, &upgrade, UPGRADED);
+    for path in [font, cert, new] {
+        fs::remove_file(&rt, path)?;
+    }
+    Ok(())
 }
 
 #[test]
