@@ -55,10 +55,20 @@ impl fmt::Display for Refused {
 }
 
 /// How many programs there are, and which of them are refused, in their order.
-#[derive(Drop)]
 pub struct Verdict {
     programs: u32,
     refused: Vec<Refused>,
+}
+
+// Written out, so that who holds a verdict proves in one step that its memory is given back.
+impl Drop for Verdict {
+    fn drop(self) {
+        let Verdict {
+            programs: _,
+            refused,
+        } = self;
+        drop(refused);
+    }
 }
 
 impl Model for Verdict {

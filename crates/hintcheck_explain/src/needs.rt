@@ -89,7 +89,7 @@ fn fault_with(
     requires fits { FunctionsFit (setting_of setting.now) setting.now.start.now }
 {
     let raised = with_limit(setting, limit, number);
-    Ok(explore(alloc, &raised)?.fault)
+    Ok(explore(alloc, &raised)?.into_fault())
 }
 
 /// Returns the least number of the limit with which the program is accepted, where it is with the

@@ -29,13 +29,21 @@ const FEW: usize = 8;
 
 /// A stack of cells, which contracts see top first. Up to 32 cells need no allocation, if each is
 /// unknown or has a number from -32,767 to 32,767.
-#[derive(Drop)]
 pub struct Stack {
     /// The lowest cells, kept as they are because a cell that had no code was pushed as one of
     /// them; usually there are none.
     wide: Vec<Cell>,
     /// The codes of the cells above the wide ones.
     codes: Codes,
+}
+
+// Written out, so that who holds a stack proves in one step that its memory is given back.
+impl Drop for Stack {
+    fn drop(self) {
+        let Stack { wide, codes } = self;
+        drop(wide);
+        drop(codes);
+    }
 }
 
 impl Model for Stack {

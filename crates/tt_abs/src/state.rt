@@ -11,7 +11,6 @@ use tt_code::Graphics;
 use tt_code::kinds::{Pointer, Reference};
 
 /// What is known of a machine's state, except for where it is and its calls.
-#[derive(Drop)]
 pub struct State {
     /// What is known of the stack.
     pub(crate) stack: Stack,
@@ -21,6 +20,21 @@ pub struct State {
     pub(crate) functions: SortedMap<u32>,
     /// The storage cells that are known, each with its number.
     pub(crate) storage: SortedMap<i32>,
+}
+
+// Written out, so that who holds a state proves in one step that its memory is given back.
+impl Drop for State {
+    fn drop(self) {
+        let State {
+            stack,
+            graphics: _,
+            functions,
+            storage,
+        } = self;
+        drop(stack);
+        drop(functions);
+        drop(storage);
+    }
 }
 
 /// The graphics state with which every program starts.

@@ -16,11 +16,20 @@ pub(crate) fn cut(alloc: Global, bytes: &[u8]) -> Result<Program<'_>> {
 }
 
 /// The bytes of a font program, of a CVT program and of a glyph program.
-#[derive(Drop)]
 pub(crate) struct Bytes {
     pub(crate) font: Vec<u8>,
     pub(crate) prep: Vec<u8>,
     pub(crate) glyph: Vec<u8>,
+}
+
+// Written out, so that who holds bytes proves in one step that its memory is given back.
+impl Drop for Bytes {
+    fn drop(self) {
+        let Bytes { font, prep, glyph } = self;
+        drop(font);
+        drop(prep);
+        drop(glyph);
+    }
 }
 
 /// Takes the bytes that the words give after `f=`, `p=` and `g=`.
@@ -33,11 +42,20 @@ pub(crate) fn bytes_given(alloc: Global, words: &mut Words<'_>) -> Result<Bytes>
 }
 
 /// A font program, a CVT program and a glyph program.
-#[derive(Drop)]
 pub(crate) struct Programs<'a> {
     pub(crate) font: Program<'a>,
     pub(crate) prep: Program<'a>,
     pub(crate) glyph: Program<'a>,
+}
+
+// Written out, so that who holds programs proves in one step that its memory is given back.
+impl<'a> Drop for Programs<'a> {
+    fn drop(self) {
+        let Programs { font, prep, glyph } = self;
+        drop(font);
+        drop(prep);
+        drop(glyph);
+    }
 }
 
 /// Cuts a font program, a CVT program and a glyph program.

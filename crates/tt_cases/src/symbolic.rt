@@ -5,6 +5,7 @@ use crate::programs::{Programs, bytes_given, cut_all};
 use crate::words::{Words, number_of};
 use anyhow::Result;
 use std::alloc::{AllocError, Global};
+use std::mem;
 use tt_abs::Setting;
 use tt_symbolic::kept::{Kept, NOTHING_KEPT};
 use tt_symbolic_check::{CheckRefusal, Effort, Start, USUAL_EFFORT, check, start_state};
@@ -45,11 +46,10 @@ fn end_of(alloc: Global, setting: &Setting<'_>, start: Start) -> Result<Start, C
 
 /// Checks a font program, and returns what is known at the last of its ends: only the functions.
 fn functions_after(alloc: Global, setting: &Setting<'_>) -> Result<Start, CheckRefusal> {
-    let end = end_of(alloc, setting, Start::unknown(alloc))?;
-    Ok(Start {
-        functions: end.functions,
-        ..Start::unknown(alloc)
-    })
+    let mut end = end_of(alloc, setting, Start::unknown(alloc))?;
+    let mut start = Start::unknown(alloc);
+    mem::swap(&mut start.functions, &mut end.functions);
+    Ok(start)
 }
 
 /// Checks programs one after the other, each from what is known at the end of the one before; of

@@ -405,12 +405,24 @@ fn read_function_list<S: Source>(
 
 /// Functions that were read, and their text where it was kept. Most lists are the same as the one
 /// of the state before.
-#[derive(Drop)]
 pub(crate) struct Functions {
     pub(crate) list: Vec<(u16, u32)>,
     pub(crate) text: Vec<u8>,
     /// Whether they were found to be the same as those of the state before.
     pub(crate) is_same: bool,
+}
+
+// Written out, so that who holds functions proves in one step that its memory is given back.
+impl Drop for Functions {
+    fn drop(self) {
+        let Functions {
+            list,
+            text,
+            is_same: _,
+        } = self;
+        drop(list);
+        drop(text);
+    }
 }
 
 impl Functions {

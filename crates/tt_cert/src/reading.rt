@@ -62,7 +62,6 @@ fn read_section<S: Source>(
 /// each state is compared to the state before, which it mostly resembles. What is read doesn't
 /// depend on them. A reader holds the family that it read last, which it lends, until it is cleared or
 /// reads the next one, and the last state. After a fault it holds neither.
-#[derive(Drop)]
 pub struct Decoder {
     /// The state that was read last.
     last: Option<LastState>,
@@ -70,6 +69,20 @@ pub struct Decoder {
     family: Option<Certificate>,
     /// An empty builder, in whose memory the next family is made.
     spare: Option<Builder>,
+}
+
+// Written out, so that who holds a decoder proves in one step that its memory is given back.
+impl Drop for Decoder {
+    fn drop(self) {
+        let Decoder {
+            last,
+            family,
+            spare,
+        } = self;
+        drop(last);
+        drop(family);
+        drop(spare);
+    }
 }
 
 impl Model for Decoder {

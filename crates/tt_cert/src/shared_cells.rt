@@ -25,12 +25,20 @@ use tt_stream::Source;
 const FEWER: usize = 8;
 
 /// The stack that was read last.
-#[derive(Drop)]
 pub(crate) struct LastStack {
     pub(crate) text: StackText,
     /// Cells that were read because they aren't those of the stack before, and weren't read ahead.
     /// The next ones are read in their memory.
     read: Vec<Cell>,
+}
+
+// Written out, so that who holds a stack that was read proves in one step that its memory is given back.
+impl Drop for LastStack {
+    fn drop(self) {
+        let LastStack { text, read } = self;
+        drop(text);
+        drop(read);
+    }
 }
 
 impl LastStack {

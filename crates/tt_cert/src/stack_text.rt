@@ -31,12 +31,20 @@ pub(crate) fn push_cell(out: &mut Vec<u8>, cell: Cell) -> Result<(), AllocError>
 }
 
 /// The text of a stack's cells, from the bottom up, by which the same lowest cells are recognized.
-#[derive(Drop)]
 pub(crate) struct StackText {
     /// The texts of the cells, one after the other.
     pub(crate) cells: Vec<u8>,
     /// Where the text of each of them ends.
     pub(crate) ends: Vec<usize>,
+}
+
+// Written out, so that who holds a stack's text proves in one step that its memory is given back.
+impl Drop for StackText {
+    fn drop(self) {
+        let StackText { cells, ends } = self;
+        drop(cells);
+        drop(ends);
+    }
 }
 
 impl StackText {

@@ -100,12 +100,27 @@ fn set_rest(
 
 /// The state that was read last, and the lists of which it was made. The next state and its lists
 /// reuse their memory.
-#[derive(Drop)]
 pub(crate) struct LastState {
     state: State,
     stack: LastStack,
     functions: Functions,
     storage: Vec<(u16, i32)>,
+}
+
+// Written out, so that who holds a state that was read proves in one step that its memory is given back.
+impl Drop for LastState {
+    fn drop(self) {
+        let LastState {
+            state,
+            stack,
+            functions,
+            storage,
+        } = self;
+        drop(state);
+        drop(stack);
+        drop(functions);
+        drop(storage);
+    }
 }
 
 impl LastState {

@@ -37,12 +37,20 @@ const ROOM: usize = 16_384;
 const FEWER: usize = 8;
 
 /// The texts of a state's lists, kept for the next state.
-#[derive(Drop)]
 struct KeptTexts {
     /// How many functions there are, and then each of them.
     functions: Vec<u8>,
     /// The cells of the stack.
     stack: StackText,
+}
+
+// Written out, so that who holds texts proves in one step that its memory is given back.
+impl Drop for KeptTexts {
+    fn drop(self) {
+        let KeptTexts { functions, stack } = self;
+        drop(functions);
+        drop(stack);
+    }
 }
 
 /// Appends the kind of a program, and its glyph.

@@ -57,12 +57,19 @@ fn read_all(alloc: Global, bytes: &[u8]) -> Result<Reading, CodeFault>
 
 /// A program: its bytes, where its instructions start, and their structure. Contracts see the list
 /// of its instructions.
-#[derive(Drop)]
 pub struct Program<'a> {
     /// The bytes of the program.
     bytes: &'a [u8],
     /// A slot for each byte.
     slots: Vec<Slot>,
+}
+
+// Written out, so that who holds a program proves in one step that its memory is given back.
+impl<'a> Drop for Program<'a> {
+    fn drop(self) {
+        let Program { bytes: _, slots } = self;
+        drop(slots);
+    }
 }
 
 impl<'a> Model for Program<'a> {

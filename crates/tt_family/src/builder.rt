@@ -33,7 +33,6 @@ const MOST_CONTEXTS: u32 = 65_535;
 /// A family of states that grows. A context is a list of calls that haven't returned; contexts have
 /// numbers in the order in which they were added, and the empty one is number 0. A point is a
 /// context and an offset.
-#[derive(Drop)]
 pub struct Builder {
     /// The contexts except for the empty one, each with its parent's number and its last frame.
     entries: Vec<(u32, Frame)>,
@@ -41,6 +40,20 @@ pub struct Builder {
     index: BTreeMap<ContextKey, u32>,
     /// The states by context and offset.
     states: StateStore,
+}
+
+// Written out, so that who holds a builder proves in one step that its memory is given back.
+impl Drop for Builder {
+    fn drop(self) {
+        let Builder {
+            entries,
+            index,
+            states,
+        } = self;
+        drop(entries);
+        drop(index);
+        drop(states);
+    }
 }
 
 impl Model for Builder {

@@ -21,9 +21,16 @@ use tt_code::Frame;
 
 /// A family of states whose contexts have their numbers in order: the empty one is number 0, and
 /// the others ascend by parent, call, body, turn and count.
-#[derive(Drop)]
 pub struct Certificate {
     builder: Builder,
+}
+
+// Written out, so that who holds a certificate proves in one step that its memory is given back.
+impl Drop for Certificate {
+    fn drop(self) {
+        let Certificate { builder } = self;
+        drop(builder);
+    }
 }
 
 impl Model for Certificate {
@@ -153,7 +160,7 @@ impl Certificate {
         ensures states { result.states ≡ [] }
         ensures family { IsFamily result }
     {
-        let mut builder = self.builder;
+        let Certificate { mut builder } = self;
         builder.clear();
         builder
     }

@@ -19,7 +19,6 @@ pub type PointKey = (u32, u32);
 
 /// The slots of points by context and offset. Within a context the points are mostly inserted by
 /// ascending offset: those are in a list, and the others in a tree.
-#[derive(Drop)]
 pub(crate) struct SlotIndex {
     /// For each context the points that were inserted when it had only smaller offsets.
     lists: Vec<OffsetList>,
@@ -30,6 +29,20 @@ pub(crate) struct SlotIndex {
     rest: BTreeMap<PointKey, u32>,
     /// How many points there are.
     count: u32,
+}
+
+// Written out, so that who holds an index proves in one step that its memory is given back.
+impl Drop for SlotIndex {
+    fn drop(self) {
+        let SlotIndex {
+            lists,
+            used: _,
+            rest,
+            count: _,
+        } = self;
+        drop(lists);
+        drop(rest);
+    }
 }
 
 impl Model for SlotIndex {

@@ -24,12 +24,20 @@ use tt_abs::{Order, State};
 const MOST_STATES: u32 = 4_294_967_295;
 
 /// States by context and offset, in slots that are reused.
-#[derive(Drop)]
 pub(crate) struct StateStore {
     /// The slot of each point. The points have the first slots, one each.
     index: SlotIndex,
     /// The states in the slots. Those after the slots of the points are kept only for their memory.
     slots: Vec<State>,
+}
+
+// Written out, so that who holds states proves in one step that its memory is given back.
+impl Drop for StateStore {
+    fn drop(self) {
+        let StateStore { index, slots } = self;
+        drop(index);
+        drop(slots);
+    }
 }
 
 impl Model for StateStore {

@@ -38,13 +38,32 @@ pub struct Found {
 }
 
 /// What a search with a state at each point came to.
-#[derive(Drop)]
 pub struct Explored {
     /// The family that was found: all of it where there is no fault, otherwise what the search had
     /// found when it came to the fault, and no count of updates.
     pub found: Found,
     /// Why the program is refused, if it is.
     pub fault: Option<Refusal>,
+}
+
+// Written out, so that who holds what was explored proves in one step that its memory is given back.
+impl Drop for Explored {
+    fn drop(self) {
+        let Explored { found, fault } = self;
+        drop(found);
+        drop(fault);
+    }
+}
+
+impl Explored {
+    /// Returns the fault to which the search came, if it came to one.
+    pub fn into_fault(self) -> Option<Refusal>
+        ensures { result ≡ self.fault }
+    {
+        let Explored { found, fault } = self;
+        drop(found);
+        fault
+    }
 }
 
 /// At which points the solver keeps the states that come there.
@@ -245,13 +264,26 @@ fn take_emptied(alloc: Global, builder: &mut Builder) -> Builder
 
 /// A finder, whose memory one program after another uses. It keeps the family that its last search
 /// found, which it lends, until the next search takes the memory.
-#[derive(Drop)]
 pub struct Finder {
     solver: Solver,
     /// A builder in whose memory a family is made anew.
     memory: Builder,
     /// What the last search found, if it found a family.
     found: Option<Found>,
+}
+
+// Written out, so that who holds a finder proves in one step that its memory is given back.
+impl Drop for Finder {
+    fn drop(self) {
+        let Finder {
+            solver,
+            memory,
+            found,
+        } = self;
+        drop(solver);
+        drop(memory);
+        drop(found);
+    }
 }
 
 impl Finder {
@@ -283,7 +315,14 @@ impl Finder {
     pub fn into_found(self) -> Option<Found>
         ensures { result ≡ self.found }
     {
-        self.found
+        let Finder {
+            solver,
+            memory,
+            found,
+        } = self;
+        drop(solver);
+        drop(memory);
+        found
     }
 
     /// Takes the memory of what the last search found for the next one.

@@ -20,13 +20,27 @@ pub(crate) enum Mark {
 /// At which offsets of the three programs states are kept: those at which ways meet. They are found
 /// while states are carried on, and are remembered for the next program, which may call the same
 /// functions. States are also kept at each offset after the end of a list.
-#[derive(Drop)]
 pub(crate) struct OffsetMarks {
     /// Whether states are kept at all offsets, whatever the lists say.
     pub everywhere: bool,
     main: Vec<Mark>,
     font: Vec<Mark>,
     prep: Vec<Mark>,
+}
+
+// Written out, so that who holds marks proves in one step that its memory is given back.
+impl Drop for OffsetMarks {
+    fn drop(self) {
+        let OffsetMarks {
+            everywhere: _,
+            main,
+            font,
+            prep,
+        } = self;
+        drop(main);
+        drop(font);
+        drop(prep);
+    }
 }
 
 /// Returns the mark at an offset.

@@ -20,7 +20,6 @@ use tt_family::{Builder, JoinFault, Joined, PointKey};
 
 /// The family so far. Its states are kept at the points where ways meet; those in between are made
 /// again each time that a state is carried on there.
-#[derive(Drop)]
 pub(crate) struct Solver {
     /// The states that are kept.
     pub builder: Builder,
@@ -34,6 +33,24 @@ pub(crate) struct Solver {
     pub changes: u64,
     /// How often a state passed over a point without being kept.
     pub passes: u64,
+}
+
+// Written out, so that who holds a solver proves in one step that its memory is given back.
+impl Drop for Solver {
+    fn drop(self) {
+        let Solver {
+            builder,
+            worklist,
+            spare,
+            marks,
+            changes: _,
+            passes: _,
+        } = self;
+        drop(builder);
+        drop(worklist);
+        drop(spare);
+        drop(marks);
+    }
 }
 
 /// Returns the fault that names a point and this reason.

@@ -15,7 +15,6 @@ use tt_family::{Builder, Joined, PointKey};
 
 /// Where the finder is: a context and its calls, the outermost first, and the state that is carried
 /// on, always in the same memory.
-#[derive(Drop)]
 pub(crate) struct Walk {
     pub context: u32,
     pub frames: Vec<Frame>,
@@ -24,6 +23,22 @@ pub(crate) struct Walk {
     pub state: State,
     /// A point that is known to have this state, as its context's number and its offset.
     pub known: Option<PointKey>,
+}
+
+// Written out, so that who holds a walk proves in one step that its memory is given back.
+impl Drop for Walk {
+    fn drop(self) {
+        let Walk {
+            context: _,
+            frames,
+            spot: _,
+            state,
+            known,
+        } = self;
+        drop(frames);
+        drop(state);
+        drop(known);
+    }
 }
 
 impl Walk {

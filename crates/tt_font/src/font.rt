@@ -45,7 +45,7 @@ fn read_glyphs<'a>(
 
 /// A font file, read: the limits of its programs, and its programs as slices of the file (OpenType
 /// specification, "Font tables").
-#[derive(Debug, Drop)]
+#[derive(Debug)]
 pub struct Font<'a> {
     /// What the font allows its programs.
     limits: Limits,
@@ -59,6 +59,21 @@ pub struct Font<'a> {
     glyphs: Vec<GlyphPart<'a>>,
     /// How often a component was read, one that was read again counted again.
     component_reads: u64,
+}
+
+// Written out, so that who holds a font proves in one step that its memory is given back.
+impl<'a> Drop for Font<'a> {
+    fn drop(self) {
+        let Font {
+            limits: _,
+            cvt_count: _,
+            fpgm: _,
+            prep: _,
+            glyphs,
+            component_reads: _,
+        } = self;
+        drop(glyphs);
+    }
 }
 
 impl<'a> Model for Font<'a> {

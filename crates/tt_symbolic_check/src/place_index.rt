@@ -53,7 +53,6 @@ struct Group {
 }
 
 /// Which listed states are at a place, as chains of their numbers.
-#[derive(Drop)]
 pub struct PlaceIndex {
     /// Whether states are listed at offsets, modulo the number of marks.
     marks: Vec<bool>,
@@ -63,6 +62,22 @@ pub struct PlaceIndex {
     heads: HashMap<u64, usize>,
     /// The number after each number in its chain.
     next: Vec<usize>,
+}
+
+// Written out, so that who holds an index proves in one step that its memory is given back.
+impl Drop for PlaceIndex {
+    fn drop(self) {
+        let PlaceIndex {
+            marks,
+            groups,
+            heads,
+            next,
+        } = self;
+        drop(marks);
+        drop(groups);
+        drop(heads);
+        drop(next);
+    }
 }
 
 /// Returns a hash of a number after others.

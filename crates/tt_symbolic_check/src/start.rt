@@ -12,7 +12,6 @@ use tt_symbolic_state::stack::Stack;
 use tt_symbolic_state::state::{State, Zone};
 
 /// What is known of the memory and the functions with which a program starts, up to symbols.
-#[derive(Drop)]
 pub struct Start {
     /// The storage area: what isn't listed is any number.
     pub storage: SortedMap<Cell>,
@@ -22,6 +21,22 @@ pub struct Start {
     pub functions: SortedMap<u32>,
     /// The range of each symbol.
     pub ranges: Vec<Range>,
+}
+
+// Written out, so that who holds a start proves in one step that its memory is given back.
+impl Drop for Start {
+    fn drop(self) {
+        let Start {
+            storage,
+            controls,
+            functions,
+            ranges,
+        } = self;
+        drop(storage);
+        drop(controls);
+        drop(functions);
+        drop(ranges);
+    }
 }
 
 impl Start {

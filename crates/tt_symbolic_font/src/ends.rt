@@ -14,12 +14,20 @@ use tt_symbolic_check::{CheckRefusal, Effort, Start, check, has_functions};
 use tt_symbolic_state::State;
 
 /// What is known at the end of a font program or a CVT program.
-#[derive(Drop)]
 pub struct Ends {
     /// States that show together each machine that comes to the end.
     pub states: Vec<State>,
     /// The functions that all of these have, with their bodies.
     pub functions: SortedMap<u32>,
+}
+
+// Written out, so that who holds ends proves in one step that its memory is given back.
+impl Drop for Ends {
+    fn drop(self) {
+        let Ends { states, functions } = self;
+        drop(states);
+        drop(functions);
+    }
 }
 
 /// Makes the start with these functions, and any memory.

@@ -17,7 +17,6 @@ use tt_symbolic_check::{CheckRefusal, Effort, Start, check, has_functions};
 use tt_symbolic_state::{Cell, State};
 
 /// With what glyph programs start, and which memory entries none of them writes.
-#[derive(Drop)]
 pub struct GlyphStarts {
     /// What is known of the memory and the functions, in each of these ways.
     pub starts: Vec<Start>,
@@ -25,6 +24,20 @@ pub struct GlyphStarts {
     pub storage: Vec<u16>,
     /// The indexes of the control values that one of the starts lists.
     pub controls: Vec<u16>,
+}
+
+// Written out, so that who holds starts proves in one step that its memory is given back.
+impl Drop for GlyphStarts {
+    fn drop(self) {
+        let GlyphStarts {
+            starts,
+            storage,
+            controls,
+        } = self;
+        drop(starts);
+        drop(storage);
+        drop(controls);
+    }
 }
 
 /// Makes the start after an end, with these functions.

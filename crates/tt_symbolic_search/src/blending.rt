@@ -20,7 +20,6 @@ const MOST_STRIDE: u64 = 1 << 20;
 const MOST_DIVISIONS: u32 = 100;
 
 /// What the merges of a run know of one another.
-#[derive(Drop)]
 pub(crate) struct Merges {
     /// The origins of symbols.
     pub origins: Origins,
@@ -28,6 +27,20 @@ pub(crate) struct Merges {
     pub dropped: HashMap<Part, OriginNumber>,
     /// The thresholds of widening.
     pub thresholds: Vec<i64>,
+}
+
+// Written out, so that who holds merges proves in one step that its memory is given back.
+impl Drop for Merges {
+    fn drop(self) {
+        let Merges {
+            origins,
+            dropped,
+            thresholds,
+        } = self;
+        drop(origins);
+        drop(dropped);
+        drop(thresholds);
+    }
 }
 
 impl Merges {

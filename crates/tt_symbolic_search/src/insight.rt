@@ -70,7 +70,6 @@ impl KnownState {
 
 /// What the search tells of a program: of its last trial, the one that found something, or whose
 /// refusal it answered.
-#[derive(Drop)]
 pub struct Insight {
     /// How many steps it made.
     pub steps: u64,
@@ -86,4 +85,21 @@ pub struct Insight {
     pub seen: Vec<KnownState>,
     /// Whether more states came there.
     pub has_more: bool,
+}
+
+// Written out, so that who holds an insight proves in one step that its memory is given back.
+impl Drop for Insight {
+    fn drop(self) {
+        let Insight {
+            steps: _,
+            depth: _,
+            listed: _,
+            checked: _,
+            refused,
+            seen,
+            has_more: _,
+        } = self;
+        drop(refused);
+        drop(seen);
+    }
 }

@@ -5,11 +5,20 @@ use tt_abs::{Setting, Spot};
 use tt_symbolic_check::Place;
 
 /// For each offset of the three programs whether states are listed there.
-#[derive(Drop)]
 pub(crate) struct Marks {
     main: Vec<bool>,
     font: Vec<bool>,
     prep: Vec<bool>,
+}
+
+// Written out, so that who holds marks proves in one step that its memory is given back.
+impl Drop for Marks {
+    fn drop(self) {
+        let Marks { main, font, prep } = self;
+        drop(main);
+        drop(font);
+        drop(prep);
+    }
 }
 
 /// Makes a list of no marks.

@@ -53,7 +53,6 @@ struct Origin {
 }
 
 /// All origins of the symbols of a run.
-#[derive(Drop)]
 pub(crate) struct Origins {
     /// The origins, by their numbers.
     list: Vec<Origin>,
@@ -61,6 +60,20 @@ pub(crate) struct Origins {
     numbers: HashMap<Origin, OriginNumber>,
     /// What is noted to explain a refusal; nothing where none is to be explained.
     notes: Option<Notes>,
+}
+
+// Written out, so that who holds origins proves in one step that its memory is given back.
+impl Drop for Origins {
+    fn drop(self) {
+        let Origins {
+            list,
+            numbers,
+            notes,
+        } = self;
+        drop(list);
+        drop(numbers);
+        drop(notes);
+    }
 }
 
 /// Which merges are looked for.

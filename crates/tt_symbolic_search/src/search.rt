@@ -38,7 +38,6 @@ const MORE_CHECKED: u64 = 10_000;
 const STARTS_BOUND: u64 = 1 << 20;
 
 /// What was found for a program.
-#[derive(Drop)]
 pub struct Found {
     /// The listed states by which the program is to be checked.
     pub listed: Vec<State>,
@@ -46,8 +45,15 @@ pub struct Found {
     pub effort: Effort,
 }
 
+// Written out, so that who holds what was found proves in one step that its memory is given back.
+impl Drop for Found {
+    fn drop(self) {
+        let Found { listed, effort: _ } = self;
+        drop(listed);
+    }
+}
+
 /// The search of a font.
-#[derive(Drop)]
 pub struct Search {
     alloc: Global,
     /// What the merges know.
@@ -64,6 +70,28 @@ pub struct Search {
     question: Option<Question>,
     /// What is told of the last trial to explain its answer.
     insight: Option<Insight>,
+}
+
+// Written out, so that who holds a search proves in one step that its memory is given back.
+impl Drop for Search {
+    fn drop(self) {
+        let Search {
+            alloc,
+            merges,
+            apart,
+            writes,
+            widest: _,
+            steps: _,
+            question,
+            insight,
+        } = self;
+        drop(alloc);
+        drop(merges);
+        drop(apart);
+        drop(writes);
+        drop(question);
+        drop(insight);
+    }
 }
 
 /// What is searched for a program.

@@ -22,7 +22,6 @@ const MOST_TAKEN: usize = 6;
 const MOST_COUNTED: i64 = 300;
 
 /// What a state was before a step, as far as a refusal is explained by it.
-#[derive(Drop)]
 pub(crate) struct Before {
     /// The elements that the instruction may have taken, the top last.
     pub taken: Vec<Cell>,
@@ -32,6 +31,21 @@ pub(crate) struct Before {
     pub left: Option<Cell>,
     /// What the instruction does.
     pub effect: &'static Effect,
+}
+
+// Written out, so that who holds what was there before proves in one step that its memory is given back.
+impl Drop for Before {
+    fn drop(self) {
+        let Before {
+            taken,
+            graphics,
+            left,
+            effect: _,
+        } = self;
+        drop(taken);
+        drop(graphics);
+        drop(left);
+    }
 }
 
 /// Returns a count that a cell is, if it isn't too great.

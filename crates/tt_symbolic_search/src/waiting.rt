@@ -12,10 +12,18 @@ struct Waiter {
 }
 
 /// The items that wait. The first is kept apart.
-#[derive(Drop)]
 pub(crate) struct Waiting {
     first: Option<Waiter>,
     rest: BTreeSet<Waiter>,
+}
+
+// Written out, so that who holds what waits proves in one step that its memory is given back.
+impl Drop for Waiting {
+    fn drop(self) {
+        let Waiting { first, rest } = self;
+        drop(first);
+        drop(rest);
+    }
 }
 
 impl Waiting {

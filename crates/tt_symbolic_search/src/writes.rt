@@ -7,12 +7,20 @@ use tt_symbolic::kept::{Kept, keeps};
 use tt_symbolic_state::State;
 
 /// The memory entries that glyph programs write.
-#[derive(Drop)]
 pub(crate) struct Writes {
     /// Indexes of storage cells.
     pub storage: Vec<u16>,
     /// Indexes of control values.
     pub controls: Vec<u16>,
+}
+
+// Written out, so that who holds writes proves in one step that its memory is given back.
+impl Drop for Writes {
+    fn drop(self) {
+        let Writes { storage, controls } = self;
+        drop(storage);
+        drop(controls);
+    }
 }
 
 /// Whether an instruction of this code may write memory: WS, WCVTP, WCVTF, DELTAC1 to DELTAC3.

@@ -52,10 +52,20 @@ fn told_by_writing(written: Result<(), EncodeFault>) -> Told {
 }
 
 /// A section as it was read.
-#[derive(Drop)]
 pub struct Section {
     pub name: Name,
     pub certificate: Certificate,
+}
+
+// Written out, so that who holds a section proves in one step that its memory is given back.
+impl Drop for Section {
+    fn drop(self) {
+        let Section {
+            name: _,
+            certificate,
+        } = self;
+        drop(certificate);
+    }
 }
 
 /// Returns the section that these bytes begin with, if they do, and what was told.
