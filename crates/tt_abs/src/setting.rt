@@ -11,13 +11,13 @@ ghost use Rattle.tt_abs.specs.Ranges.{IsSettingInRange};
 ghost use Rattle.tt_abs.specs.Settings.{frames_of, programs_of, setting_of};
 ghost use Rattle.tt_abs.specs.Spots.{spot_of};
 ghost use Rattle.tt_abs.specs.StateFlow.{AreProgramsShort};
-ghost use Rattle.tt_abs.specs.Transfers.{is_below_in, is_point_in};
+ghost use Rattle.tt_abs.specs.Transfers.{instruction_of, is_below_in, is_point_in};
 
 use crate::cells::{Cell, ZoneCell};
 use crate::registers::pointer;
 use crate::spot::Spot;
 use tt_code::kinds::Within;
-use tt_code::{Body, Frame, Graphics, Limits, Program};
+use tt_code::{Body, Frame, Graphics, Instr, Limits, Program};
 
 /// How many phantom points a glyph has, besides its own points (OpenType specification, "Phantom
 /// points").
@@ -333,6 +333,19 @@ impl<'a> Setting<'a> {
         match self.program(point).body_at(offset) {
             Some(body) => is_same_body(body_of(point), body),
             None => false,
+        }
+    }
+
+    /// Returns the instruction that starts at the point, if one of the point's body does.
+    pub fn instruction(&self, point: &Point<'_>) -> Option<Instr<'a>>
+        ensures { result ≡ instruction_of (setting_of self.now) (frames_of point.now)
+            point.now.offset }
+    {
+        let (instr, body) = self.program(point).found_at(point.offset)?;
+        if is_same_body(body_of(point), body) {
+            Some(instr)
+        } else {
+            None
         }
     }
 

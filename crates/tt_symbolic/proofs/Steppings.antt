@@ -1,5 +1,5 @@
 -- An instruction by its code, at its place.
-use Rattle.std.proofs.Common.{◌≡◌, ℕ, suc, ◌+◌, ◌≤◌, ℤ, List, [], ◌∷◌, Ok, Option, Some, Bool, true, false, nat_eq, nat_le, refl, sym, ◌∙◌, ap, subst, arith, length}
+use Rattle.std.proofs.Common.{◌≡◌, ℕ, suc, ◌+◌, ◌≤◌, ℤ, List, [], ◌∷◌, Ok, None, Option, Some, ◌×◌, Bool, true, false, nat_eq, nat_le, refl, sym, ◌∙◌, ap, subst, arith, length}
 use Rattle.std.proofs.lemmas.Bool.{eqb-true, leb-false}
 use Rattle.std.proofs.lemmas.List.{length-map}
 use Rattle.tt_code.specs.Refusals.{Tested, ◌>>=◌}
@@ -14,6 +14,8 @@ use Rattle.tt_code.specs.Runs.{Choices, does, fetched, goes_on, outcome, perform
 use Rattle.tt_abs.specs.declared.setting.Setting.{Setting}
 use Rattle.tt_abs.specs.declared.setting.Point.{Point}
 use Rattle.tt_abs.specs.Settings.{frames_of, setting_of}
+use Rattle.tt_abs.specs.Transfers.{instruction_of}
+use Rattle.tt_code.specs.declared.machine.Frame.{Frame}
 use Rattle.tt_code.specs.declared.kinds.Push.{Push}
 use Rattle.tt_code.specs.declared.kinds.StackOp.{StackOp}
 use Rattle.tt_code.specs.declared.kinds.Control.{Control}
@@ -120,6 +122,14 @@ le_true a b h = go (nat_le a b) refl
     go : (x : Bool) → nat_le a b ≡ x → x ≡ true
     go true e = refl
     go false e = let w = leb-false a b e in absurd (omega arith)
+
+-- the instruction that starts at a place
+pub starting : (s : MachineSetting) (fs : List Frame) (at : ℕ) (i : Instruction) → instruction_of s fs at ≡ Some i → (starts_in_body s fs at ≡ true) × (instruction_at (program_of s fs) at ≡ Some i)
+starting s fs at i e = go (starts_in_body s fs at) refl
+  where
+    go : (b : Bool) → starts_in_body s fs at ≡ b → (starts_in_body s fs at ≡ true) × (instruction_at (program_of s fs) at ≡ Some i)
+    go true t = (t, rw t at e)
+    go false t = let f : None ≡ Some i = rw t at e in absurd (cc)
 
 -- the instruction that is there
 pub there : (setting : Setting) (point : Point) (v : Valuation) (a : State) (i : Instruction) (m : Machine) (controls : ℕ → ℤ) → IsAt point a → starts_in_body (setting_of setting) (frames_of point) point.offset ≡ true → instruction_at (program_of (setting_of setting) (frames_of point)) point.offset ≡ Some i

@@ -1,20 +1,23 @@
 //! Memory entries that a program may not write.
 
-ghost use Rattle.std.specs.Prelude.{◌≡◌, true, false};
+ghost use Rattle.std.specs.Prelude.{◌≡◌, OnOk, Some, true, false};
 ghost use Rattle.std.specs.List.{All};
+ghost use Rattle.tt_abs.specs.Moves.{point_instruction};
 ghost use Rattle.tt_abs.specs.Settings.{setting_of};
 ghost use Rattle.tt_symbolic.specs.Representation.Areas.{IsOutside};
 ghost use Rattle.tt_symbolic.specs.Representation.Keeping.{AreAllPairsNoneOf, ArePairsNoneOf, IsNoStore, IsNoneOf, IsPairNoneOf, IsSecondNoneOf, KeepsControls, KeepsStorage, StoresNothing};
 ghost use Rattle.tt_symbolic.specs.Kept.{StepsKeep};
 ghost use Rattle.tt_symbolic.specs.Representation.Leading.{IsAt};
+ghost use Rattle.tt_symbolic.specs.Steps.{StepsTo};
 
 use crate::changes::index_bounds;
 use crate::refined::pair_count;
-use crate::step::{frame_of, innermost, is_ordinary};
+use crate::step::{frame_of, innermost, is_ordinary, perform};
 use tt_abs::{Point, Setting};
-use tt_code::entry;
 use tt_code::kinds::{Effect, Update};
+use tt_code::{Instr, Reason, entry};
 use tt_symbolic_cells::cell_under;
+use tt_symbolic_state::StepRefusal;
 use tt_symbolic_state::cell::{Cell, Range};
 use tt_symbolic_state::state::State;
 
@@ -165,22 +168,34 @@ fn keeps_storage(numbers: &[u16], state: &State, code: u8) -> bool
     }
 }
 
-/// Whether the instruction at the state's point writes none of the kept entries.
-fn keeps_at(setting: &Setting<'_>, point: &Point<'_>, state: &State, kept: &Kept<'_>) -> bool
-    requires { IsAt point.now state.now }
+/// Whether the instruction that starts at the state's point writes none of the kept entries.
+fn keeps_by(
+    setting: &Setting<'_>,
+    point: &Point<'_>,
+    state: &State,
+    kept: &Kept<'_>,
+    instr: &Instr<'_>,
+) -> bool
+    requires place { IsAt point.now state.now }
+    requires there { point_instruction setting.now point.now ≡ Some instr.now }
     ensures { result ≡ true → StepsKeep (setting_of setting.now) kept.now state.now }
 {
-    if !setting.starts(point, point.offset) {
-        return false;
-    }
-    let Some(instr) = setting.program(point).at(point.offset) else {
-        return false;
-    };
     let code = instr.code();
     if !keeps_storage(kept.storage, state, code) {
         return false;
     }
     keeps_controls(kept.controls, state, code)
+}
+
+/// Whether an instruction starts at the state's point, and writes none of the kept entries.
+fn keeps_at(setting: &Setting<'_>, point: &Point<'_>, state: &State, kept: &Kept<'_>) -> bool
+    requires { IsAt point.now state.now }
+    ensures { result ≡ true → StepsKeep (setting_of setting.now) kept.now state.now }
+{
+    match setting.instruction(point) {
+        Some(instr) => keeps_by(setting, point, state, kept, &instr),
+        None => false,
+    }
 }
 
 /// Whether the instruction where the state is writes none of the kept entries.
@@ -203,6 +218,64 @@ pub fn keeps(setting: &Setting<'_>, state: &State, kept: &Kept<'_>) -> bool
                 offset,
             };
             keeps_at(setting, &point, state, kept)
+        }
+    }
+}
+
+/// Carries out the instruction at the state's point, if one starts there and it writes none of the
+/// kept entries.
+fn step_keeping_at(
+    setting: &Setting<'_>,
+    point: &Point<'_>,
+    kept: &Kept<'_>,
+    state: &mut State,
+) -> Result<(), StepRefusal>
+    requires { IsAt point.now state.old }
+    ensures steps { OnOk result (StepsTo setting.now state.old state.new) }
+    ensures keeps { OnOk result (StepsKeep (setting_of setting.now) kept.now state.old) }
+{
+    let Some(instr) = setting.instruction(point) else {
+        return Err(StepRefusal::Refused(Reason::Target));
+    };
+    let keeps_entries = keeps_by(setting, point, state, kept, &instr);
+    perform(setting, point, state, &instr)?;
+    if keeps_entries {
+        Ok(())
+    } else {
+        Err(StepRefusal::KeptEntry)
+    }
+}
+
+/// Carries out the instruction where the state is, as `step` does, if it writes none of the kept
+/// entries: both by one look-up of the instruction. After a refusal the state's content is
+/// unspecified.
+///
+/// # Errors
+/// As `step`, and `KeptEntry` where `step` doesn't refuse and a kept entry may be written.
+pub fn step_keeping(
+    setting: &Setting<'_>,
+    kept: &Kept<'_>,
+    state: &mut State,
+) -> Result<(), StepRefusal>
+    ensures steps { OnOk result (StepsTo setting.now state.old state.new) }
+    ensures keeps { OnOk result (StepsKeep (setting_of setting.now) kept.now state.old) }
+{
+    let offset = state.offset;
+    match innermost(state) {
+        None => {
+            let point = Point {
+                frames: &[],
+                offset,
+            };
+            step_keeping_at(setting, &point, kept, state)
+        }
+        Some(call) => {
+            let frames = [frame_of(call)];
+            let point = Point {
+                frames: &frames,
+                offset,
+            };
+            step_keeping_at(setting, &point, kept, state)
         }
     }
 }

@@ -2,6 +2,7 @@
 
 ghost use Rattle.std.specs.Prelude.{◌≡◌, OnOk, Some, true, ℕ};
 ghost use Rattle.tt_code.specs.Cut.{code_of};
+ghost use Rattle.tt_abs.specs.Moves.{point_instruction};
 ghost use Rattle.tt_abs.specs.Settings.{setting_of};
 ghost use Rattle.tt_symbolic_state.specs.CvtMachine.{ChangesControls, Ordinary, refinement_of};
 ghost use Rattle.tt_symbolic.specs.Representation.Leading.{IsAt, IsInnermost};
@@ -164,23 +165,34 @@ pub(crate) fn innermost(state: &State) -> Option<OpenCall>
     }
 }
 
-/// Carries out the instruction at the state's point.
-fn step_at(setting: &Setting<'_>, point: &Point<'_>, state: &mut State) -> Result<(), StepRefusal>
-    requires { IsAt point.now state.old }
+/// Carries out the instruction that starts at the state's point.
+pub(crate) fn perform(
+    setting: &Setting<'_>,
+    point: &Point<'_>,
+    state: &mut State,
+    instr: &Instr<'_>,
+) -> Result<(), StepRefusal>
+    requires place { IsAt point.now state.old }
+    requires there { point_instruction setting.now point.now ≡ Some instr.now }
     ensures { OnOk result (StepsTo setting.now state.old state.new) }
 {
-    if !setting.starts(point, point.offset) {
-        return Err(StepRefusal::Refused(Reason::Target));
-    }
-    let Some(instr) = setting.program(point).at(point.offset) else {
-        return Err(StepRefusal::Refused(Reason::Target));
-    };
     prove!(u32::from(instr.code()) < 256);
-    dispatch(setting, point, state, &instr)?;
+    dispatch(setting, point, state, instr)?;
     if state.stack.len() > usize::from(setting.limits.stack) {
         return Err(StepRefusal::Refused(Reason::Overflow));
     }
     Ok(())
+}
+
+/// Carries out the instruction at the state's point, if one starts there.
+fn step_at(setting: &Setting<'_>, point: &Point<'_>, state: &mut State) -> Result<(), StepRefusal>
+    requires { IsAt point.now state.old }
+    ensures { OnOk result (StepsTo setting.now state.old state.new) }
+{
+    match setting.instruction(point) {
+        Some(instr) => perform(setting, point, state, &instr),
+        None => Err(StepRefusal::Refused(Reason::Target)),
+    }
 }
 
 /// Carries out the instruction where the state is, if one of its body starts there. After a refusal

@@ -1,8 +1,6 @@
 //! Which splits an instruction wants. Each split is right, so that nothing is promised of these.
 
 use crate::copying::Split;
-use tt_abs::Setting;
-use tt_symbolic::step::code_at;
 use tt_symbolic_state::cell::{Cell, Range, difference};
 use tt_symbolic_state::state::State;
 
@@ -104,12 +102,12 @@ fn at_end_of_body(state: &State) -> Option<Split> {
     }
 }
 
-/// Returns the split that the instruction wants where the state is, if it wants one: IF, JROT,
+/// Returns the split that an instruction of this code wants in the state, if it wants one: IF, JROT,
 /// JROF, comparisons, CALL, LOOPCALL and ENDF want some. A comparison wants one where the range of the
 /// symbol has at most as many numbers as the widest.
-pub fn wanted(setting: &Setting<'_>, state: &State, widest: i64) -> Option<Split> {
+pub fn wanted(code: u8, state: &State, widest: i64) -> Option<Split> {
     let ranges = state.ranges.as_slice();
-    match code_at(setting, state)? {
+    match code {
         // LT and GTEQ
         0x50 | 0x53 => at_bound(compared(state, widest)?, 0, ranges),
         // LTEQ and GT

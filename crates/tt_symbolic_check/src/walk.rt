@@ -11,8 +11,8 @@ use crate::splits::wanted;
 use crate::start::{Start, start_state};
 use std::alloc::{AllocError, Global};
 use tt_abs::{Point, Setting};
-use tt_symbolic::kept::{Kept, keeps};
-use tt_symbolic::step::step;
+use tt_symbolic::kept::{Kept, step_keeping};
+use tt_symbolic::step::code_at;
 use tt_symbolic_state::StepRefusal;
 use tt_symbolic_state::state::State;
 
@@ -205,12 +205,8 @@ fn step_on(
     ensures { OnOk result (Reaches setting.now kept.now listed.now walk.old walk.new
         (λ final. Walks setting.now kept.now listed.now final false state.value)) }
 {
-    let keeps_entries = keeps(setting, &state, kept);
     let mut next = state;
-    step(setting, &mut next)?;
-    if !keeps_entries {
-        return Err(StepRefusal::KeptEntry);
-    }
+    step_keeping(setting, kept, &mut next)?;
     put_pending(walk, next, true)?;
     Ok(())
 }
@@ -229,7 +225,11 @@ fn split_or_step(
     ensures { OnOk result (Reaches setting.now kept.now listed.now walk.old walk.new
         (λ final. Walks setting.now kept.now listed.now final false state.value)) }
 {
-    match wanted(setting, &state, widest) {
+    let split = match code_at(setting, &state) {
+        Some(code) => wanted(code, &state, widest),
+        None => None,
+    };
+    match split {
         Some(split) => {
             split_up(alloc, setting, kept, listed, walk, state, split)?;
             Ok(())

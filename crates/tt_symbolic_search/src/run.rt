@@ -251,10 +251,10 @@ impl Run {
         Ok(None)
     }
 
-    /// Lets the upper parts of the state wait that the next instruction splits off.
-    fn split(&mut self, task: &Task<'_>, track: &mut Track) -> Result<(), AllocError> {
+    /// Lets the upper parts of the state wait that an instruction of this code splits off.
+    fn split(&mut self, task: &Task<'_>, track: &mut Track, code: u8) -> Result<(), AllocError> {
         for _ in 0..MOST_SPLITS {
-            let Some(split) = wanted(task.setting, &track.state, task.widest_compared) else {
+            let Some(split) = wanted(code, &track.state, task.widest_compared) else {
                 return Ok(());
             };
             let origin = track.origins.get(split.symbol as usize).copied();
@@ -416,11 +416,13 @@ impl Run {
         track: &mut Track,
         code: Option<u8>,
     ) -> Result<(), AllocError> {
-        if code.is_some_and(may_split) {
-            self.split(task, track)?;
-            self.tidy(task, track)?;
+        match code {
+            Some(code) if may_split(code) => {
+                self.split(task, track, code)?;
+                self.tidy(task, track)
+            }
+            _ => Ok(()),
         }
-        Ok(())
     }
 
     /// Returns the state that is carried on, or the first that waits.
