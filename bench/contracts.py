@@ -23,7 +23,7 @@ PAGE = TOP / "docs/CONTRACTS.md"
 FIXTURES = ("tt_test_fixtures",)
 
 # The crates of tests that the page names.
-TEST_CRATES = ("tt_tests", "hintcheck_tests")
+TEST_CRATES = ("hintcheck_tests",)
 # The files of cases, which it names `cases/NAME`.
 CASES = TOP / "crates/hintcheck_cases/data"
 

@@ -298,11 +298,22 @@ fn show_end(text: &mut String, family: &Certificate, end: u32) -> Result<()> {
     Ok(())
 }
 
+/// Adds how many cells the stack of a family's state has, if there is one at this point, `1:3`.
+fn show_depth(text: &mut String, family: &Certificate, point: &str) -> Result<()> {
+    let (context, offset) = pair_of(point, ':')?;
+    match family.state(number_of(context)?, number_of(offset)?) {
+        Some(state) => write!(text, " depth {}", state.depth())?,
+        None => text.push_str(" no state")?,
+    }
+    Ok(())
+}
+
 /// Returns the contexts and the points of a family, and what else is asked for.
 fn family_text(
     alloc: Global,
     family: &Certificate,
     calls: Option<&str>,
+    depth: Option<&str>,
     end: Option<&str>,
 ) -> Result<String> {
     let mut text = String::from_str(alloc, "contexts")?;
@@ -316,6 +327,9 @@ fn family_text(
     if let Some(number) = calls {
         show_frames(alloc, &mut text, family, number_of(number)?)?;
     }
+    if let Some(point) = depth {
+        show_depth(&mut text, family, point)?;
+    }
     if let Some(end) = end {
         show_end(&mut text, family, number_of(end)?)?;
     }
@@ -323,10 +337,15 @@ fn family_text(
 }
 
 /// `family FAMILY`: the contexts and the points of a finished family, in its order; with `calls=3`
-/// the calls of context 3, with `end=9` how many functions are known where a program of 9 bytes ends.
+/// the calls of context 3, with `depth=3:7` how many cells the stack of its state at offset 7 has,
+/// with `end=9` how many functions are known where a program of 9 bytes ends.
 pub(crate) fn family(context: &Context<'_>, words: &mut Words<'_>) -> Result<String> {
     let alloc = context.rt.alloc();
-    let (calls, end) = (words.take("calls"), words.take("end"));
+    let (calls, depth, end) = (
+        words.take("calls"),
+        words.take("depth"),
+        words.take("end"),
+    );
     let family = family_of(alloc, words, &[])?;
-    family_text(alloc, &family, calls, end)
+    family_text(alloc, &family, calls, depth, end)
 }
