@@ -1,5 +1,6 @@
 //! Runs the cases in the files that its words name: a case is an input, and the answer to it as
-//! text. Prints each difference, and how many cases there were.
+//! text. Prints each difference, and how many cases there were. Where the first word is `surface`,
+//! it makes each public call once before.
 #![tactic(auto)]
 
 mod calls;
@@ -7,6 +8,7 @@ mod commands;
 mod kinds;
 mod running;
 mod sessions;
+mod surface;
 mod sweeps;
 mod tasks;
 
@@ -32,9 +34,21 @@ fn run_all(rt: &HostRuntime, names: &[String]) -> anyhow::Result<Tally> {
     Ok(all)
 }
 
+/// Makes each public call once, if the first of these words asks for it; returns the names of files,
+/// which are the others.
+fn names_after_calls<'a>(rt: &HostRuntime, words: &'a [String]) -> anyhow::Result<&'a [String]> {
+    match words {
+        [first, names @ ..] if first.as_str() == "surface" => {
+            surface::print_calls(rt)?;
+            Ok(names)
+        }
+        names => Ok(names),
+    }
+}
+
 fn main(rt: HostRuntime) -> anyhow::Result<ExitCode> {
     let words: Vec<String> = env::args(&rt)?.collect(rt.alloc())?;
-    let names = words.get(1..).unwrap_or(&[]);
+    let names = names_after_calls(&rt, words.get(1..).unwrap_or(&[]))?;
     let all = run_all(&rt, names)?;
     Ok(ExitCode::from(u8::from(all.failed > 0)))
 }

@@ -1,6 +1,6 @@
 //! The calls of hintcheck.
 
-use crate::font::FONT;
+use crate::surface::font::FONT;
 use anyhow::Result;
 use hintcheck::{
     Outcome, Place, Profile, ReadFault, Session, Task, TaskFault, Verdict, WordFault, bare,

@@ -1,6 +1,6 @@
 //! The calls of tt_font.
 
-use crate::font::FONT;
+use crate::surface::font::FONT;
 use anyhow::Result;
 use tt_font::{Font, GlyphPart, read_maxp};
 

@@ -1,7 +1,7 @@
 //! The calls of tt_find, and those of tt_cert on families.
 
-use crate::programs::{CALL, LIMITS};
-use crate::states::print_refusal;
+use crate::surface::programs::{CALL, LIMITS};
+use crate::surface::states::print_refusal;
 use anyhow::Result;
 use tt_abs::{Kind, Setting, State};
 use tt_cert::{Builder, Certificate, Spot, check, check_full};

@@ -3,7 +3,7 @@
 ghost use Rattle.std.specs.Prelude.{IfOk};
 ghost use Rattle.tt_abs.specs.States.{state_order};
 
-use crate::programs::LIMITS;
+use crate::surface::programs::LIMITS;
 use anyhow::Result as Answer;
 use tt_abs::{
     Cell, Kind, Move, Order, Point, Refusal, Setting, Spot, State, Successors, ZoneCell, transfer,
