@@ -27,13 +27,19 @@ pub struct Context<'a> {
 
 /// Takes the limits of a `maxp` table that words give, and those of the small fonts for the others.
 fn limits_given(words: &mut Words<'_>) -> Result<Limits> {
+    let storage = words.number("storage", LIMITS.storage)?;
+    let functions = words.number("functions", LIMITS.functions)?;
+    let stack = words.number("stack", LIMITS.stack)?;
+    let program_size = words.number("size", LIMITS.program_size)?;
+    let zones = words.number("zones", LIMITS.zones)?;
+    let twilight = words.number("twilight", LIMITS.twilight)?;
     Ok(Limits {
-        storage: words.number("storage", LIMITS.storage)?,
-        functions: words.number("functions", LIMITS.functions)?,
-        stack: words.number("stack", LIMITS.stack)?,
-        program_size: words.number("size", LIMITS.program_size)?,
-        zones: words.number("zones", LIMITS.zones)?,
-        twilight: words.number("twilight", LIMITS.twilight)?,
+        storage,
+        functions,
+        stack,
+        program_size,
+        zones,
+        twilight,
     })
 }
 
@@ -62,10 +68,14 @@ impl<'a> Context<'a> {
 
     /// Takes the limits that words give, and those of the small fonts for the others.
     fn set_limits(&mut self, words: &mut Words<'a>) -> Result<()> {
-        self.limits = limits_given(words)?;
-        self.cvt = words.number("cvt", 10)?;
-        self.points = words.number("points", 4)?;
-        self.contours = words.number("contours", 1)?;
+        let limits = limits_given(words)?;
+        let cvt = words.number("cvt", 10)?;
+        let points = words.number("points", 4)?;
+        let contours = words.number("contours", 1)?;
+        self.limits = limits;
+        self.cvt = cvt;
+        self.points = points;
+        self.contours = contours;
         Ok(())
     }
 

@@ -341,11 +341,7 @@ fn family_text(
 /// with `end=9` how many functions are known where a program of 9 bytes ends.
 pub(crate) fn family(context: &Context<'_>, words: &mut Words<'_>) -> Result<String> {
     let alloc = context.rt.alloc();
-    let (calls, depth, end) = (
-        words.take("calls"),
-        words.take("depth"),
-        words.take("end"),
-    );
+    let (calls, depth, end) = (words.take("calls"), words.take("depth"), words.take("end"));
     let family = family_of(alloc, words, &[])?;
     family_text(alloc, &family, calls, depth, end)
 }
