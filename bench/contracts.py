@@ -1,7 +1,9 @@
 #!/usr/bin/env python3
 """Compares docs/CONTRACTS.md with the sources.
 
-Usage: bench/contracts.py
+Usage: bench/contracts.py [--write]
+With --write, the columns that follow from the sources are written first: a row's definitions are those that its clauses cite, and its edits
+stand where their files are, those of the gate before the others.
 Each clause that the page names is in the sources; each public function with a contract is named in its crate's table, with all of its clauses,
 and what it asks in the table of what callers must ensure; each row's definitions are those that its clauses cite; and test modules and edits are
 there, and each edit that `rt ci` tries is named. The definitions that the headline's phrases name are there too. What differs is printed, and
@@ -177,15 +179,54 @@ def faults_of_row(crate: str, row: list[str], known: dict[tuple[str, str], Claus
                 yield f"{crate}: there is no edit {edit} in {folder}"
 
 
-def faults_of_section(crate: str, section: str, asked: set[tuple[str, str]]) -> typing.Iterator[str]:
-    """What is wrong in a crate's table, or missing in it and in the table of what callers must ensure."""
-    clauses = clauses_of(crate)
+def table_of(clauses: list[Clause]) -> dict[tuple[str, str], Clause]:
+    """What functions ensure, by function and clause: clauses of one name are one, which cites what each of them does."""
     known: dict[tuple[str, str], Clause] = {}
     for clause in clauses:
         if not clause.asks:
             key = (clause.function, clause.name)
             before = known[key].modules if key in known else frozenset()
             known[key] = clause._replace(modules=clause.modules | before)
+    return known
+
+
+def codes(names: typing.Iterable[str]) -> str:
+    """Names as a cell lists them."""
+    return ", ".join(f"`{name}`" for name in names)
+
+
+def definitions_cell(clauses: str, known: dict[tuple[str, str], Clause], old: str) -> str:
+    """The definitions that a row's clauses cite: in the order of the old cell, where they are the same."""
+    cited = {module for pair in pairs_in(clauses) if pair in known for module in known[pair].modules}
+    return old if cited == set(re.findall(r"`([^`]+)`", old)) else codes(sorted(cited)) or "–"
+
+
+def edits_cell(crate: str, old: str) -> str:
+    """A row's edits: those that the gate tries, then the others that are there."""
+    names = re.findall(r"`(\w+)`", old)
+    in_gate = [name for name in names if (TOP / f"crates/{crate}/must-fail/{name}.edit").exists()]
+    others = [name for name in names if name not in in_gate and (TOP / f"bench/edits/{crate}/{name}.edit").exists()]
+    return "; ".join(filter(None, [codes(in_gate), others and f"*also* {codes(others)}"])) or "–"
+
+
+def write_columns() -> None:
+    """Writes the columns of the crates' tables that follow from the sources."""
+    lines, crate, known = PAGE.read_text().split("\n"), "", {}
+    for at, line in enumerate(lines):
+        cells = line.removeprefix("| ").removesuffix(" |").split(" | ")
+        if line.startswith("## "):
+            crate = line.removeprefix("## ")
+            known = table_of(clauses_of(crate)) if (TOP / "crates" / crate / "src/lib.rt").exists() else {}
+        elif known and len(cells) == 5 and cells[0] != "Promise":
+            cells[2], cells[4] = definitions_cell(cells[1], known, cells[2]), edits_cell(crate, cells[4])
+            lines[at] = f"| {' | '.join(cells)} |"
+    PAGE.write_text("\n".join(lines))
+
+
+def faults_of_section(crate: str, section: str, asked: set[tuple[str, str]]) -> typing.Iterator[str]:
+    """What is wrong in a crate's table, or missing in it and in the table of what callers must ensure."""
+    clauses = clauses_of(crate)
+    known = table_of(clauses)
     rows = rows_of(section)
     named = {pair for row in rows for pair in pairs_in(row[1])}
     for row in rows:
@@ -226,6 +267,8 @@ def faults() -> typing.Iterator[str]:
 
 
 def main() -> int:
+    if sys.argv[1:] == ["--write"]:
+        write_columns()
     found = list(faults())
     for fault in found:
         print(fault)
