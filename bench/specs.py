@@ -17,6 +17,8 @@ import contracts
 TOP = pathlib.Path(__file__).resolve().parent.parent
 PAGE = TOP / "docs/DEFINITIONS.md"
 FOLDER = "Representation"
+# The road through a font, which `explain` goes too, in another crate: its clauses say how the code keeps what is known, and users don't call it.
+SHARED = ("Programs::", "Judge::", "Finding::", "cut")
 IMPORT = re.compile(r"^(?:pub )?use Rattle\.(\w+)\.specs\.((?:Representation\.)?\w+)", re.M)
 
 
@@ -60,6 +62,8 @@ def cited_by_clauses() -> dict[Module, str]:
     cited = {}
     for crate in crates():
         for clause in contracts.clauses_of(crate):
+            if crate == "hintcheck_fonts" and clause.function.startswith(SHARED):
+                continue
             for name in clause.modules:
                 source, _, rest = name.partition(".")
                 known = source in crates()

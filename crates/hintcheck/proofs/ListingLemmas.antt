@@ -14,10 +14,10 @@ use Rattle.tt_cert.specs.declared.name.Name.{Name}
 use Rattle.tt_code.proofs.CutLemmas.{found_is, size-append, some_bytes}
 use Rattle.tt_code.proofs.StructureLaws.{found_iff_stands}
 use Rattle.hintcheck.specs.Listing.{CannotBeListed, IsListedBefore, IsUnlistedAt, TellsUnlisted, hex_digits, line_of, lines_of, no_cut, no_structure, refused_in}
-use Rattle.hintcheck.specs.Programs.{IsCause, IsRefusal, Subject}
-use Rattle.hintcheck.specs.Programs as cause
-use Rattle.hintcheck.specs.Texts.{refused_text}
-use Rattle.hintcheck.specs.declared.report.Refused.{Refused as AnyRefused}
+use Rattle.hintcheck_fonts.specs.Programs.{IsCause, IsRefusal, Subject}
+use Rattle.hintcheck_fonts.specs.Programs as cause
+use Rattle.hintcheck_report.specs.Texts.{refused_text}
+use Rattle.hintcheck_report.specs.declared.refused.Refused.{Refused as AnyRefused}
 
 -- a byte's digits
 

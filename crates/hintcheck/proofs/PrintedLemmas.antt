@@ -10,9 +10,9 @@ use Rattle.hintcheck.specs.Listing.{HoldListedProgram, HoldToldProgram}
 use Rattle.hintcheck.specs.MeansSafe.{IsVerdictAsked}
 use Rattle.hintcheck.specs.Printed.{Prints, PrintsListing, PrintsUpgrade, PrintsVerdict, profile_of}
 use Rattle.hintcheck.specs.Texts.{end_line, refused_line, verdict_text}
-use Rattle.hintcheck.specs.Verdicts.{Judgement}
+use Rattle.hintcheck_fonts.specs.Verdicts.{Judgement}
 use Rattle.hintcheck.specs.declared.commands.faults.CommandFault.{CommandFault}
-use Rattle.hintcheck.specs.declared.report.Refused.{Refused}
+use Rattle.hintcheck_report.specs.declared.refused.Refused.{Refused}
 
 -- a verdict's lines, by what is said of the status and of the lines
 pub prints_verdict : (q : Request) (r : Result ℕ CommandFault) (v : Judgement) (old new : Option (List ℕ)) → IsVerdictAsked q v → IfOk r (λ status. status ≡ 0 → v.refused ≡ [])

@@ -13,9 +13,9 @@ use Rattle.hintcheck.specs.Commands.{status_of}
 use Rattle.hintcheck.specs.MeansSafe.{HoldFailing, HoldPassing, HoldRefusedBy, HoldSafeBy, IsVerdictBy, TellsFonts}
 use Rattle.hintcheck.specs.RefusalClasses.{number_failing, number_of_class}
 use Rattle.hintcheck.specs.Scans.{status_of_failing}
-use Rattle.hintcheck.specs.Verdicts.{Judgement}
+use Rattle.hintcheck_fonts.specs.Verdicts.{Judgement}
 use Rattle.hintcheck.specs.declared.commands.faults.CommandFault.{CommandFault}
-use Rattle.hintcheck.specs.declared.report.Refused.{Refused}
+use Rattle.hintcheck_report.specs.declared.refused.Refused.{Refused}
 
 abbrev Safe : ScanOptions → List ℕ → Type 0
 Safe options font = (bytes : List ℕ) × HoldPassing options.fail_on options.profile bytes

@@ -17,10 +17,10 @@ use Rattle.hintcheck.specs.FaultTexts.{command_fault_text}
 use Rattle.hintcheck.specs.RefusalClasses.{number_of_class}
 use Rattle.hintcheck.specs.Scans.{Answer, IsAnswer, PrintsScan, Scanned, counts_text, greatest_status, judged, left_out_text, line_of, status_of_answer, summary, unread}
 use Rattle.hintcheck.specs.Texts.{profile_text}
-use Rattle.hintcheck.specs.Verdicts.{Judgement}
+use Rattle.hintcheck_fonts.specs.Verdicts.{Judgement}
 use Rattle.hintcheck.specs.declared.commands.faults.CommandFault.{CommandFault}
 use Rattle.hintcheck.specs.declared.commands.faults.CommandFault.TheVariants as fault
-use Rattle.hintcheck.specs.declared.report.Refused.{Refused}
+use Rattle.hintcheck_report.specs.declared.refused.Refused.{Refused}
 
 -- nothing is appended to the same bytes
 pub appends_nothing : (old : Option (List ℕ)) → Appends old old []

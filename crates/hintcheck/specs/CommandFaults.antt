@@ -9,7 +9,7 @@ use Rattle.hintcheck_words.specs.Requests.{Request, bare, check, explain, find, 
 use Rattle.hintcheck_words.specs.declared.words.FailOn.TheVariants.{Unknown}
 use Rattle.hintcheck_words.specs.declared.words.ScanOptions.{ScanOptions}
 use Rattle.hintcheck.specs.Commands.{ReadsToEnd, status_of}
-use Rattle.hintcheck.specs.BarePrograms.{IsMemory}
+use Rattle.hintcheck_fonts.specs.BarePrograms.{IsMemory}
 use Rattle.hintcheck.specs.Explanations.{HoldNoSuchPlace, HoldPlace}
 use Rattle.hintcheck.specs.Listing.{HoldNoSuchProgram}
 use Rattle.hintcheck.specs.declared.commands.faults.CommandFault.{CommandFault}

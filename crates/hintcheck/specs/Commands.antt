@@ -4,14 +4,14 @@ use Rattle.std.specs.Prelude.{◌≡◌, ◌+◌, ℕ, List, Option, IfSome, Res
 use Rattle.std.specs.Io.KnownBytes.{Consumes, IsAtEnd}
 use Rattle.hintcheck.specs.declared.commands.faults.CommandFault.{CommandFault}
 use Rattle.hintcheck.specs.declared.commands.faults.CommandFault.TheVariants as fault
-use Rattle.hintcheck.specs.declared.font_check.CheckFontFault.{CheckFontFault}
-use Rattle.hintcheck.specs.declared.font_check.CheckFontFault.TheVariants as check
-use Rattle.hintcheck.specs.declared.certificate.FindFontFault.{FindFontFault}
-use Rattle.hintcheck.specs.declared.certificate.FindFontFault.TheVariants as find
-use Rattle.hintcheck.specs.declared.font.VerdictFault.{VerdictFault}
-use Rattle.hintcheck.specs.declared.font.VerdictFault.TheVariants as judging
-use Rattle.hintcheck.specs.declared.certificate_upgrade.UpgradeFault.{UpgradeFault}
-use Rattle.hintcheck.specs.declared.certificate_upgrade.UpgradeFault.TheVariants as upgrading
+use Rattle.hintcheck_fonts.specs.declared.font_check.CheckFontFault.{CheckFontFault}
+use Rattle.hintcheck_fonts.specs.declared.font_check.CheckFontFault.TheVariants as check
+use Rattle.hintcheck_fonts.specs.declared.certificate.FindFontFault.{FindFontFault}
+use Rattle.hintcheck_fonts.specs.declared.certificate.FindFontFault.TheVariants as find
+use Rattle.hintcheck_fonts.specs.declared.font.VerdictFault.{VerdictFault}
+use Rattle.hintcheck_fonts.specs.declared.font.VerdictFault.TheVariants as judging
+use Rattle.hintcheck_fonts.specs.declared.certificate_upgrade.UpgradeFault.{UpgradeFault}
+use Rattle.hintcheck_fonts.specs.declared.certificate_upgrade.UpgradeFault.TheVariants as upgrading
 use Rattle.hintcheck_explain.specs.declared.asked.ExplainFault.{ExplainFault}
 use Rattle.hintcheck_explain.specs.declared.asked.ExplainFault.TheVariants as explaining
 use Rattle.tt_stream.specs.declared.text.PrintFailed.{PrintFailed}
@@ -79,7 +79,6 @@ fault_of_verdict judging.Budget = fault.Budget
 -- the fault of a program that isn't explained
 abbrev pub fault_of_explain : ExplainFault → CommandFault
 fault_of_explain (explaining.Write failed) = fault_of_print failed
-fault_of_explain explaining.NoInstruction = fault.OffsetWord
 fault_of_explain (explaining.OutOfMemory error) = fault.OutOfMemory
 
 -- the fault of a certificate that isn't upgraded

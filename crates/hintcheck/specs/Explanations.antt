@@ -1,14 +1,18 @@
 -- One program of a font as it is explained: it is accepted, or it is refused, or one before it is.
-use Rattle.std.specs.Prelude.{◌≡◌, ◌≢◌, ℕ, Bool, true, false, List, [], Option, Some, IfSome, slice_get}
+use Rattle.std.specs.Prelude.{◌≡◌, ◌≢◌, ℕ, List, [], Option, Some, IfSome, slice_get}
 use Rattle.tt_code.specs.Cut.{BeginsWith, Instruction, size}
 use Rattle.tt_cert.specs.Names.{text_of}
 use Rattle.tt_cert.specs.declared.name.Name.{Name}
 use Rattle.tt_cert.specs.declared.name.Name.TheVariants as name
 use Rattle.tt_font.specs.Reading.{FontData, GlyphData, Reads}
-use Rattle.hintcheck.specs.FontPrograms.{cvt_subject, font_of, font_subject, glyph_subject}
+use Rattle.tt_abs.specs.declared.refusal.Refusal.{Refusal}
+use Rattle.tt_abs.specs.declared.refusal.Refusal.TheVariants as fault
+use Rattle.hintcheck_explain.specs.declared.asked.Explained.{Explained}
+use Rattle.hintcheck_explain.specs.declared.asked.Explained.TheVariants as explained
+use Rattle.hintcheck_fonts.specs.FontPrograms.{cvt_subject, font_of, font_subject, glyph_subject}
 use Rattle.hintcheck.specs.Listing.{Names, program_in}
-use Rattle.hintcheck.specs.Programs.{EndsWith, HasLeastFamily, IsRefusal, Subject}
-use Rattle.hintcheck.specs.declared.report.Refused.{Refused}
+use Rattle.hintcheck_fonts.specs.Programs.{EndsWith, HasLeastFamily, IsRefusal, Subject}
+use Rattle.hintcheck_report.specs.declared.refused.Refused.{Refused}
 
 -- The font's program of this name is accepted: it has its least family. It starts with the
 -- functions that are known where the least families of those before it end.
@@ -99,6 +103,11 @@ HasPlaceIn d called offset =
     (program : List ℕ) → program_in d called ≡ Some program → HasPlace program offset
 
 -- whether the program is accepted: it has its least family, or it is refused
-abbrev pub IsAnswered : Subject → Bool → Type 0
-IsAnswered x true = HasLeastFamily x
-IsAnswered x false = (r : Refused) × IsRefusal x r
+abbrev pub IsAnswered : Subject → Explained → Type 0
+IsAnswered x explained.Accepted = HasLeastFamily x
+IsAnswered x explained.Refused = (r : Refused) × IsRefusal x r
+
+-- the fault refuses a program
+abbrev pub Refuses : Refusal → Type 0
+Refuses (fault.Refused spot offset r) = Unit {0}
+Refuses (fault.OutOfMemory e) = ⊥

@@ -1,9 +1,4 @@
-pub mod Verdicts
 pub mod Texts
-pub mod Programs
-pub mod FontPrograms
-pub mod ProgramVerdicts
-pub mod BarePrograms
 pub mod Listing
 pub mod Explanations
 pub mod Commands
@@ -15,15 +10,3 @@ pub mod CommandFaults
 pub mod FaultTexts
 pub mod RefusalClasses
 pub mod Scans
-pub mod CheckedFonts
-pub mod CertificateFaults
-pub mod Certificates
-pub mod CertificateTexts
-pub mod Upgrades
-pub mod UpgradeFaults
-pub mod Sessions
-pub mod FindingSessions
-pub mod FailedReads
-pub mod BudgetAnswers
-pub mod SymbolicVerdicts
-pub mod Representation

@@ -12,8 +12,8 @@ use Rattle.tt_font.specs.Reading.{FontData, Reads}
 use Rattle.tt_cert.specs.Names.{text_of}
 use Rattle.tt_cert.specs.declared.name.Name.{Name}
 use Rattle.tt_cert.specs.declared.name.Name.TheVariants as name
-use Rattle.hintcheck.specs.Texts.{refused_text}
-use Rattle.hintcheck.specs.declared.report.Refused.{Refused}
+use Rattle.hintcheck_report.specs.Texts.{refused_text}
+use Rattle.hintcheck_report.specs.declared.refused.Refused.{Refused}
 
 -- the text has no plus sign in front, and no zero there except as its only digit
 pub record IsPlain (text : List ℕ) : Type 0 where

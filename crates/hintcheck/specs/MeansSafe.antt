@@ -12,15 +12,16 @@ use Rattle.hintcheck_words.specs.Requests.{Request, bare, check, explain, find, 
 use Rattle.hintcheck.specs.CommandFaults.{IsFaultOfFontFile, MeansNoFault, TellsFault}
 use Rattle.hintcheck.specs.Commands.{status_of}
 use Rattle.hintcheck.specs.declared.commands.faults.CommandFault.{CommandFault}
-use Rattle.hintcheck.specs.BarePrograms.{bare_font, bare_subject}
+use Rattle.hintcheck_fonts.specs.BarePrograms.{bare_font, bare_subject}
 use Rattle.hintcheck.specs.Explanations.{HoldAcceptedProgram, HoldRefusedProgram}
-use Rattle.hintcheck.specs.FontPrograms.{IsSafeFont, IsSafeGlyph, IsVerdict}
+use Rattle.hintcheck_fonts.specs.FontPrograms.{IsSafeFont, IsSafeGlyph, IsVerdict}
 use Rattle.hintcheck.specs.Listing.{HoldUnlistedProgram}
-use Rattle.hintcheck.specs.Programs.{HasGoodFamily, IsRefusal}
+use Rattle.hintcheck_fonts.specs.Programs.{HasGoodFamily, IsRefusal}
 use Rattle.hintcheck.specs.RefusalClasses.{number_of_class}
 use Rattle.hintcheck.specs.SymbolicExplanations.{HoldSymbolicAcceptedProgram, HoldSymbolicRefusedProgram}
-use Rattle.hintcheck.specs.SymbolicAnswers.{HoldSymbolicRefusedFont, HoldSymbolicSafeFont, IsSymbolicVerdictOn, SpellGlyph, SpellSymbolicSafeGlyph, SpellSymbolicVerdict}
-use Rattle.hintcheck.specs.Verdicts.{Judgement}
+use Rattle.hintcheck.specs.SymbolicAnswers.{SpellGlyph, SpellSymbolicSafeGlyph, SpellSymbolicVerdict}
+use Rattle.hintcheck_fonts.specs.FontAnswers.{HoldRefusedFont, HoldSafeFont, HoldSymbolicRefusedFont, HoldSymbolicSafeFont, IsSymbolicVerdictOn, IsVerdictOn}
+use Rattle.hintcheck_fonts.specs.Verdicts.{Judgement}
 
 -- The words spell a `maxp` table and a glyph program, which is safe in a font of only this glyph.
 pub record SpellSafeGlyph (maxp : List ℕ) (cvt points contours : ℕ)
@@ -32,20 +33,6 @@ pub record SpellSafeGlyph (maxp : List ℕ) (cvt points contours : ℕ)
   pub contours_are : glyph.contours ≡ contours
   pub program_spelled : Spells program glyph.program
   pub safe : IsSafeGlyph (bare_font table cvt glyph) glyph
-
--- The verdict is the one on the font that is in the bytes; where it names no refused program, the
--- font is safe.
-pub record IsVerdictOn (bytes : List ℕ) (judgement : Judgement) : Type 0 where
-  pub font : FontData
-  pub reads : Reads bytes font
-  pub given : IsVerdict font judgement
-  pub safe : judgement.refused ≡ [] → IsSafeFont font
-
--- The bytes hold a font, whose programs are safe.
-pub record HoldSafeFont (bytes : List ℕ) : Type 0 where
-  pub font : FontData
-  pub reads : Reads bytes font
-  pub safe : IsSafeFont font
 
 -- the words spell a `maxp` table and a glyph program, which is safe by this profile
 abbrev pub SpellSafeBy : Profile → List ℕ → ℕ → ℕ → ℕ → List ℕ → Type 0
@@ -119,14 +106,6 @@ pub record SpellRefusedGlyph (maxp : List ℕ) (cvt points contours : ℕ)
   pub contours_are : glyph.contours ≡ contours
   pub program_spelled : Spells program glyph.program
   pub none_good : HasGoodFamily (bare_subject table cvt glyph) → ⊥
-
--- The bytes hold a font, and its verdict names refused programs.
-pub record HoldRefusedFont (bytes : List ℕ) : Type 0 where
-  pub font : FontData
-  pub reads : Reads bytes font
-  pub judgement : Judgement
-  pub given : IsVerdict font judgement
-  pub some : judgement.refused ≢ []
 
 -- the words spell a `maxp` table and a program, which is refused by this profile: by the symbolic
 -- one this tells nothing of it

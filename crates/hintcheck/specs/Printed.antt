@@ -10,8 +10,8 @@ use Rattle.hintcheck.specs.Listing.{HoldListedProgram, HoldToldProgram}
 use Rattle.hintcheck.specs.MeansSafe.{IsVerdictAsked}
 use Rattle.hintcheck.specs.Scans.{IsOfScan, PrintsScan}
 use Rattle.hintcheck.specs.Texts.{upgraded_line, verdict_text}
-use Rattle.hintcheck.specs.Upgrades.{IsNumberOfPrograms}
-use Rattle.hintcheck.specs.Verdicts.{Judgement}
+use Rattle.hintcheck_fonts.specs.Upgrades.{IsNumberOfPrograms}
+use Rattle.hintcheck_fonts.specs.Verdicts.{Judgement}
 use Rattle.hintcheck.specs.declared.commands.faults.CommandFault.{CommandFault}
 
 -- the profile by which what is asked for is checked

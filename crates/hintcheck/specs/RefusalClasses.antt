@@ -6,7 +6,7 @@ use Rattle.tt_code.specs.declared.reason.ReasonClass.{ReasonClass}
 use Rattle.tt_code.specs.declared.reason.ReasonClass.TheVariants.{PossibleFault, Undecided, LeftOut, Certificate}
 use Rattle.hintcheck_words.specs.declared.words.FailOn.{FailOn}
 use Rattle.hintcheck_words.specs.declared.words.FailOn.TheVariants.{Possible}
-use Rattle.hintcheck.specs.declared.report.Refused.{Refused}
+use Rattle.hintcheck_report.specs.declared.refused.Refused.{Refused}
 
 -- what a reason of this class tells, in words
 abbrev pub class_text : ReasonClass → List ℕ

@@ -16,10 +16,10 @@ use Rattle.hintcheck.specs.FaultTexts.{command_fault_text}
 use Rattle.hintcheck.specs.MeansSafe.{IsVerdictBy}
 use Rattle.hintcheck.specs.RefusalClasses.{class_text, number_failing, number_of_class}
 use Rattle.hintcheck.specs.Texts.{profile_text}
-use Rattle.hintcheck.specs.Verdicts.{Judgement}
+use Rattle.hintcheck_fonts.specs.Verdicts.{Judgement}
 use Rattle.hintcheck.specs.declared.commands.faults.CommandFault.{CommandFault}
 use Rattle.hintcheck.specs.declared.commands.faults.CommandFault.TheVariants as fault
-use Rattle.hintcheck.specs.declared.report.Refused.{Refused}
+use Rattle.hintcheck_report.specs.declared.refused.Refused.{Refused}
 
 -- what comes of a font file: the verdict on it, or why there is none
 pub data Answer : Type 0 where

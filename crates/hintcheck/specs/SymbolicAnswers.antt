@@ -3,9 +3,9 @@
 use Rattle.std.specs.Prelude.{◌≡◌, ◌≢◌, ◌≤◌, ℕ, List, [], length}
 use Rattle.tt_font.specs.Reading.{FontData, GlyphData, Reads}
 use Rattle.hintcheck_words.specs.HexWords.{Spells}
-use Rattle.hintcheck.specs.BarePrograms.{bare_font}
-use Rattle.hintcheck.specs.SymbolicVerdicts.{IsSafeAlone, IsSymbolicVerdict}
-use Rattle.hintcheck.specs.Verdicts.{Judgement}
+use Rattle.hintcheck_fonts.specs.BarePrograms.{bare_font}
+use Rattle.hintcheck_fonts.specs.SymbolicVerdicts.{IsSafeAlone, IsSymbolicVerdict}
+use Rattle.hintcheck_fonts.specs.Verdicts.{Judgement}
 
 -- The words spell a `maxp` table and a glyph program, of which no run faults in a font of only this
 -- glyph.
@@ -39,28 +39,3 @@ pub record SpellSymbolicVerdict (maxp : List ℕ) (cvt points contours : ℕ) (p
   pub one : judgement.programs ≡ 1
   pub few : length judgement.refused ≤ 1
   pub safe : judgement.refused ≡ [] → IsSafeAlone (bare_font table cvt glyph) glyph
-
--- The verdict is one by symbolic states on the font that is in the bytes.
-pub record IsSymbolicVerdictOn (bytes : List ℕ) (judgement : Judgement) : Type 0 where
-  pub font : FontData
-  pub reads : Reads bytes font
-  pub given : IsSymbolicVerdict font judgement
-
--- The bytes hold a font, and a verdict by symbolic states names none of its programs as refused: no
--- run of them faults.
-pub record HoldSymbolicSafeFont (bytes : List ℕ) : Type 0 where
-  pub font : FontData
-  pub reads : Reads bytes font
-  pub judgement : Judgement
-  pub given : IsSymbolicVerdict font judgement
-  pub none : judgement.refused ≡ []
-
--- The bytes hold a font, and a verdict by symbolic states names refused programs of it. Where these
--- are glyph programs, no run of the others faults, as long as none of these is run; after a refused
--- font program or CVT program nothing is said of those that follow.
-pub record HoldSymbolicRefusedFont (bytes : List ℕ) : Type 0 where
-  pub font : FontData
-  pub reads : Reads bytes font
-  pub judgement : Judgement
-  pub given : IsSymbolicVerdict font judgement
-  pub some : judgement.refused ≢ []

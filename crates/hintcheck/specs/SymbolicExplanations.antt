@@ -4,9 +4,9 @@ use Rattle.tt_cert.specs.declared.name.Name.{Name}
 use Rattle.tt_cert.specs.declared.name.Name.TheVariants as name
 use Rattle.tt_font.specs.Reading.{FontData, Reads}
 use Rattle.hintcheck.specs.Listing.{Names}
-use Rattle.hintcheck.specs.SymbolicVerdicts.{IsSymbolicVerdict}
-use Rattle.hintcheck.specs.Verdicts.{Judgement}
-use Rattle.hintcheck.specs.declared.report.Refused.{Refused}
+use Rattle.hintcheck_fonts.specs.SymbolicVerdicts.{IsSymbolicVerdict}
+use Rattle.hintcheck_fonts.specs.Verdicts.{Judgement}
+use Rattle.hintcheck_report.specs.declared.refused.Refused.{Refused}
 
 -- whether the second program isn't accepted where the first one is refused: it is the same, or it isn't
 -- checked, since the first one is the font program or the CVT program before it

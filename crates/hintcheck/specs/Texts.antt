@@ -6,18 +6,9 @@ use Rattle.tt_cert.specs.declared.name.Name.{Name}
 use Rattle.tt_cert.specs.declared.name.Name.TheVariants as name
 use Rattle.hintcheck_words.specs.declared.words.Profile.{Profile}
 use Rattle.hintcheck_words.specs.declared.words.Profile.TheVariants.{Strict, Symbolic}
-use Rattle.hintcheck_explain.specs.Texts as explained
-use Rattle.hintcheck.specs.declared.report.Place.{Place}
-use Rattle.hintcheck.specs.declared.report.Refused.{Refused}
-use Rattle.hintcheck.specs.Verdicts.{Judgement}
-
--- the program's name and the offset, as `g12:73`
-abbrev pub place_text : Place → List ℕ
-place_text p = explained.place_text p.program p.offset
-
--- which program is refused, where and why, as `refused g12 at g12:73: 26 underflow`
-abbrev pub refused_text : Refused → List ℕ
-refused_text r = explained.refused_text r.program r.place.program r.place.offset r.reason
+use Rattle.hintcheck_report.specs.declared.refused.Refused.{Refused}
+use Rattle.hintcheck_report.specs.Texts.{refused_text}
+use Rattle.hintcheck_fonts.specs.Verdicts.{Judgement}
 
 -- a line for each refused program
 abbrev pub refused_lines : List Refused → List ℕ

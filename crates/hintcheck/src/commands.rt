@@ -21,12 +21,12 @@ mod upgrade_task;
 mod verdict_lines;
 mod verdict_task;
 
-use crate::report::Verdict;
 use bare_task::{bare_verdict, word_or_empty};
 use check_task::check_verdict;
 use explain_task::explain_of_file;
 use faults::CommandFault;
 use find_task::find_verdict;
+use hintcheck_fonts::report::Verdict;
 use hintcheck_words::{Profile, Task, TaskFault, read_words};
 use list_task::list_of_file;
 use scan_task::scan_fonts;

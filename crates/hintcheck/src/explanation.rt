@@ -1,58 +1,55 @@
 //! One program of a font, explained.
 
-ghost use Rattle.std.specs.Prelude.{◌≡◌, ◌≤◌, IfErr, IfOk, IfSome, None, OnOk, Some, false, is_some, true};
+ghost use Rattle.std.specs.Prelude.{◌≡◌, ◌≤◌, IfErr, IfOk, IfSome, None, OnOk, Some, is_some, true};
 ghost use Rattle.tt_abs.specs.Entries.{Ascends};
 ghost use Rattle.tt_abs.specs.Settings.{setting_of};
 ghost use Rattle.tt_abs.specs.StateFlow.{FunctionsFit};
 ghost use Rattle.hintcheck_explain.specs.Faults.{AsksForInstruction};
 ghost use Rattle.hintcheck.specs.Commands.{TellsFailure};
 ghost use Rattle.hintcheck.specs.CommandFaults.{IsFaultOfExplaining, IsFaultOfLines};
-ghost use Rattle.hintcheck.specs.Explanations.{HasPlace, HasPlaceIn, HoldAcceptedProgram, HoldPlace, HoldRefusedProgram, IsAnswered, IsRefusedIn, TellsProgram};
-ghost use Rattle.hintcheck.specs.FontPrograms.{IsFontInRange};
+ghost use Rattle.hintcheck.specs.Explanations.{HasPlace, HasPlaceIn, HoldAcceptedProgram, HoldPlace, HoldRefusedProgram, IsAnswered, IsRefusedIn, Refuses, TellsProgram};
+ghost use Rattle.hintcheck_fonts.specs.FontPrograms.{IsFontInRange};
 ghost use Rattle.hintcheck.specs.Listing.{program_in};
-ghost use Rattle.hintcheck.specs.Programs.{Subject};
-ghost use Rattle.hintcheck.specs.Sessions.{at_start};
-ghost use Rattle.hintcheck.specs.declared.session.Outcome.{Outcome as AnyOutcome};
-ghost use Rattle.hintcheck.specs.Representation.ProgramOrder.{IsNext, next_program, stage_of, start_at, with_start};
-ghost use Rattle.hintcheck.specs.Representation.SessionStages.{IsAt, KeepsKnown};
+ghost use Rattle.hintcheck_fonts.specs.ProgramVerdicts.{IsSubjectOf};
+ghost use Rattle.hintcheck_fonts.specs.Programs.{Subject};
+ghost use Rattle.hintcheck_fonts.specs.Sessions.{at_start};
+ghost use Rattle.hintcheck_fonts.specs.declared.session.Outcome.{Outcome as AnyOutcome};
+ghost use Rattle.hintcheck_fonts.specs.Representation.ProgramOrder.{IsNext, next_program, stage_of, start_at, with_start};
+ghost use Rattle.hintcheck_fonts.specs.Representation.SessionStages.{IsAt, KeepsKnown};
 
 use crate::asked_offset::check_offset;
 use crate::commands::faults::CommandFault;
-use crate::finding::Finding;
-use crate::font::read_font;
 use crate::instruction_list::named_program;
-use crate::program::{Search, cut};
-use crate::programs::{FontPrograms, Next, Programs};
-use crate::report::{Name, Refused};
-use crate::session::Outcome;
-use hintcheck_explain::{Asked, explain, explain_unread};
+use hintcheck_explain::{Asked, Explained, explain, explain_unread};
+use hintcheck_fonts::finding::Finding;
+use hintcheck_fonts::font::read_font;
+use hintcheck_fonts::program::{Search, cut};
+use hintcheck_fonts::programs::{FontPrograms, Next, Programs};
+use hintcheck_fonts::report::{Name, Refused};
+use hintcheck_fonts::session::Outcome;
 use std::alloc::{AllocError, Global};
 use tt_abs::{Refusal, Setting};
 use tt_family::Budget;
 use tt_font::Font;
 use tt_stream::Sink;
 
-/// The exit status where the program is accepted.
-pub(crate) const ACCEPTED: u8 = 0;
-
-/// The exit status where the program is refused, or one before it.
-pub(crate) const REFUSED: u8 = 1;
-
-/// Explains a program in its setting.
+/// Explains a program in its setting, and returns whether it is accepted.
 fn explain_in<O: Sink>(
     alloc: Global,
     setting: &Setting<'_>,
     asked: Asked,
     out: &mut O,
-) -> Result<(), CommandFault>
+) -> Result<Explained, CommandFault>
     requires ascends { Ascends setting.now.start.now }
     requires fits { FunctionsFit (setting_of setting.now) setting.now.start.now }
     requires place { AsksForInstruction setting.now asked }
+    ensures answered { (x : Subject) → IsSubjectOf x setting.now → IfOk result (IsAnswered x) }
     ensures failures { TellsFailure result (O.failures out.old) (O.failures out.new) }
     ensures faults { IfErr result IsFaultOfLines }
 {
-    explain(alloc, setting, asked, out)?;
-    Ok(())
+    setting.range_facts();
+    let explained = explain(alloc, setting, asked, out)?;
+    Ok(explained)
 }
 
 /// Explains why these bytes can't be cut or aren't structured, as the fault tells.
@@ -62,6 +59,7 @@ pub(crate) fn explain_uncut<O: Sink>(
     fault: Refusal,
     out: &mut O,
 ) -> Result<(), CommandFault>
+    ensures refused { OnOk result (Refuses fault) }
     ensures failures { TellsFailure result (O.failures out.old) (O.failures out.new) }
     ensures faults { IfErr result IsFaultOfLines }
 {
@@ -74,17 +72,20 @@ pub(crate) fn explain_uncut<O: Sink>(
     }
 }
 
-/// Prints the explanation of the program that is next.
+/// Prints the explanation of the program that is next, and returns whether it is accepted.
 fn tell_next<O: Sink>(
     alloc: Global,
     programs: &FontPrograms<'_>,
     next: Next<'_>,
     offset: Option<u32>,
     out: &mut O,
-) -> Result<(), CommandFault>
+) -> Result<Explained, CommandFault>
     requires next { IsNext programs.now.font.now (stage_of programs.now) next }
     requires known { KeepsKnown programs.now.font.now (stage_of programs.now) }
     requires place { HasPlace next.bytes.now offset }
+    ensures answered { (x : Subject)
+        → next_program programs.now.font.now (stage_of programs.now) ≡ Some x → IfOk result
+        (IsAnswered (with_start x (start_at (stage_of programs.now)))) }
     ensures failures { TellsFailure result (O.failures out.old) (O.failures out.new) }
     ensures faults { IfErr result IsFaultOfLines }
 {
@@ -94,46 +95,28 @@ fn tell_next<O: Sink>(
     };
     match cut(alloc, next.bytes) {
         Ok(program) => {
-            let setting = Setting {
+            let started = Setting {
                 start: programs.start(),
                 ..programs.setting(next.kind, &program)
             };
-            explain_in(alloc, &setting, asked, out)
+            explain_in(alloc, &started, asked, out)
         }
-        Err(fault) => explain_uncut(asked, next.bytes, fault, out),
-    }
-}
-
-/// Whether the program that is next is accepted.
-///
-/// # Errors
-/// `OutOfMemory`.
-fn is_accepted<'a>(
-    alloc: Global,
-    programs: &FontPrograms<'a>,
-    next: Next<'a>,
-    judge: &mut Finding,
-) -> Result<bool, CommandFault>
-    requires next { IsNext programs.now.font.now (stage_of programs.now) next }
-    requires known { KeepsKnown programs.now.font.now (stage_of programs.now) }
-    ensures judged { (x : Subject)
-        → next_program programs.now.font.now (stage_of programs.now) ≡ Some x → IfOk result
-        (IsAnswered (with_start x (start_at (stage_of programs.now)))) }
-    ensures faults { IfErr result (λ fault. fault ≡ CommandFault.OutOfMemory) }
-{
-    match programs.judge(alloc, next, judge, &mut Budget::unlimited()) {
-        Ok(_ended) => Ok(true),
-        Err(Refusal::Refused { .. }) => Ok(false),
-        Err(Refusal::OutOfMemory(AllocError)) => Err(CommandFault::OutOfMemory),
+        Err(fault) => {
+            explain_uncut(asked, next.bytes, fault, out)?;
+            Ok(Explained::Refused)
+        }
     }
 }
 
 /// Returns the exit status of a program that was explained.
-fn exit_status(accepted: bool) -> u8
-    ensures accepted { accepted ≡ true → result ≡ 0 }
-    ensures refused { accepted ≡ false → result ≡ 1 }
+pub(crate) fn exit_status(explained: Explained) -> u8
+    ensures accepted { explained ≡ Explained.Accepted → result ≡ 0 }
+    ensures refused { explained ≡ Explained.Refused → result ≡ 1 }
 {
-    if accepted { ACCEPTED } else { REFUSED }
+    match explained {
+        Explained::Accepted => 0,
+        Explained::Refused => 1,
+    }
 }
 
 /// Returns what a program that ends the verdict is called.
@@ -154,7 +137,7 @@ pub(crate) fn tell_unchecked<O: Sink>(refused: Refused, out: &mut O) -> Result<u
 {
     let program = called(refused.program);
     writeln!(out, "not checked: the {program} is refused\n{refused}")?;
-    Ok(REFUSED)
+    Ok(exit_status(Explained::Refused))
 }
 
 /// Returns how an outcome refuses its program, if there is one and it does.
@@ -224,9 +207,8 @@ fn explain_judged<'a, O: Sink>(
         return tell_unchecked(refused, out);
     }
     let next = programs.next().unwrap();
-    let accepted = is_accepted(alloc, programs, next, judge)?;
-    tell_next(alloc, programs, next, offset, out)?;
-    Ok(exit_status(accepted))
+    let explained = tell_next(alloc, programs, next, offset, out)?;
+    Ok(exit_status(explained))
 }
 
 /// Explains the font's program of this name, and returns the exit status.

@@ -12,8 +12,8 @@ ghost use Rattle.hintcheck.specs.Listing.{CannotBeListed, HoldListedProgram, Hol
 ghost use Rattle.tt_cert.specs.Names.{text_of};
 
 use crate::commands::faults::CommandFault;
-use crate::program::cut;
-use crate::report::{Name, Place, Refused};
+use hintcheck_fonts::program::cut;
+use hintcheck_fonts::report::{Name, Place, Refused};
 use std::alloc::{AllocError, Global};
 use std::fmt;
 use tt_abs::Refusal;

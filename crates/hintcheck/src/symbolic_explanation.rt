@@ -4,26 +4,26 @@ ghost use Rattle.std.specs.Prelude.{◌≡◌, ◌≤◌, ◌<◌, ◌^◌, IfEr
 ghost use Rattle.hintcheck.specs.Commands.{TellsFailure};
 ghost use Rattle.hintcheck.specs.CommandFaults.{IsFaultOfExplaining, IsFaultOfLines};
 ghost use Rattle.hintcheck.specs.Explanations.{HoldPlace};
-ghost use Rattle.hintcheck.specs.FontPrograms.{IsFontInRange};
+ghost use Rattle.hintcheck_fonts.specs.FontPrograms.{IsFontInRange};
 ghost use Rattle.hintcheck.specs.SymbolicExplanations.{HoldSymbolicAcceptedProgram, HoldSymbolicRefusedProgram, TellsSymbolicProgram, first_against, keeps_from as keeps_from_it};
 
 use crate::asked_offset::check_offset;
-use crate::bare_program::empty_program;
 use crate::commands::faults::CommandFault;
-use crate::explanation::{ACCEPTED, REFUSED, explain_uncut, tell_unchecked};
-use crate::font::read_font;
+use crate::explanation::{exit_status, explain_uncut, tell_unchecked};
 use crate::instruction_list::{Named, named_program};
-use crate::program::cut;
-use crate::report::{Name, Refused};
-use crate::symbolic_check::SymbolicCheck;
-use crate::symbolic_verdict::{USUAL_STEPS, refused_programs};
-use hintcheck_explain::{Asked, RefusedAt, explain_symbolic};
+use hintcheck_explain::{Asked, Explained, explain_symbolic};
+use hintcheck_fonts::bare_program::empty_program;
+use hintcheck_fonts::font::read_font;
+use hintcheck_fonts::program::cut;
+use hintcheck_fonts::report::{Name, Refused};
+use hintcheck_fonts::symbolic_check::SymbolicCheck;
+use hintcheck_fonts::symbolic_verdict::{USUAL_STEPS, refused_programs};
 use std::alloc::{AllocError, Global};
 use tt_abs::{Kind, Refusal, Setting};
 use tt_code::Program;
 use tt_font::Font;
 use tt_stream::Sink;
-use tt_symbolic_search::Insight;
+use tt_symbolic_search::{Insight, Question};
 
 /// Whether the second program isn't accepted where the first one is refused: it is the same, or it
 /// isn't checked, since the first one is the font program or the CVT program before it.
@@ -97,7 +97,7 @@ fn explain_in<O: Sink>(
     alloc: Global,
     setting: &Setting<'_>,
     asked: Asked,
-    refused: Option<RefusedAt>,
+    refused: Option<Refused>,
     insight: Option<&Insight>,
     out: &mut O,
 ) -> Result<(), CommandFault>
@@ -106,15 +106,6 @@ fn explain_in<O: Sink>(
 {
     explain_symbolic(alloc, setting, asked, refused, insight, out)?;
     Ok(())
-}
-
-/// Returns where and why a program is refused, as explanations take it.
-fn place_of(refused: Refused) -> RefusedAt {
-    RefusedAt {
-        program: refused.place.program,
-        offset: refused.place.offset,
-        reason: refused.reason,
-    }
 }
 
 /// Prints the explanation of a program that is refused so, or is accepted.
@@ -147,7 +138,7 @@ fn tell_program<O: Sink>(
         prep: &prep,
         start: &[],
     };
-    explain_in(alloc, &setting, asked, refused.map(place_of), insight, out)
+    explain_in(alloc, &setting, asked, refused, insight, out)
 }
 
 /// Explains the font's program of this name, and returns the exit status.
@@ -170,20 +161,20 @@ fn explain_named<O: Sink>(
         offset,
     };
     let mut judge = SymbolicCheck::new(alloc, USUAL_STEPS);
-    judge.explain(asked);
+    judge.explain(named.name, Question { offset });
     let Ok(refused) = refused_programs(alloc, font, &mut judge) else {
         return Err(CommandFault::OutOfMemory);
     };
     let insight = judge.take_insight();
     let Some(one) = refused_against(&refused, named.name) else {
         tell_program(alloc, font, named, asked, None, insight.as_ref(), out)?;
-        return Ok(ACCEPTED);
+        return Ok(exit_status(Explained::Accepted));
     };
     if one.program != named.name {
         return tell_unchecked(one, out);
     }
     tell_program(alloc, font, named, asked, Some(one), insight.as_ref(), out)?;
-    Ok(REFUSED)
+    Ok(exit_status(Explained::Refused))
 }
 
 /// Explains one program of the font in these bytes by the symbolic profile, the one that the word

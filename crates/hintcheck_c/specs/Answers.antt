@@ -5,16 +5,16 @@ use Rattle.tt_font.specs.FileFaults.{font_fault}
 use Rattle.tt_font.specs.Reading.{FontData, Reads}
 use Rattle.tt_font.specs.declared.fault.FontFault.{FontFault}
 use Rattle.tt_font.specs.declared.fault.FontFault.TheVariants as font
-use Rattle.hintcheck.specs.Certificates.{IsChecked}
-use Rattle.hintcheck.specs.CheckedFonts.{AnswersFinding}
-use Rattle.hintcheck.specs.FontPrograms.{IsVerdict}
-use Rattle.hintcheck.specs.SymbolicVerdicts.{IsSymbolicVerdict}
-use Rattle.hintcheck.specs.Verdicts.{Judgement}
-use Rattle.hintcheck.specs.declared.font.VerdictFault.{VerdictFault}
-use Rattle.hintcheck.specs.declared.font.VerdictFault.TheVariants as judging
-use Rattle.hintcheck.specs.declared.font_check.CheckFontFault.{CheckFontFault}
-use Rattle.hintcheck.specs.declared.font_check.CheckFontFault.TheVariants as check
-use Rattle.hintcheck.specs.declared.report.Refused.{Refused}
+use Rattle.hintcheck_fonts.specs.Certificates.{IsChecked}
+use Rattle.hintcheck_fonts.specs.CheckedFonts.{AnswersFinding}
+use Rattle.hintcheck_fonts.specs.FontPrograms.{IsVerdict}
+use Rattle.hintcheck_fonts.specs.SymbolicVerdicts.{IsSymbolicVerdict}
+use Rattle.hintcheck_fonts.specs.Verdicts.{Judgement}
+use Rattle.hintcheck_fonts.specs.declared.font.VerdictFault.{VerdictFault}
+use Rattle.hintcheck_fonts.specs.declared.font.VerdictFault.TheVariants as judging
+use Rattle.hintcheck_fonts.specs.declared.font_check.CheckFontFault.{CheckFontFault}
+use Rattle.hintcheck_fonts.specs.declared.font_check.CheckFontFault.TheVariants as check
+use Rattle.hintcheck_report.specs.declared.refused.Refused.{Refused}
 use Rattle.hintcheck_c.specs.Refusals.{listed_in}
 use Rattle.hintcheck_c.specs.declared.answer.HintcheckAnswer.{HintcheckAnswer}
 use Rattle.hintcheck_c.specs.declared.refusal.HintcheckRefusal.{HintcheckRefusal}

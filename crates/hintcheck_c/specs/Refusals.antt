@@ -5,7 +5,7 @@ use Rattle.tt_code.specs.declared.reason.ReasonClass.{ReasonClass}
 use Rattle.tt_code.specs.declared.reason.ReasonClass.TheVariants as class
 use Rattle.tt_cert.specs.declared.name.Name.{Name}
 use Rattle.tt_cert.specs.declared.name.Name.TheVariants as name
-use Rattle.hintcheck.specs.declared.report.Refused.{Refused}
+use Rattle.hintcheck_report.specs.declared.refused.Refused.{Refused}
 use Rattle.hintcheck_c.specs.declared.refusal.HintcheckRefusal.{HintcheckRefusal}
 
 -- the number of a program: a glyph's own, or one after those of all glyphs

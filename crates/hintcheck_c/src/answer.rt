@@ -4,7 +4,7 @@ ghost use Rattle.std.specs.Prelude.{◌≡◌, ◌≢◌, ◌≤◌};
 ghost use Rattle.hintcheck_c.specs.Answers.{Answers, check_answer, fault_answer as answer_of_fault, font_answer, judging_answer};
 
 use crate::refusal::{HintcheckRefusal, list_refused};
-use hintcheck::{CheckFontFault, FontFault, Verdict, VerdictFault};
+use hintcheck_fonts::{CheckFontFault, FontFault, Verdict, VerdictFault};
 
 /// The status where every program is accepted.
 const ACCEPTED: u32 = 0;

@@ -6,11 +6,10 @@ ghost use Rattle.std.specs.Prelude.{◌≡◌, ◌≢◌, ◌<◌, ◌≤◌, �
 ghost use Rattle.tt_code.specs.Refusals.{number_of, reason_text};
 ghost use Rattle.tt_code.specs.declared.reason.Reason.{Reason};
 ghost use Rattle.tt_family.specs.Budgets.{IsExceeded, Spends};
-ghost use Rattle.hintcheck.specs.CheckedFonts.{AnswersFinding};
-ghost use Rattle.hintcheck.specs.FontPrograms.{IsSafeFont};
-ghost use Rattle.hintcheck.specs.MeansSafe.{HoldRefusedFont, HoldSafeFont};
-ghost use Rattle.hintcheck.specs.SymbolicAnswers.{HoldSymbolicRefusedFont, HoldSymbolicSafeFont};
-ghost use Rattle.hintcheck.specs.SymbolicVerdicts.{IsSymbolicVerdict};
+ghost use Rattle.hintcheck_fonts.specs.CheckedFonts.{AnswersFinding};
+ghost use Rattle.hintcheck_fonts.specs.FontPrograms.{IsSafeFont};
+ghost use Rattle.hintcheck_fonts.specs.FontAnswers.{HoldRefusedFont, HoldSafeFont, HoldSymbolicRefusedFont, HoldSymbolicSafeFont};
+ghost use Rattle.hintcheck_fonts.specs.SymbolicVerdicts.{IsSymbolicVerdict};
 ghost use Rattle.hintcheck_c.specs.Answers.{AnswersCheck, AnswersCheckFault, AnswersFontFault, AnswersSymbolicVerdict, AnswersVerdict, IsFaultOfCheck, IsFaultOfVerdict};
 ghost use Rattle.hintcheck_c.specs.ReasonTexts.{IsReasonNumber, c_string};
 ghost use Rattle.tt_font.specs.Reading.{FontData, Reads};
@@ -21,7 +20,7 @@ mod refusal;
 
 pub use answer::HintcheckAnswer;
 use answer::{answer_verdict, fault_of_check, fault_of_verdict};
-use hintcheck::{
+use hintcheck_fonts::{
     Budget, CheckFontFault, Verdict, VerdictFault, check_font_within, verdict_symbolic_within,
     verdict_within,
 };

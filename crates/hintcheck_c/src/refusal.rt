@@ -3,7 +3,7 @@
 ghost use Rattle.std.specs.Prelude.{◌≡◌, length, min};
 ghost use Rattle.hintcheck_c.specs.Refusals.{class_number as number_of_class, listed_in, numbers_of, program_number as number_of_program};
 
-use hintcheck::{Name, Refused};
+use hintcheck_fonts::{Name, Refused};
 use tt_code::ReasonClass;
 
 /// The number of a font program, after those of all glyphs.

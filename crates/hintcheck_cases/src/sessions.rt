@@ -1,7 +1,7 @@
 //! Sessions: the programs of a font checked one by one.
 
-ghost use Rattle.hintcheck.specs.FindingSessions.{IsForFinding};
-ghost use Rattle.hintcheck.specs.Sessions.{IsForChecking};
+ghost use Rattle.hintcheck_fonts.specs.FindingSessions.{IsForFinding};
+ghost use Rattle.hintcheck_fonts.specs.Sessions.{IsForChecking};
 
 use crate::calls::told_of_fault;
 use anyhow::Result;

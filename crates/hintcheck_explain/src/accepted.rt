@@ -2,7 +2,7 @@
 
 ghost use Rattle.tt_stream.specs.Streams.{CountsPrintFailure};
 
-use crate::subject::Subject;
+use crate::explored_program::ExploredProgram;
 use tt_code::Program;
 use tt_family::Certificate;
 use tt_stream::{PrintFailed, Sink};
@@ -38,7 +38,10 @@ fn greatest_depth(certificate: &Certificate) -> usize {
 ///
 /// # Errors
 /// `Write` exactly where a write failed.
-pub(crate) fn tell_accepted<O: Sink>(subject: &Subject<'_>, out: &mut O) -> Result<(), PrintFailed>
+pub(crate) fn tell_accepted<O: Sink>(
+    subject: &ExploredProgram<'_>,
+    out: &mut O,
+) -> Result<(), PrintFailed>
     ensures failures { CountsPrintFailure result (O.failures out.old) (O.failures out.new) }
 {
     let name = subject.name;

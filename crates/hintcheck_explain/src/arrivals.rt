@@ -1,8 +1,8 @@
 //! From where states come to a point.
 
 use crate::describing::Numbers;
-use crate::stepping::{Outcome, outcome_at};
-use crate::subject::Subject;
+use crate::explored_program::ExploredProgram;
+use crate::stepping::{StepOutcome, outcome_at};
 use crate::trouble::{Arrival, Trouble};
 use std::alloc::{AllocError, Global};
 use std::fmt;
@@ -28,12 +28,17 @@ pub(crate) struct Edge {
 /// Adds the ways that lead from a point.
 fn push_edges(
     edges: &mut Vec<Edge>,
-    subject: &Subject<'_>,
+    subject: &ExploredProgram<'_>,
     from: PointKey,
     frames: &[Frame],
     state: &State,
 ) -> Result<(), AllocError> {
-    let Outcome::Goes { moves, state: next } = outcome_at(subject.setting, frames, from.1, state)?
+    let StepOutcome::Goes { moves, state: next } = outcome_at(
+        subject.setting,
+        frames,
+        from.1,
+        state,
+    )?
     else {
         return Ok(());
     };
@@ -53,7 +58,10 @@ fn push_edges(
 ///
 /// # Errors
 /// If memory runs out.
-pub(crate) fn edges_of(alloc: Global, subject: &Subject<'_>) -> Result<Vec<Edge>, AllocError> {
+pub(crate) fn edges_of(
+    alloc: Global,
+    subject: &ExploredProgram<'_>,
+) -> Result<Vec<Edge>, AllocError> {
     let mut edges = Vec::new(alloc);
     let mut states = subject.certificate.states();
     let mut frames = Vec::new(alloc);
@@ -78,7 +86,7 @@ pub(crate) fn edges_of(alloc: Global, subject: &Subject<'_>) -> Result<Vec<Edge>
 }
 
 /// Returns a way as an arrival at the point to which it leads.
-fn arrival_of(subject: &Subject<'_>, edge: &Edge) -> Arrival {
+fn arrival_of(subject: &ExploredProgram<'_>, edge: &Edge) -> Arrival {
     Arrival {
         point: edge.from,
         from: Some(subject.place(edge.from)),
@@ -98,7 +106,7 @@ const BEGINNING: Arrival = Arrival {
 /// Returns an arrival that brings a stack of this depth to a point, or, where `same` is false, one
 /// that brings a stack of another depth.
 fn way_with(
-    subject: &Subject<'_>,
+    subject: &ExploredProgram<'_>,
     edges: &[Edge],
     point: PointKey,
     depth: usize,
@@ -118,7 +126,7 @@ fn way_with(
 /// Returns the trouble at a point to which one way brings a stack of this depth, and another way a
 /// stack of another depth, if there are two such ways.
 pub(crate) fn depths_at(
-    subject: &Subject<'_>,
+    subject: &ExploredProgram<'_>,
     edges: &[Edge],
     point: PointKey,
     depth: usize,
@@ -142,7 +150,7 @@ impl fmt::Display for Arrival {
 /// The ways that come to a point.
 #[derive(Clone, Copy)]
 pub(crate) struct Ways<'a, 'b> {
-    pub subject: &'a Subject<'b>,
+    pub subject: &'a ExploredProgram<'b>,
     pub edges: &'a [Edge],
     pub point: PointKey,
 }

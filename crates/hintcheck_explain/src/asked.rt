@@ -26,9 +26,6 @@ pub enum ExplainFault {
     /// The text wasn't printed.
     #[error("{0}")]
     Write(PrintFailed),
-    /// No instruction of the program begins at the offset that is asked for.
-    #[error("no instruction begins at this offset")]
-    NoInstruction,
     /// A growth of memory was refused.
     #[error("out of memory")]
     OutOfMemory(AllocError),

@@ -1,6 +1,6 @@
 //! The calls that are open at a place.
 
-use crate::place::{Place, program_at};
+use hintcheck_report::Place;
 use std::fmt;
 use tt_abs::Spot;
 use tt_abs::setting::body_offset;
@@ -38,14 +38,12 @@ impl Calls<'_> {
     /// Returns the call of a frame as text.
     fn call(&self, caller: Spot, frame: Frame) -> CallText<'_> {
         CallText {
-            place: Place {
-                program: program_at(self.program, caller),
-                offset: frame.call,
-            },
-            body: Place {
-                program: program_at(self.program, Spot::of_body(frame.body)),
-                offset: body_offset(frame.body),
-            },
+            place: Place::at(self.program, caller, frame.call),
+            body: Place::at(
+                self.program,
+                Spot::of_body(frame.body),
+                body_offset(frame.body),
+            ),
             function: FunctionText {
                 functions: self.functions,
                 body: frame.body,

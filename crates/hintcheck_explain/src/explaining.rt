@@ -1,6 +1,6 @@
 //! Explains a program that could be cut and is structured.
 
-ghost use Rattle.std.specs.Prelude.{◌≡◌, ◌≢◌, ◌↔◌, Err, IsTrue, Ok, OnOk};
+ghost use Rattle.std.specs.Prelude.{◌≡◌, Ok};
 ghost use Rattle.tt_abs.specs.Entries.{Ascends};
 ghost use Rattle.tt_abs.specs.Settings.{setting_of};
 ghost use Rattle.tt_abs.specs.StateFlow.{FunctionsFit};
@@ -8,43 +8,32 @@ ghost use Rattle.hintcheck_explain.specs.Faults.{AsksForInstruction, HasLeast, H
 
 use crate::accepted::tell_accepted;
 use crate::asked::{Asked, ExplainFault, Explained};
-use crate::listing::{Code, Listing};
+use crate::excerpt::{Code, Excerpt};
+use crate::explored_program::ExploredProgram;
 use crate::needs::tell_needs;
-use crate::place::{Place, Refused, program_at};
 use crate::reached::tell_contexts;
 use crate::refusal::tell_refusal;
-use crate::subject::Subject;
+use hintcheck_report::{Place, Refused};
 use std::alloc::Global;
 use tt_abs::{Refusal, Setting, Spot};
 use tt_code::Reason;
 use tt_find::explore;
 use tt_stream::Sink;
 
-/// Whether an instruction of the program begins at the offset that is asked for, if one is.
-fn begins_instruction(setting: &Setting<'_>, asked: Asked) -> bool
-    ensures { IsTrue result ↔ AsksForInstruction setting.now asked }
-{
-    match asked.offset {
-        Some(offset) => setting.main.at(offset).is_some(),
-        None => true,
-    }
-}
-
 /// Prints what is known at an offset of the subject's program, and the instructions around it.
 fn tell_place<O: Sink>(
     alloc: Global,
-    subject: &Subject<'_>,
+    subject: &ExploredProgram<'_>,
     offset: u32,
     out: &mut O,
 ) -> Result<(), ExplainFault>
     ensures failures { TellsFailure result (O.failures out.old) (O.failures out.new) }
-    ensures other { result ≢ Err ExplainFault.NoInstruction }
 {
     let place = Place {
         program: subject.name,
         offset,
     };
-    let listing = Listing::around(Code::Cut(subject.setting.main), place);
+    let listing = Excerpt::around(Code::Cut(subject.setting.main), place);
     writeln!(out, "What is known at {place}:")?;
     tell_contexts(alloc, subject, place, out)?;
     writeln!(out, "{listing}")?;
@@ -54,12 +43,11 @@ fn tell_place<O: Sink>(
 /// Explains an accepted program.
 fn explain_accepted<O: Sink>(
     alloc: Global,
-    subject: &Subject<'_>,
+    subject: &ExploredProgram<'_>,
     asked: Asked,
     out: &mut O,
 ) -> Result<(), ExplainFault>
     ensures failures { TellsFailure result (O.failures out.old) (O.failures out.new) }
-    ensures other { result ≢ Err ExplainFault.NoInstruction }
 {
     tell_accepted(subject, out)?;
     match asked.offset {
@@ -71,7 +59,7 @@ fn explain_accepted<O: Sink>(
 /// Explains a refused program.
 fn explain_refused<O: Sink>(
     alloc: Global,
-    subject: &Subject<'_>,
+    subject: &ExploredProgram<'_>,
     asked: Asked,
     spot: Spot,
     offset: u32,
@@ -79,16 +67,8 @@ fn explain_refused<O: Sink>(
     out: &mut O,
 ) -> Result<(), ExplainFault>
     ensures failures { TellsFailure result (O.failures out.old) (O.failures out.new) }
-    ensures other { result ≢ Err ExplainFault.NoInstruction }
 {
-    let refused = Refused {
-        program: subject.name,
-        place: Place {
-            program: program_at(subject.name, spot),
-            offset,
-        },
-        reason,
-    };
+    let refused = Refused::at(subject.name, spot, offset, reason);
     writeln!(out, "{refused}")?;
     match asked.offset {
         Some(offset) => tell_place(alloc, subject, offset, out),
@@ -97,11 +77,10 @@ fn explain_refused<O: Sink>(
 }
 
 /// Explains a program that could be cut and is structured: how much it takes, or why it is refused.
-/// Where an offset is asked for, it tells what is known there, and of a refusal only its place and
-/// its reason.
+/// Where an offset is asked for, at which an instruction of the program has to begin, it tells what
+/// is known there, and of a refusal only its place and its reason.
 ///
 /// # Errors
-/// `NoInstruction` where no instruction of the program begins at the offset that is asked for;
 /// `Write` where the text wasn't printed; `OutOfMemory`.
 pub fn explain<O: Sink>(
     alloc: Global,
@@ -111,18 +90,13 @@ pub fn explain<O: Sink>(
 ) -> Result<Explained, ExplainFault>
     requires ascends { Ascends setting.now.start.now }
     requires fits { FunctionsFit (setting_of setting.now) setting.now.start.now }
+    requires place { AsksForInstruction setting.now asked }
     ensures accepted { result ≡ Ok Explained.Accepted → HasLeast setting.now }
     ensures refused { result ≡ Ok Explained.Refused → HasRefusal setting.now }
-    ensures begins { OnOk result (AsksForInstruction setting.now asked) }
-    ensures none { result ≡ Err ExplainFault.NoInstruction
-        → AsksForInstruction setting.now asked → ⊥ }
     ensures failures { TellsFailure result (O.failures out.old) (O.failures out.new) }
 {
-    if !begins_instruction(setting, asked) {
-        return Err(ExplainFault::NoInstruction);
-    }
     let explored = explore(alloc, setting)?;
-    let subject = Subject {
+    let subject = ExploredProgram {
         name: asked.program,
         setting: &*setting,
         certificate: &explored.found.certificate,

@@ -1,14 +1,14 @@
 //! How much of a limit of the font a refused program needs, as far as searches with a greater one
 //! tell.
 
-ghost use Rattle.std.specs.Prelude.{◌≡◌, ◌≢◌, Err};
+ghost use Rattle.std.specs.Prelude.{◌≡◌};
 ghost use Rattle.tt_abs.specs.Entries.{Ascends};
 ghost use Rattle.tt_abs.specs.Settings.{setting_of};
 ghost use Rattle.tt_abs.specs.StateFlow.{FunctionsFit};
 ghost use Rattle.hintcheck_explain.specs.Faults.{TellsFailure};
 
 use crate::asked::{Asked, ExplainFault};
-use crate::place::{Place, program_at};
+use hintcheck_report::Place;
 use std::alloc::{AllocError, Global};
 use std::fmt;
 use tt_abs::{Refusal, Setting};
@@ -126,7 +126,6 @@ pub(crate) fn tell_needs<O: Sink>(
     requires ascends { Ascends setting.now.start.now }
     requires fits { FunctionsFit (setting_of setting.now) setting.now.start.now }
     ensures failures { TellsFailure result (O.failures out.old) (O.failures out.new) }
-    ensures other { result ≢ Err ExplainFault.NoInstruction }
 {
     let Some(limit) = limit_of(reason) else {
         return Ok(());
@@ -150,10 +149,7 @@ pub(crate) fn tell_needs<O: Sink>(
                 reason,
             },
         ) => {
-            let place = Place {
-                program: program_at(asked.program, spot),
-                offset,
-            };
+            let place = Place::at(asked.program, spot, offset);
             let number = reason.number();
             writeln!(
                 out,

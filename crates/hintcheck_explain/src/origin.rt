@@ -2,9 +2,9 @@
 
 use crate::arrivals::{Edge, START};
 use crate::element::Element;
+use crate::explored_program::ExploredProgram;
 use crate::sources::{Source, source_of};
-use crate::stepping::{Outcome, outcome_at};
-use crate::subject::Subject;
+use crate::stepping::{StepOutcome, outcome_at};
 use std::alloc::{AllocError, Global};
 use tt_abs::Cell;
 use tt_family::PointKey;
@@ -30,7 +30,7 @@ pub(crate) struct Brought {
 /// Where a number comes from that isn't known at a point: from the instruction that makes it, from
 /// ways that meet with different numbers, or from the program's start.
 #[derive(Clone, Copy)]
-pub(crate) enum Origin {
+pub(crate) enum CellOrigin {
     /// The instruction at this point makes it.
     Made(PointKey),
     /// Of the ways that meet at this point one brings a known number, and another a different one
@@ -52,7 +52,7 @@ struct Trace {
     /// The numbers that are to be looked at, and those that were.
     numbers: Vec<Traced>,
     /// Where a known number and one that isn't known meet, if that was seen.
-    mixed: Origin,
+    mixed: CellOrigin,
 }
 
 /// What the ways to a point bring of a number, as far as they were looked at: a known one, and one
@@ -74,7 +74,7 @@ fn note(numbers: &mut Vec<Traced>, number: Traced) -> Result<(), AllocError> {
 /// Returns what is known of a number after the instruction at a point, and where it was before.
 fn brought_from(
     alloc: Global,
-    subject: &Subject<'_>,
+    subject: &ExploredProgram<'_>,
     from: PointKey,
     element: Element,
 ) -> Result<Option<(Cell, Source)>, AllocError> {
@@ -86,7 +86,7 @@ fn brought_from(
     };
     let frames = subject.frames(alloc, from.0)?;
     match outcome_at(subject.setting, frames.as_slice(), from.1, state)? {
-        Outcome::Goes {
+        StepOutcome::Goes {
             moves: _,
             state: next,
         } => {
@@ -106,12 +106,12 @@ fn add_way(
     from: PointKey,
     cell: Cell,
     source: Source,
-) -> Result<Option<Origin>, AllocError> {
+) -> Result<Option<CellOrigin>, AllocError> {
     let second = Brought { from, cell };
     if let Cell::Known(_) = cell {
         let known = meeting.known;
         return Ok(match known {
-            Some(first) if first.cell != cell => Some(Origin::Joined {
+            Some(first) if first.cell != cell => Some(CellOrigin::Joined {
                 at: traced.point,
                 first,
                 second,
@@ -134,18 +134,18 @@ fn add_way(
             )?;
             Ok(None)
         }
-        Source::Made => Ok(Some(Origin::Made(from))),
+        Source::Made => Ok(Some(CellOrigin::Made(from))),
     }
 }
 
 /// Looks at the ways that come to a point. Returns where the number comes from, if that is clear.
 fn look_back(
     alloc: Global,
-    subject: &Subject<'_>,
+    subject: &ExploredProgram<'_>,
     edges: &[Edge],
     trace: &mut Trace,
     traced: Traced,
-) -> Result<Option<Origin>, AllocError> {
+) -> Result<Option<CellOrigin>, AllocError> {
     let mut meeting = Meeting {
         known: None,
         unknown: None,
@@ -166,13 +166,13 @@ fn look_back(
 
 /// Notes where a known number meets one that isn't known, the first time.
 fn note_meeting(trace: &mut Trace, traced: Traced, meeting: Meeting) {
-    if let Origin::Lost = trace.mixed {
+    if let CellOrigin::Lost = trace.mixed {
         if let Meeting {
             known: Some(first),
             unknown: Some(second),
         } = meeting
         {
-            trace.mixed = Origin::Joined {
+            trace.mixed = CellOrigin::Joined {
                 at: traced.point,
                 first,
                 second,
@@ -182,9 +182,9 @@ fn note_meeting(trace: &mut Trace, traced: Traced, meeting: Meeting) {
 }
 
 /// Returns the origin of a number with which the program starts.
-fn start_of(traced: Traced) -> Option<Origin> {
+fn start_of(traced: Traced) -> Option<CellOrigin> {
     match traced.element {
-        Element::Storage(_) if traced.point == START => Some(Origin::Start(traced.element)),
+        Element::Storage(_) if traced.point == START => Some(CellOrigin::Start(traced.element)),
         _ => None,
     }
 }
@@ -195,14 +195,14 @@ fn start_of(traced: Traced) -> Option<Origin> {
 /// If memory runs out.
 pub(crate) fn origin_of(
     alloc: Global,
-    subject: &Subject<'_>,
+    subject: &ExploredProgram<'_>,
     edges: &[Edge],
     point: PointKey,
     element: Element,
-) -> Result<Origin, AllocError> {
+) -> Result<CellOrigin, AllocError> {
     let mut trace = Trace {
         numbers: Vec::new(alloc),
-        mixed: Origin::Lost,
+        mixed: CellOrigin::Lost,
     };
     note(&mut trace.numbers, Traced { point, element })?;
     for index in 0..MOST_LOOKS {

@@ -1,10 +1,10 @@
 //! Where a number comes from, as it is printed.
 
 use crate::element::Shown;
+use crate::explored_program::ExploredProgram;
 use crate::making::Making;
-use crate::origin::{Brought, Origin};
-use crate::place::Place;
-use crate::subject::Subject;
+use crate::origin::{Brought, CellOrigin};
+use hintcheck_report::Place;
 use std::fmt;
 use tt_abs::Cell;
 
@@ -18,7 +18,7 @@ struct BroughtText {
 
 impl BroughtText {
     /// Makes the text of what one way brings.
-    fn of(subject: &Subject<'_>, brought: Brought) -> BroughtText {
+    fn of(subject: &ExploredProgram<'_>, brought: Brought) -> BroughtText {
         BroughtText {
             place: subject.place(brought.from),
             name: subject.name_at(brought.from),
@@ -44,20 +44,20 @@ impl fmt::Display for BroughtText {
 /// Where a number comes from, as it is printed.
 #[derive(Clone, Copy)]
 pub(crate) struct OriginText<'a, 'b> {
-    pub subject: &'a Subject<'b>,
-    pub origin: Origin,
+    pub subject: &'a ExploredProgram<'b>,
+    pub origin: CellOrigin,
 }
 
 impl fmt::Display for OriginText<'_, '_> {
     fn fmt<W: fmt::Write>(&self, f: &mut fmt::Formatter<W>) -> fmt::Result {
         match self.origin {
-            Origin::Made(point) => {
+            CellOrigin::Made(point) => {
                 let place = self.subject.place(point);
                 let name = self.subject.name_at(point);
                 let making = Making::strict(self.subject.code_at(point));
                 write!(f, "{name} at {place} {making}")
             }
-            Origin::Joined { at, first, second } => {
+            CellOrigin::Joined { at, first, second } => {
                 let place = self.subject.place(at);
                 let first = BroughtText::of(self.subject, first);
                 let second = BroughtText::of(self.subject, second);
@@ -67,14 +67,14 @@ impl fmt::Display for OriginText<'_, '_> {
                 )?;
                 write!(f, "{second}.")
             }
-            Origin::Start(element) => {
+            CellOrigin::Start(element) => {
                 write!(
                     f,
                     "the program starts with it: {element} isn't written before on a way "
                 )?;
                 write!(f, "that comes here.")
             }
-            Origin::Lost => write!(f, "what was searched doesn't tell."),
+            CellOrigin::Lost => write!(f, "what was searched doesn't tell."),
         }
     }
 }

@@ -1,15 +1,14 @@
 //! What is known at a place of a program, in each of its contexts.
 
-ghost use Rattle.std.specs.Prelude.{◌≢◌, Err};
 ghost use Rattle.hintcheck_explain.specs.Faults.{TellsFailure};
 
 use crate::asked::ExplainFault;
 use crate::calls::Calls;
 use crate::effect_text::tell_effect;
+use crate::explored_program::ExploredProgram;
 use crate::knowledge::Knowledge;
-use crate::place::{Place, program_at};
-use crate::subject::Subject;
 use crate::view::View;
+use hintcheck_report::{Place, program_at};
 use std::alloc::Global;
 use tt_abs::State;
 use tt_family::PointKey;
@@ -21,13 +20,12 @@ const SHOWN_CONTEXTS: u32 = 16;
 /// Prints what is known at a place in one context.
 fn tell_context<O: Sink>(
     alloc: Global,
-    subject: &Subject<'_>,
+    subject: &ExploredProgram<'_>,
     point: PointKey,
     state: &State,
     out: &mut O,
 ) -> Result<(), ExplainFault>
     ensures failures { TellsFailure result (O.failures out.old) (O.failures out.new) }
-    ensures other { result ≢ Err ExplainFault.NoInstruction }
 {
     let frames = subject.frames(alloc, point.0)?;
     let calls = Calls {
@@ -44,7 +42,11 @@ fn tell_context<O: Sink>(
 
 /// Returns the first context, from this one on, in which the program comes to a place, with the
 /// state there.
-fn next_context<'a>(subject: &Subject<'a>, place: Place, from: u32) -> Option<(u32, &'a State)> {
+fn next_context<'a>(
+    subject: &ExploredProgram<'a>,
+    place: Place,
+    from: u32,
+) -> Option<(u32, &'a State)> {
     for context in from..subject.certificate.contexts() {
         if program_at(subject.name, subject.spot(context)) == place.program {
             if let Some(state) = subject.certificate.state(context, place.offset) {
@@ -62,12 +64,11 @@ fn next_context<'a>(subject: &Subject<'a>, place: Place, from: u32) -> Option<(u
 /// `Write` where the text wasn't printed; `OutOfMemory`.
 pub(crate) fn tell_contexts<O: Sink>(
     alloc: Global,
-    subject: &Subject<'_>,
+    subject: &ExploredProgram<'_>,
     place: Place,
     out: &mut O,
 ) -> Result<(), ExplainFault>
     ensures failures { TellsFailure result (O.failures out.old) (O.failures out.new) }
-    ensures other { result ≢ Err ExplainFault.NoInstruction }
 {
     let mut from = 0;
     for shown in 0..SHOWN_CONTEXTS {

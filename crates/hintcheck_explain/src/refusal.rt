@@ -1,6 +1,5 @@
 //! Explains why a program is refused.
 
-ghost use Rattle.std.specs.Prelude.{◌≢◌, Err};
 ghost use Rattle.tt_stream.specs.Streams.{CountsPrintFailure};
 ghost use Rattle.hintcheck_explain.specs.Faults.{TellsFailure};
 
@@ -10,16 +9,16 @@ use crate::calls::Calls;
 use crate::cause::{tell_cause, trouble_of_program};
 use crate::diagnosis::trouble_at;
 use crate::effect_text::tell_effect;
+use crate::excerpt::{Code, Excerpt};
+use crate::explored_program::ExploredProgram;
 use crate::knowledge::Knowledge;
-use crate::listing::{Code, Listing};
 use crate::origin::origin_of;
 use crate::origin_text::OriginText;
-use crate::place::{Place, program_at};
 use crate::route::{Route, branches_to};
-use crate::stepping::{Outcome, outcome_at};
-use crate::subject::Subject;
+use crate::stepping::{StepOutcome, outcome_at};
 use crate::trouble::Trouble;
 use crate::view::View;
+use hintcheck_report::Place;
 use std::alloc::{AllocError, Global};
 use tt_abs::{Point, Spot, State};
 use tt_code::{Frame, Reason};
@@ -37,7 +36,7 @@ struct Case<'a> {
 
 /// Returns which test fails at a point with this reason, if one does.
 fn trouble_of(
-    subject: &Subject<'_>,
+    subject: &ExploredProgram<'_>,
     edges: &[Edge],
     point: PointKey,
     frames: &[Frame],
@@ -51,7 +50,7 @@ fn trouble_of(
         return Ok(None);
     };
     match outcome_at(subject.setting, frames, point.1, state)? {
-        Outcome::Refused(found) if found == reason => {
+        StepOutcome::Refused(found) if found == reason => {
             let at = Point {
                 frames,
                 offset: point.1,
@@ -59,7 +58,7 @@ fn trouble_of(
             let view = View::Strict(state);
             Ok(Some(trouble_at(subject.setting, &at, view, &instruction)))
         }
-        Outcome::Goes { .. } if reason == Reason::TooManyContexts => Ok(Some(Trouble::Other)),
+        StepOutcome::Goes { .. } if reason == Reason::TooManyContexts => Ok(Some(Trouble::Other)),
         _ => Ok(None),
     }
 }
@@ -67,7 +66,7 @@ fn trouble_of(
 /// Returns the point where a program is refused for a reason, with what is known there.
 fn case_of<'a>(
     alloc: Global,
-    subject: &Subject<'a>,
+    subject: &ExploredProgram<'a>,
     edges: &[Edge],
     spot: Spot,
     offset: u32,
@@ -104,13 +103,12 @@ fn case_of<'a>(
 /// Prints where a number comes from, if the program is refused because that number isn't known.
 fn tell_origin<O: Sink>(
     alloc: Global,
-    subject: &Subject<'_>,
+    subject: &ExploredProgram<'_>,
     edges: &[Edge],
     case: &Case<'_>,
     out: &mut O,
 ) -> Result<(), ExplainFault>
     ensures failures { TellsFailure result (O.failures out.old) (O.failures out.new) }
-    ensures other { result ≢ Err ExplainFault.NoInstruction }
 {
     if let Trouble::Unknown { element, role: _ } = case.trouble {
         let origin = origin_of(alloc, subject, edges, case.point, element)?;
@@ -122,7 +120,7 @@ fn tell_origin<O: Sink>(
 
 /// Prints what is known at the place of a case, and how the program comes there.
 fn tell_knowledge<O: Sink>(
-    subject: &Subject<'_>,
+    subject: &ExploredProgram<'_>,
     edges: &[Edge],
     case: &Case<'_>,
     out: &mut O,
@@ -149,13 +147,12 @@ fn tell_knowledge<O: Sink>(
 /// Prints one route to a point.
 fn tell_route<O: Sink>(
     alloc: Global,
-    subject: &Subject<'_>,
+    subject: &ExploredProgram<'_>,
     edges: &[Edge],
     point: PointKey,
     out: &mut O,
 ) -> Result<(), ExplainFault>
     ensures failures { TellsFailure result (O.failures out.old) (O.failures out.new) }
-    ensures other { result ≢ Err ExplainFault.NoInstruction }
 {
     let branches = branches_to(alloc, subject, edges, point)?;
     let route = Route {
@@ -171,13 +168,12 @@ fn tell_route<O: Sink>(
 /// different depths come.
 fn tell_routes<O: Sink>(
     alloc: Global,
-    subject: &Subject<'_>,
+    subject: &ExploredProgram<'_>,
     edges: &[Edge],
     case: &Case<'_>,
     out: &mut O,
 ) -> Result<(), ExplainFault>
     ensures failures { TellsFailure result (O.failures out.old) (O.failures out.new) }
-    ensures other { result ≢ Err ExplainFault.NoInstruction }
 {
     if let Trouble::Depths { one, other } = case.trouble {
         tell_route(alloc, subject, edges, one.point, out)?;
@@ -190,14 +186,13 @@ fn tell_routes<O: Sink>(
 /// what is known there and how the program comes there.
 fn tell_case<O: Sink>(
     alloc: Global,
-    subject: &Subject<'_>,
+    subject: &ExploredProgram<'_>,
     edges: &[Edge],
     case: Option<&Case<'_>>,
     reason: Reason,
     out: &mut O,
 ) -> Result<(), ExplainFault>
     ensures failures { TellsFailure result (O.failures out.old) (O.failures out.new) }
-    ensures other { result ≢ Err ExplainFault.NoInstruction }
 {
     match case {
         Some(case) => {
@@ -223,24 +218,20 @@ fn tell_case<O: Sink>(
 /// `Write` where the text wasn't printed; `OutOfMemory`.
 pub(crate) fn tell_refusal<O: Sink>(
     alloc: Global,
-    subject: &Subject<'_>,
+    subject: &ExploredProgram<'_>,
     spot: Spot,
     offset: u32,
     reason: Reason,
     out: &mut O,
 ) -> Result<(), ExplainFault>
     ensures failures { TellsFailure result (O.failures out.old) (O.failures out.new) }
-    ensures other { result ≢ Err ExplainFault.NoInstruction }
 {
     let edges = edges_of(alloc, subject)?;
     let edges = edges.as_slice();
     let case = case_of(alloc, subject, edges, spot, offset, reason)?;
     tell_case(alloc, subject, edges, case.as_ref(), reason, out)?;
-    let place = Place {
-        program: program_at(subject.name, spot),
-        offset,
-    };
-    let listing = Listing::around(Code::Cut(subject.code(spot)), place);
+    let place = Place::at(subject.name, spot, offset);
+    let listing = Excerpt::around(Code::Cut(subject.code(spot)), place);
     writeln!(out, "{listing}")?;
     Ok(())
 }

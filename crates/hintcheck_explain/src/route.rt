@@ -1,7 +1,7 @@
 //! One route from a program's start to a point: ways that follow one another.
 
 use crate::arrivals::{Edge, START};
-use crate::subject::Subject;
+use crate::explored_program::ExploredProgram;
 use std::alloc::{AllocError, Global};
 use std::collections::BTreeMap;
 use std::fmt;
@@ -74,7 +74,7 @@ pub(crate) struct Branch {
 }
 
 /// Whether a step does more than go on to the next instruction, or might have led elsewhere.
-fn is_branch(subject: &Subject<'_>, edges: &[Edge], branch: Branch) -> bool {
+fn is_branch(subject: &ExploredProgram<'_>, edges: &[Edge], branch: Branch) -> bool {
     let Some(instruction) = subject.instruction_at(branch.from) else {
         return true;
     };
@@ -95,7 +95,7 @@ fn is_branch(subject: &Subject<'_>, edges: &[Edge], branch: Branch) -> bool {
 /// If memory runs out.
 pub(crate) fn branches_to(
     alloc: Global,
-    subject: &Subject<'_>,
+    subject: &ExploredProgram<'_>,
     edges: &[Edge],
     point: PointKey,
 ) -> Result<Vec<Branch>, AllocError> {
@@ -119,7 +119,7 @@ pub(crate) fn branches_to(
 /// One route to a point, by its branches.
 #[derive(Clone, Copy)]
 pub(crate) struct Route<'a, 'b> {
-    pub subject: &'a Subject<'b>,
+    pub subject: &'a ExploredProgram<'b>,
     /// The branches, the first one first.
     pub branches: &'a [Branch],
     pub point: PointKey,

@@ -6,7 +6,7 @@ use tt_code::{Frame, Reason};
 
 /// What comes of the instruction at a point.
 #[derive(Drop)]
-pub(crate) enum Outcome {
+pub(crate) enum StepOutcome {
     /// None is there: it is the main program's end.
     Ends,
     /// The program goes on, and this is known then.
@@ -24,18 +24,18 @@ pub(crate) fn outcome_at(
     frames: &[Frame],
     offset: u32,
     state: &State,
-) -> Result<Outcome, AllocError> {
+) -> Result<StepOutcome, AllocError> {
     let point = Point { frames, offset };
     if setting.is_end(&point, offset) {
-        return Ok(Outcome::Ends);
+        return Ok(StepOutcome::Ends);
     }
     let mut next = state.copy()?;
     match step_at(setting, &point, &mut next) {
-        Ok(step) => Ok(Outcome::Goes {
+        Ok(step) => Ok(StepOutcome::Goes {
             moves: step.moves,
             state: next,
         }),
-        Err(StepFault::Refused(reason)) => Ok(Outcome::Refused(reason)),
+        Err(StepFault::Refused(reason)) => Ok(StepOutcome::Refused(reason)),
         Err(StepFault::OutOfMemory(error)) => Err(error),
     }
 }

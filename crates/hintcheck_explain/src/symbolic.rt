@@ -1,6 +1,5 @@
 //! Explains what the symbolic profile answers for a program that could be cut and is structured.
 
-ghost use Rattle.std.specs.Prelude.{◌≢◌, Err};
 ghost use Rattle.tt_stream.specs.Streams.{CountsPrintFailure};
 ghost use Rattle.hintcheck_explain.specs.Faults.{TellsFailure};
 
@@ -8,43 +7,22 @@ use crate::accepted::count_instructions;
 use crate::asked::{Asked, ExplainFault};
 use crate::cause::{tell_cause, trouble_of_program};
 use crate::effect_text::tell_effect;
+use crate::excerpt::{Code, Excerpt};
 use crate::instruction_text::name_of;
 use crate::legend::Legend;
-use crate::listing::{Code, Listing};
-use crate::place::{Place, Refused};
 use crate::symbolic_calls::SymbolicCalls;
 use crate::symbolic_case::{instruction_at, trouble_of};
 use crate::symbolic_knowledge::SymbolicKnowledge;
 use crate::symbolic_origin::{SourceText, code_of};
 use crate::trouble::Trouble;
 use crate::view::{View, symbolic_cell};
+use hintcheck_report::{Place, Refused};
 use std::alloc::Global;
 use tt_abs::{Setting, Spot};
 use tt_cert::Name;
 use tt_code::Reason;
 use tt_stream::{PrintFailed, Sink};
 use tt_symbolic_search::{Insight, KnownState};
-
-/// Where and why a program is refused.
-#[derive(Clone, Copy, Debug, PartialEq, Eq)]
-pub struct RefusedAt {
-    /// The program in which the place is: for a function's instruction the one in which its body is.
-    pub program: Name,
-    /// The offset there.
-    pub offset: u32,
-    /// Why.
-    pub reason: Reason,
-}
-
-impl RefusedAt {
-    /// Returns the place.
-    fn place(self) -> Place {
-        Place {
-            program: self.program,
-            offset: self.offset,
-        }
-    }
-}
 
 /// A program that is explained: its name, what it is checked against, and what the search tells of
 /// it.
@@ -69,8 +47,8 @@ impl<'a> Searched<'a> {
     }
 
     /// Returns the instructions around a place.
-    fn listing(&self, place: Place) -> Listing<'a> {
-        Listing::around(
+    fn listing(&self, place: Place) -> Excerpt<'a> {
+        Excerpt::around(
             Code::Cut(code_of(self.setting, self.spot(place.program))),
             place,
         )
@@ -115,7 +93,6 @@ fn tell_state<O: Sink>(
     out: &mut O,
 ) -> Result<(), ExplainFault>
     ensures failures { TellsFailure result (O.failures out.old) (O.failures out.new) }
-    ensures other { result ≢ Err ExplainFault.NoInstruction }
 {
     let state = &known.state;
     let legend = Legend::of(alloc, state)?;
@@ -143,7 +120,6 @@ fn tell_states<O: Sink>(
     out: &mut O,
 ) -> Result<(), ExplainFault>
     ensures failures { TellsFailure result (O.failures out.old) (O.failures out.new) }
-    ensures other { result ≢ Err ExplainFault.NoInstruction }
 {
     for known in seen {
         let state = &known.state;
@@ -165,7 +141,6 @@ fn tell_place<O: Sink>(
     out: &mut O,
 ) -> Result<(), ExplainFault>
     ensures failures { TellsFailure result (O.failures out.old) (O.failures out.new) }
-    ensures other { result ≢ Err ExplainFault.NoInstruction }
 {
     let place = Place {
         program: searched.name,
@@ -227,7 +202,6 @@ fn tell_case<O: Sink>(
     out: &mut O,
 ) -> Result<(), ExplainFault>
     ensures failures { TellsFailure result (O.failures out.old) (O.failures out.new) }
-    ensures other { result ≢ Err ExplainFault.NoInstruction }
 {
     let Some(known) = searched.refused() else {
         let trouble = trouble_of_program(searched.setting, reason);
@@ -251,25 +225,18 @@ fn tell_case<O: Sink>(
 fn tell_refused<O: Sink>(
     alloc: Global,
     searched: Searched<'_>,
-    refused: RefusedAt,
+    refused: Refused,
     offset: Option<u32>,
     out: &mut O,
 ) -> Result<(), ExplainFault>
     ensures failures { TellsFailure result (O.failures out.old) (O.failures out.new) }
-    ensures other { result ≢ Err ExplainFault.NoInstruction }
 {
-    let place = refused.place();
-    let line = Refused {
-        program: searched.name,
-        place,
-        reason: refused.reason,
-    };
-    writeln!(out, "{line}")?;
+    writeln!(out, "{refused}")?;
     if offset.is_some() {
         return Ok(());
     }
     tell_case(alloc, searched, refused.reason, out)?;
-    let listing = searched.listing(place);
+    let listing = searched.listing(refused.place);
     writeln!(out, "{listing}")?;
     Ok(())
 }
@@ -284,12 +251,11 @@ pub fn explain_symbolic<O: Sink>(
     alloc: Global,
     setting: &Setting<'_>,
     asked: Asked,
-    refused: Option<RefusedAt>,
+    refused: Option<Refused>,
     insight: Option<&Insight>,
     out: &mut O,
 ) -> Result<(), ExplainFault>
     ensures failures { TellsFailure result (O.failures out.old) (O.failures out.new) }
-    ensures other { result ≢ Err ExplainFault.NoInstruction }
 {
     let searched = Searched {
         name: asked.program,

@@ -2,7 +2,7 @@
 
 use crate::calls::FunctionText;
 use crate::legend::{CellText, Legend};
-use crate::place::{Place, program_at};
+use hintcheck_report::Place;
 use std::fmt;
 use tt_abs::Spot;
 use tt_abs::setting::body_offset;
@@ -22,14 +22,12 @@ impl SymbolicCalls<'_, '_> {
     /// Returns a call as text.
     fn call(&self, caller: Spot, call: OpenCall) -> OpenCallText<'_> {
         OpenCallText {
-            place: Place {
-                program: program_at(self.program, caller),
-                offset: call.call,
-            },
-            body: Place {
-                program: program_at(self.program, Spot::of_body(call.body)),
-                offset: body_offset(call.body),
-            },
+            place: Place::at(self.program, caller, call.call),
+            body: Place::at(
+                self.program,
+                Spot::of_body(call.body),
+                body_offset(call.body),
+            ),
             function: FunctionText {
                 functions: self.state.functions.as_slice(),
                 body: call.body,

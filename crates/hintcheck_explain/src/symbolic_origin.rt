@@ -2,7 +2,7 @@
 
 use crate::instruction_text::name_of;
 use crate::making::Making;
-use crate::place::{Place, program_at};
+use hintcheck_report::Place;
 use std::fmt;
 use tt_abs::{Kind, Setting, Spot};
 use tt_cert::Name;
@@ -46,10 +46,7 @@ pub(crate) struct SourceText<'a> {
 impl SourceText<'_> {
     /// Returns a place as it is printed.
     fn place(&self, at: SearchedPlace) -> Place {
-        Place {
-            program: program_at(self.program, at.spot),
-            offset: at.offset,
-        }
+        Place::at(self.program, at.spot, at.offset)
     }
 
     /// Returns the code of the instruction at a place, if one is there.

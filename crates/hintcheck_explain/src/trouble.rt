@@ -1,7 +1,7 @@
 //! Which test of an instruction fails, with the numbers of the case.
 
 use crate::element::Element;
-use crate::place::Place;
+use hintcheck_report::Place;
 use tt_family::PointKey;
 
 /// What an instruction uses a number as: the number of a point, the index of a storage cell, a

@@ -2,15 +2,17 @@
 
 ghost use Rattle.std.specs.Prelude.{◌++◌, codes, OnOk};
 ghost use Rattle.tt_stream.specs.Streams.{CountsPrintFailure};
-ghost use Rattle.hintcheck_explain.specs.Texts.{WritesFirst, refused_text};
+ghost use Rattle.hintcheck_explain.specs.Texts.{WritesFirst};
+ghost use Rattle.hintcheck_report.specs.Texts.{refused_text};
 
 use crate::asked::Asked;
+use crate::excerpt::{Code, Excerpt};
 use crate::instruction_text::{length_by_code, name_of};
-use crate::listing::{Code, Listing};
 use crate::meaning::{advice_of, class_of, class_text};
-use crate::place::{Place, Refused};
 use crate::trouble::Trouble;
+use hintcheck_report::Refused;
 use std::fmt;
+use tt_abs::Spot;
 use tt_code::Reason;
 use tt_stream::{PrintFailed, Sink};
 
@@ -70,19 +72,11 @@ pub fn explain_unread<O: Sink>(
     out: &mut O,
 ) -> Result<(), PrintFailed>
     ensures begins { OnOk result (WritesFirst
-        (refused_text asked.program asked.program offset reason ++ codes "\n")
+        (refused_text (reported_at asked.program Spot.Main offset reason) ++ codes "\n")
         (O.contents out.old) (O.contents out.new)) }
     ensures failures { CountsPrintFailure result (O.failures out.old) (O.failures out.new) }
 {
-    let place = Place {
-        program: asked.program,
-        offset,
-    };
-    let refused = Refused {
-        program: asked.program,
-        place,
-        reason,
-    };
+    let refused = Refused::at(asked.program, Spot::Main, offset, reason);
     let rest = match bytes.get(offset as usize..) {
         Some(rest) => rest,
         None => &[],
@@ -91,7 +85,7 @@ pub fn explain_unread<O: Sink>(
     let class = class_of(reason, Trouble::Other);
     let kind = class_text(reason, class);
     let advice = advice_of(reason, class, "");
-    let listing = Listing::around(Code::Uncut(bytes), place);
+    let listing = Excerpt::around(Code::Uncut(bytes), refused.place);
     writeln!(out, "{refused}")?;
     writeln!(out, "Why: {why}\nClass: {kind}\nWhat to do: {advice}")?;
     writeln!(out, "{listing}")?;

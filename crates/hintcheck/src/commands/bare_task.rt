@@ -7,9 +7,9 @@ ghost use Rattle.hintcheck.specs.CommandFaults.{IsFaultOfGlyph, SpellNoFault};
 ghost use Rattle.hintcheck.specs.MeansSafe.{SpellRefusedBy, SpellSafeBy, SpellVerdictBy};
 
 use super::faults::CommandFault;
-use crate::bare_program::bare;
-use crate::report::Verdict;
-use crate::symbolic_bare::bare_symbolic;
+use hintcheck_fonts::bare_program::bare;
+use hintcheck_fonts::report::Verdict;
+use hintcheck_fonts::symbolic_bare::bare_symbolic;
 use hintcheck_words::{Profile, word_bytes};
 use std::alloc::Global;
 

@@ -1,17 +1,18 @@
 //! The subcommand `check`: the verdict on a font file by its certificate.
 
 ghost use Rattle.std.specs.Prelude.{◌≡◌, ◌+◌, IfErr, IfOk, IfSome, List, Err, Ok, length, ℕ, []};
-ghost use Rattle.hintcheck.specs.Certificates.{IsChecked};
+ghost use Rattle.hintcheck_fonts.specs.Certificates.{IsChecked};
 ghost use Rattle.hintcheck.specs.Commands.{AtForm, IsNoWriteFault};
 ghost use Rattle.hintcheck.specs.CommandFaults.{IsFaultOfChecking, IsWithin};
-ghost use Rattle.hintcheck.specs.FontPrograms.{IsFontInRange, IsSafeFont};
-ghost use Rattle.hintcheck.specs.MeansSafe.{HoldFont, HoldSafeFont, IsCheckOn};
+ghost use Rattle.hintcheck_fonts.specs.FontPrograms.{IsFontInRange, IsSafeFont};
+ghost use Rattle.hintcheck.specs.MeansSafe.{HoldFont, IsCheckOn};
+ghost use Rattle.hintcheck_fonts.specs.FontAnswers.{HoldSafeFont};
 
 use super::faults::CommandFault;
 use super::files::{file_bytes, opened};
-use crate::font::read_font;
-use crate::font_check::{check_read_font, check_read_font_within};
-use crate::report::Verdict;
+use hintcheck_fonts::font::read_font;
+use hintcheck_fonts::font_check::{check_read_font, check_read_font_within};
+use hintcheck_fonts::report::Verdict;
 use std::alloc::Global;
 use std::io::Read;
 use std::rt::Files;

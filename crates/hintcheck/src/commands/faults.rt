@@ -3,11 +3,11 @@
 ghost use Rattle.std.specs.Prelude.{◌≡◌, ◌≤◌};
 ghost use Rattle.hintcheck.specs.Commands.{IsNoWriteFault, fault_of_word, status_of};
 
-use crate::certificate::FindFontFault;
-use crate::certificate_upgrade::UpgradeFault;
-use crate::font::VerdictFault;
-use crate::font_check::CheckFontFault;
 use hintcheck_explain::ExplainFault;
+use hintcheck_fonts::certificate::FindFontFault;
+use hintcheck_fonts::certificate_upgrade::UpgradeFault;
+use hintcheck_fonts::font::VerdictFault;
+use hintcheck_fonts::font_check::CheckFontFault;
 use hintcheck_words::{TaskFault, WordFault};
 use std::alloc::AllocError;
 use std::error::Error;
@@ -243,7 +243,6 @@ impl From<ExplainFault> for CommandFault {
     fn from(fault: ExplainFault) -> CommandFault {
         match fault {
             ExplainFault::Write(failed) => CommandFault::from(failed),
-            ExplainFault::NoInstruction => CommandFault::OffsetWord,
             ExplainFault::OutOfMemory(AllocError) => CommandFault::OutOfMemory,
         }
     }

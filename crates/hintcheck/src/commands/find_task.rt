@@ -2,19 +2,19 @@
 
 ghost use Rattle.std.specs.Prelude.{◌≡◌, ◌≢◌, IfErr, IfOk, List, Err, Ok, OnOk, None, ℕ, []};
 ghost use Rattle.std.specs.Io.KnownBytes.{Keeps};
-ghost use Rattle.hintcheck.specs.BudgetAnswers.{IsFindFaultOutsideFont};
-ghost use Rattle.hintcheck.specs.CertificateFaults.{WritesNothing};
-ghost use Rattle.hintcheck.specs.CertificateTexts.{IsPassingCertificate, WritesText};
+ghost use Rattle.hintcheck_fonts.specs.BudgetAnswers.{IsFindFaultOutsideFont};
+ghost use Rattle.hintcheck_fonts.specs.CertificateFaults.{WritesNothing};
+ghost use Rattle.hintcheck_fonts.specs.CertificateTexts.{IsPassingCertificate, WritesText};
 ghost use Rattle.hintcheck.specs.Commands.{IsNoWriteFault};
 ghost use Rattle.hintcheck.specs.CommandFaults.{IsFaultOfCertifying, IsFaultOfFinding, IsWithin};
-ghost use Rattle.hintcheck.specs.FontPrograms.{IsFontInRange, IsVerdict};
-ghost use Rattle.hintcheck.specs.MeansSafe.{HoldRefusedFont, HoldSafeFont, IsVerdictOn};
+ghost use Rattle.hintcheck_fonts.specs.FontPrograms.{IsFontInRange, IsVerdict};
+ghost use Rattle.hintcheck_fonts.specs.FontAnswers.{HoldRefusedFont, HoldSafeFont, IsVerdictOn};
 
 use super::faults::CommandFault;
 use super::files::{ROOM, file_bytes, file_numbers, is_same_file, write_rest};
-use crate::certificate::{FindFontFault, find_programs, find_programs_within};
-use crate::font::read_font;
-use crate::report::Verdict;
+use hintcheck_fonts::certificate::{FindFontFault, find_programs, find_programs_within};
+use hintcheck_fonts::font::read_font;
+use hintcheck_fonts::report::Verdict;
 use std::alloc::Global;
 use std::fs;
 use std::io::{BufWriter, Write};

@@ -15,7 +15,7 @@ use super::faults::CommandFault;
 use super::verdict_lines::end_of_profile;
 use super::verdict_task::file_verdict;
 use super::{ACCEPTED, REFUSED};
-use crate::report::{Name, Refused, Verdict};
+use hintcheck_fonts::report::{Name, Refused, Verdict};
 use hintcheck_words::{FailOn, Profile, ScanOptions};
 use std::rt::Files;
 use tt_code::{Reason, ReasonClass};

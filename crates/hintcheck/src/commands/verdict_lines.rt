@@ -9,7 +9,7 @@ ghost use Rattle.hintcheck.specs.Texts.{end_line, profile_text, verdict_text};
 
 use super::faults::CommandFault;
 use super::{ACCEPTED, REFUSED};
-use crate::report::{Name, Verdict};
+use hintcheck_fonts::report::{Name, Verdict};
 use hintcheck_words::Profile;
 use tt_stream::{PrintFailed, Sink};
 

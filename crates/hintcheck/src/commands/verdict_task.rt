@@ -3,14 +3,14 @@
 ghost use Rattle.std.specs.Prelude.{◌≡◌, ◌≢◌, IfErr, IfOk, List, Err, Ok, OnOk, ℕ, []};
 ghost use Rattle.hintcheck.specs.Commands.{HasAll, IsNoWriteFault, ReadsToEnd, TellsFailedRead};
 ghost use Rattle.hintcheck.specs.CommandFaults.{IsFaultOfFontFile, IsFaultOfSource, IsFaultWithin, IsWithin, ReadNoFault};
-ghost use Rattle.hintcheck.specs.MeansSafe.{HoldRefusedBy, HoldSafeBy, IsVerdictBy, IsVerdictOn};
-ghost use Rattle.hintcheck.specs.SymbolicAnswers.{IsSymbolicVerdictOn};
+ghost use Rattle.hintcheck.specs.MeansSafe.{HoldRefusedBy, HoldSafeBy, IsVerdictBy};
+ghost use Rattle.hintcheck_fonts.specs.FontAnswers.{IsSymbolicVerdictOn, IsVerdictOn};
 
 use super::faults::CommandFault;
 use super::files::opened;
-use crate::font::{self, verdict_within};
-use crate::report::Verdict;
-use crate::symbolic_verdict::{verdict_symbolic, verdict_symbolic_within};
+use hintcheck_fonts::font::{self, verdict_within};
+use hintcheck_fonts::report::Verdict;
+use hintcheck_fonts::symbolic_verdict::{verdict_symbolic, verdict_symbolic_within};
 use hintcheck_words::Profile;
 use std::alloc::Global;
 use std::io::Read;

@@ -1,10 +1,17 @@
+use Rattle.tt_abs.specs.Settings.{setting_of}
 use Rattle.hintcheck_explain.specs.declared.asked.Explained.{Explained}
-use Rattle.hintcheck.proofs.ExplanationLemmas.{failed_text, fault_of_text}
+use Rattle.hintcheck_fonts.proofs.ProgramVerdictLemmas.{HasFlow}
+use Rattle.hintcheck.proofs.ExplanationLemmas.{answered, failed_text, fault_of_text}
 use Rattle.hintcheck.proofs.explanation.explain_in.Goals as goal
 
-pub returns-in_err-explain-clause-failures : goal.returns-in_err-explain-clause-failures
-returns-in_err-explain-clause-failures g c = failed_text Explained c.in_err-explain.field-0.0 c.from_residual.result _ _ c.in_err-explain.ensures.failures c.from_residual.ensures.1
+pub returns-in_err-explained-clause-failures : goal.returns-in_err-explained-clause-failures
+returns-in_err-explained-clause-failures g c = failed_text Explained c.in_err-explained.field-0.0 c.from_residual.result _ _ c.in_err-explained.ensures.failures c.from_residual.ensures.1
 
-pub returns-in_err-explain-clause-faults : goal.returns-in_err-explain-clause-faults
-returns-in_err-explain-clause-faults g c =
-    fault_of_text c.in_err-explain.field-0.0 c.from_residual.result (λ none. c.explain.ensures.none (cc) c.requires.place) c.from_residual.ensures.1
+pub returns-in_err-explained-clause-faults : goal.returns-in_err-explained-clause-faults
+returns-in_err-explained-clause-faults g c = fault_of_text c.in_err-explained.field-0.0 c.from_residual.result c.from_residual.ensures.1
+
+pub returns-clause-answered : goal.returns-clause-answered
+returns-clause-answered g c = λ x subject.
+    let s = c.args.setting.now in
+    let h : HasFlow (setting_of s) s.start.now = record { range = c.range_facts.ensures.range; short = c.range_facts.ensures.short; ascends = c.requires.ascends; fits = c.requires.fits } in
+    answered x s c.explain.result c.in_ok-explained.explained subject h (cc) c.explain.ensures.accepted c.explain.ensures.refused

@@ -1,7 +1,7 @@
 use Rattle.std.proofs.Common.{Bor, ap, subst}
 use Rattle.tt_font.specs.Reading.{FontData}
 use Rattle.hintcheck.specs.Explanations.{TellsProgram}
-use Rattle.hintcheck.specs.Representation.ProgramOrder.{stage_of}
+use Rattle.hintcheck_fonts.specs.Representation.ProgramOrder.{stage_of}
 use Rattle.hintcheck.proofs.ExplanationLemmas.{next_told}
 use Rattle.hintcheck.proofs.explanation.explain_judged.Goals as goal
 
@@ -11,5 +11,5 @@ returns-clause-tells g c =
     let (x, next, name, kept) = c.in_ok-refused.ensures.there c.in_default.is in
     let font = ap (λ (f : Bor FontData). f.now) c.refused_before.ensures.font in
     subst (λ (d : FontData). TellsProgram d c.args.called c.exit_status.result) font
-    (next_told programs.font.now c.args.called (stage_of programs) x c.in_ok-accepted.accepted c.exit_status.result next name kept (c.in_ok-accepted.ensures.judged x next)
+    (next_told programs.font.now c.args.called (stage_of programs) x c.in_ok-explained.explained c.exit_status.result next name kept (c.in_ok-explained.ensures.answered x next)
     c.exit_status.ensures.accepted c.exit_status.ensures.refused)

@@ -1,8 +1,8 @@
 use Rattle.std.proofs.Common.{◌≡◌}
-use Rattle.hintcheck.specs.Representation.ProgramOrder.{stage_of}
-use Rattle.hintcheck.specs.Representation.SessionStages.{KeepsKnown}
-use Rattle.hintcheck.proofs.ProgramSteps.{calls_left}
-use Rattle.hintcheck.proofs.VerdictSteps.{IsOnWay}
+use Rattle.hintcheck_fonts.specs.Representation.ProgramOrder.{stage_of}
+use Rattle.hintcheck_fonts.specs.Representation.SessionStages.{KeepsKnown}
+use Rattle.hintcheck_fonts.proofs.ProgramSteps.{calls_left}
+use Rattle.hintcheck.proofs.ProgramsBefore.{IsOnWay}
 use Rattle.hintcheck.proofs.explanation.refused_before.Given as goal
 
 abbrev pub invariant-loop-alloc : goal.invariant-loop-alloc

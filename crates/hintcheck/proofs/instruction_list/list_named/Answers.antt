@@ -3,16 +3,17 @@ use Rattle.std.specs.Prelude.{codes}
 use Rattle.std.specs.Io.KnownBytes.{Appends}
 use Rattle.std.proofs.Common.{ℕ, List, [], ◌++◌, subst}
 use Rattle.tt_font.specs.Reading.{no_glyph}
-use Rattle.hintcheck.specs.FontPrograms.{font_of, glyph_subject, one_glyph_font}
-use Rattle.hintcheck.specs.Programs.{IsRefusal, Subject}
+use Rattle.hintcheck_fonts.specs.FontPrograms.{font_of, glyph_subject, one_glyph_font}
+use Rattle.hintcheck_fonts.specs.Programs.{IsRefusal, Subject}
 use Rattle.tt_family.specs.Checks.{IsOutOfMemory}
 use Rattle.tt_abs.specs.declared.refusal.Refusal.{Refusal}
 use Rattle.tt_abs.specs.declared.refusal.Refusal.TheVariants as fault
-use Rattle.hintcheck.specs.Representation.Judges.{IsRefusedFor}
-use Rattle.hintcheck.proofs.BareProgramLemmas.{uncut_refusal}
-use Rattle.hintcheck.specs.ProgramVerdicts.{IfRefused, reported_at}
-use Rattle.hintcheck.specs.Texts.{refused_text}
-use Rattle.hintcheck.specs.declared.report.Refused.{Refused}
+use Rattle.hintcheck_fonts.specs.Representation.Judges.{IsRefusedFor}
+use Rattle.hintcheck_fonts.proofs.BareProgramLemmas.{uncut_refusal}
+use Rattle.hintcheck_fonts.specs.ProgramVerdicts.{IfRefused}
+use Rattle.hintcheck_report.specs.Places.{reported_at}
+use Rattle.hintcheck_report.specs.Texts.{refused_text}
+use Rattle.hintcheck_report.specs.declared.refused.Refused.{Refused}
 use Rattle.hintcheck.proofs.ListingLemmas.{tells_unlisted}
 use Rattle.hintcheck.proofs.instruction_list.list_named.Goals as goal
 

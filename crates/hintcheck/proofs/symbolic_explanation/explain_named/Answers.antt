@@ -1,9 +1,9 @@
 use Rattle.std.proofs.Common.{◌≡◌, ◌∙◌, List, Option, Some, ap, arith, subst, sym}
 use Rattle.std.specs.Prelude.{is_some}
 use Rattle.std.proofs.lemmas.Result.{IfOk-weaker}
-use Rattle.hintcheck.specs.FontPrograms.{judgement_on}
+use Rattle.hintcheck_fonts.specs.FontPrograms.{judgement_on}
 use Rattle.hintcheck.specs.SymbolicExplanations.{first_against}
-use Rattle.hintcheck.specs.declared.report.Refused.{Refused}
+use Rattle.hintcheck_report.specs.declared.refused.Refused.{Refused}
 use Rattle.hintcheck.proofs.symbolic_explanation.explain_named.Goals as goal
 
 pub returns-then-ne-clause-status : goal.returns-then-ne-clause-status

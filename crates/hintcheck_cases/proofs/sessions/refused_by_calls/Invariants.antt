@@ -1,4 +1,4 @@
-use Rattle.hintcheck.specs.Sessions.{IsForChecking}
+use Rattle.hintcheck_fonts.specs.Sessions.{IsForChecking}
 use Rattle.hintcheck_cases.proofs.sessions.refused_by_calls.Given as goal
 
 abbrev pub invariant-loop : goal.invariant-loop

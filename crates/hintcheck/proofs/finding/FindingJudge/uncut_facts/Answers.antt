@@ -1,6 +1,0 @@
-use Rattle.hintcheck.specs.Representation.ProgramOrder.{with_start}
-use Rattle.hintcheck.proofs.JudgeLaws.{uncut_is_refused}
-use Rattle.hintcheck.proofs.finding.FindingJudge.uncut_facts.Goals as goal
-
-pub returns : goal.returns
-returns c = λ x start r uncut. uncut_is_refused (with_start x start) r uncut

@@ -1,8 +1,0 @@
-use Rattle.std.proofs.Common.{sym, ◌∙◌, ap}
-use Rattle.hintcheck.specs.Sessions.{Standing}
-use Rattle.hintcheck.proofs.SessionSteps.{over_is_last}
-use Rattle.hintcheck.proofs.session.Session.find_next_within.Goals as goal
-
-pub returns-then-is_over-clause-found : goal.returns-then-is_over-clause-found
-returns-then-is_over-clause-found c =
-    over_is_last c.args.self.now.font c.args.self.now.stage (sym (ap (λ (s : Standing). s.stage) c.self.view_is) ∙ c.is_over.ensures.0 c.if-is_over.true)

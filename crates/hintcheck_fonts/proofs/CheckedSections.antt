@@ -1,0 +1,94 @@
+-- A section that is read, and the glyph programs that are checked by theirs.
+use Rattle.std.proofs.Common.{◌≡◌, ◌≢◌, ℕ, zero, suc, ◌+◌, ◌<◌, List, [], ◌∷◌, ◌++◌, length, drop, Option, Some, Ok, Err, refl, sym, ◌∙◌, ap, subst, arith, append_assoc}
+use Rattle.std.specs.Prelude.{slice_get}
+use Rattle.std.proofs.lemmas.List.{drop_all}
+use Rattle.tt_family.specs.Contents.{Contents}
+use Rattle.tt_family.specs.Ascending.{IsFinished}
+use Rattle.tt_cert.specs.Answers.{CountsRead, GivesSection, input_at}
+use Rattle.tt_cert.specs.declared.fault.DecodeFault.{DecodeFault}
+use Rattle.tt_cert.specs.declared.fault.DecodeFault.TheVariants as decode
+use Rattle.tt_cert.specs.declared.form.Form.{Form}
+use Rattle.tt_cert.specs.declared.name.Name.{Name}
+use Rattle.tt_cert.specs.Reading.{section_at}
+use Rattle.tt_cert.specs.Sections.{section_of}
+use Rattle.tt_font.specs.Reading.{GlyphData}
+use Rattle.hintcheck_fonts.specs.CertificateFaults.{CountsCheck, Decodes, IsCheckFaultOutsideFontAndBudget, fault_of_decoding}
+use Rattle.hintcheck_fonts.specs.Certificates.{Finding, HasNoSection, IsSectionOf, not_read, of_another, refused_before}
+use Rattle.hintcheck_fonts.specs.CheckedFonts.{Finds, IsTold, all_refused}
+use Rattle.hintcheck_fonts.specs.declared.font_check.CheckFontFault.{CheckFontFault}
+use Rattle.hintcheck_fonts.specs.declared.font_check.CheckFontFault.TheVariants as check
+use Rattle.hintcheck_report.specs.declared.refused.Refused.{Refused}
+
+-- sections
+
+pub section_read : (form : Form) (old new : Option (List ℕ)) (place after : ℕ) (called named : Name) (family : Contents)
+    → GivesSection old new (Ok (named, family, after)) (section_at form (input_at place old)) → named ≡ called → IsFinished family → IsTold old
+    → IsTold new × IsSectionOf form (input_at place old) called family (input_at after new)
+section_read form old new place after called named family gives same finished told =
+    let read = gives told in
+    (read.0, record { in_order = finished; is_read = read.1 ∙ ap (λ (n : Name). Ok (section_of n family, input_at after new)) same })
+
+pub section_of_another : (form : Form) (old new : Option (List ℕ)) (place after : ℕ) (called named : Name) (family : Contents)
+    → GivesSection old new (Ok (named, family, after)) (section_at form (input_at place old)) → named ≢ called → IsTold old
+    → HasNoSection form (input_at place old) called place
+section_of_another form old new place after called named family gives differs told = of_another (section_of named family) (input_at after new) (gives told).1 differs
+
+pub no_section_read : {T : Type 0} (Is : T → Type 0) (form : Form) (old new : Option (List ℕ)) (place : ℕ) (called : Name) (e : DecodeFault)
+    → GivesSection old new (Err e) (section_at form (input_at place old)) → IsTold old → Decodes {T = T} (Err e) Is (HasNoSection form (input_at place old) called)
+no_section_read Is form old new place called (decode.Form p) gives told = not_read p (gives told)
+no_section_read Is form old new place called decode.Read gives told = tt
+no_section_read Is form old new place called (decode.OutOfMemory e) gives told = tt
+
+-- glyph programs
+
+pub dropped : (glyphs : List GlyphData) (id : ℕ) (g : GlyphData) → slice_get glyphs id ≡ Some g → drop id glyphs ≡ g ∷ drop (id + 1) glyphs
+dropped [] id g at = absurd cc
+dropped (x ∷ xs) zero g at = let same : x ≡ g = cc in ap (λ (y : GlyphData). y ∷ xs) same
+dropped (x ∷ xs) (suc id) g at =
+    let n : suc id + 1 ≡ suc (id + 1) = omega arith in
+    dropped xs id g at ∙ ap (λ (k : ℕ). g ∷ drop k (x ∷ xs)) (sym n)
+
+pub one_more : (rs : List Refused) (r : Refused) (finding : Finding) → all_refused rs (refused_before r finding) ≡ all_refused (rs ++ r ∷ []) finding
+one_more rs r (Ok others) = ap Ok (sym (append_assoc rs (r ∷ []) others))
+one_more rs r (Err place) = refl
+
+-- a number below that of the glyphs has its glyph
+pub slice_there : (glyphs : List GlyphData) (id : ℕ) → id < length glyphs → (g : GlyphData) × (slice_get glyphs id ≡ Some g)
+slice_there [] id lt = absurd (omega arith)
+slice_there (x ∷ xs) zero lt = (x, refl)
+slice_there (x ∷ xs) (suc id) lt = slice_there xs id (omega arith)
+
+pub all_dropped : (glyphs : List GlyphData) → drop (length glyphs) glyphs ≡ []
+all_dropped glyphs = drop_all (length glyphs) glyphs (omega arith)
+
+-- a fault, which names a place of what was asked, names one of what is asked now
+pub finds_fault : {T U : Type 0} (Is : T → Type 0) (Is' : U → Type 0) (At At' : ℕ → Type 0) (e : CheckFontFault) → Finds {T = T} (Err e) Is At → ((place : ℕ) → At place → At' place)
+    → Finds {T = U} (Err e) Is' At'
+finds_fault Is Is' At At' (check.Form place) h f = f place h
+finds_fault Is Is' At At' check.Read h f = tt
+finds_fault Is Is' At At' (check.Font e) h f = tt
+finds_fault Is Is' At At' (check.OutOfMemory e) h f = tt
+finds_fault Is Is' At At' check.Budget h f = tt
+
+-- so does a section that isn't there
+pub finds_decoding : {T U : Type 0} (Is : T → Type 0) (Is' : U → Type 0) (At At' : ℕ → Type 0) (e : DecodeFault) → Decodes {T = T} (Err e) Is At → ((place : ℕ) → At place → At' place)
+    → Finds {T = U} (Err (fault_of_decoding e)) Is' At'
+finds_decoding Is Is' At At' (decode.Form place) h f = f place h
+finds_decoding Is Is' At At' decode.Read h f = tt
+finds_decoding Is Is' At At' (decode.OutOfMemory e) h f = tt
+
+-- failures are counted from before the call too, where nothing failed till then
+
+pub counts_from : (e : CheckFontFault) (first old new : ℕ) → old ≡ first → CountsCheck {T = Unit {0}} (Err e) old new → CountsCheck {T = Unit {0}} (Err e) first new
+counts_from e first old new same h = let C : ℕ → Type 0 = λ n. CountsCheck {T = Unit {0}} (Err e) n new in subst C same h
+
+pub counts_decoding : (e : DecodeFault) (old new : ℕ) → CountsRead {T = Unit {0}} (Err e) old new → CountsCheck {T = Unit {0}} (Err (fault_of_decoding e)) old new
+counts_decoding decode.Read old new h = h
+counts_decoding (decode.OutOfMemory error) old new h = h
+counts_decoding (decode.Form place) old new h = h
+
+-- a certificate that can't be read isn't a fault of the font's
+pub decoding_is_no_font : (e : DecodeFault) → IsCheckFaultOutsideFontAndBudget (fault_of_decoding e)
+decoding_is_no_font decode.Read = tt
+decoding_is_no_font (decode.OutOfMemory error) = tt
+decoding_is_no_font (decode.Form place) = tt

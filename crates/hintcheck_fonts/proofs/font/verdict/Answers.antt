@@ -1,0 +1,18 @@
+use Rattle.std.proofs.Common.{◌≡◌, ◌+◌, sym, ◌∙◌, subst, length}
+use Rattle.hintcheck_fonts.specs.FontPrograms.{IsFontInRange, IsVerdict, judgement_on}
+use Rattle.hintcheck_fonts.specs.Verdicts.{Judgement}
+use Rattle.hintcheck_fonts.proofs.FontSafety.{font_is_safe}
+use Rattle.hintcheck_fonts.proofs.font.verdict.Goals as goal
+
+pub refused_programs-requires : goal.refused_programs-requires
+refused_programs-requires c = c.in_ok-read.ensures.range
+
+pub returns-clause-exact : goal.returns-clause-exact
+returns-clause-exact c =
+    let d = c.in_ok-read.read in
+    let range : IsFontInRange d = c.in_ok-read.ensures.range in
+    let count : c.from.result ≡ length d.glyphs = c.from.ensures ∙ c.glyph_count.ensures in
+    let same : c.new.result ≡ judgement_on d c.in_ok-refused.refused.items = c.new.ensures ∙ (λ i. record { programs = count i + 2; refused = c.in_ok-refused.refused.items }) in
+    let V : Judgement → Type 0 = λ v. IsVerdict d v in
+    let is : IsVerdict d c.new.result = subst V (sym same) c.in_ok-refused.ensures.refused in
+    (d, c.in_ok-read.ensures.reads, is, font_is_safe d range c.new.result is)

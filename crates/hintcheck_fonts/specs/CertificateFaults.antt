@@ -1,0 +1,89 @@
+-- Why a font isn't checked by a certificate, or has none written, and what that tells of failed
+-- reads and writes.
+use Rattle.std.specs.Prelude.{◌≡◌, ◌≢◌, ◌+◌, ℕ, List, [], Option, Some, None, alloc_error, Result, Ok, Err}
+use Rattle.tt_font.specs.Conditions.{Condition}
+use Rattle.tt_font.specs.declared.fault.FontFault.TheVariants.{OutOfMemory}
+use Rattle.tt_cert.specs.declared.fault.EncodeFault.{EncodeFault}
+use Rattle.tt_cert.specs.declared.fault.EncodeFault.TheVariants as encode
+use Rattle.tt_cert.specs.declared.fault.DecodeFault.{DecodeFault}
+use Rattle.tt_cert.specs.declared.fault.DecodeFault.TheVariants as decode
+use Rattle.hintcheck_fonts.specs.declared.font_check.CheckFontFault.{CheckFontFault}
+use Rattle.hintcheck_fonts.specs.declared.font_check.CheckFontFault.TheVariants as fault
+use Rattle.hintcheck_fonts.specs.declared.certificate.FindFontFault.{FindFontFault}
+use Rattle.hintcheck_fonts.specs.declared.certificate.FindFontFault.TheVariants as find
+use Rattle.hintcheck_fonts.specs.Verdicts.{Judgement}
+
+-- What holds of what is read, or of the place that a fault of form names; a failed read and out of
+-- memory are unspecified.
+abbrev pub Decodes : {T : Type 0} → Result T DecodeFault → (T → Type 0) → (ℕ → Type 0) → Type 0
+Decodes (Ok x) Is At = Is x
+Decodes (Err (decode.Form place)) Is At = At place
+Decodes (Err decode.Read) Is At = Unit {0}
+Decodes (Err (decode.OutOfMemory error)) Is At = Unit {0}
+
+-- the fault of a certificate that can't be read
+abbrev pub fault_of_decoding : DecodeFault → CheckFontFault
+fault_of_decoding (decode.Form place) = fault.Form place
+fault_of_decoding decode.Read = fault.Read
+fault_of_decoding (decode.OutOfMemory error) = fault.OutOfMemory error
+
+-- the count of failed reads goes up by one exactly where the fault is a failed read
+abbrev pub CountsCheck : {T : Type 0} → Result T CheckFontFault → ℕ → ℕ → Type 0
+CountsCheck (Ok done) old new = new ≡ old
+CountsCheck (Err fault.Read) old new = new ≡ old + 1
+CountsCheck (Err (fault.Font font)) old new = new ≡ old
+CountsCheck (Err (fault.Form place)) old new = new ≡ old
+CountsCheck (Err (fault.OutOfMemory error)) old new = new ≡ old
+CountsCheck (Err fault.Budget) old new = new ≡ old
+
+-- The check of a font tests the condition on its bytes: a fault of the font's is the one that
+-- holds, unless memory ran out, and any other answer means that none does. There is no budget.
+abbrev pub CheckTellsFontFault : {T : Type 0} → Condition → Result T CheckFontFault → Type 0
+CheckTellsFontFault condition (Ok done) = condition ≡ None
+CheckTellsFontFault condition (Err (fault.Font font)) =
+    font ≢ OutOfMemory alloc_error → condition ≡ Some font
+CheckTellsFontFault condition (Err (fault.Form place)) = condition ≡ None
+CheckTellsFontFault condition (Err fault.Read) = condition ≡ None
+CheckTellsFontFault condition (Err (fault.OutOfMemory error)) = condition ≡ None
+CheckTellsFontFault condition (Err fault.Budget) = ⊥
+
+-- the fault is neither the font's nor a budget's
+abbrev pub IsCheckFaultOutsideFontAndBudget : CheckFontFault → Type 0
+IsCheckFaultOutsideFontAndBudget (fault.Font font) = ⊥
+IsCheckFaultOutsideFontAndBudget (fault.Form place) = Unit {0}
+IsCheckFaultOutsideFontAndBudget fault.Read = Unit {0}
+IsCheckFaultOutsideFontAndBudget (fault.OutOfMemory error) = Unit {0}
+IsCheckFaultOutsideFontAndBudget fault.Budget = ⊥
+
+-- the fault of a certificate that can't be written
+abbrev pub fault_of_encoding : EncodeFault → FindFontFault
+fault_of_encoding encode.Write = find.Write
+fault_of_encoding (encode.OutOfMemory error) = find.OutOfMemory error
+
+-- the count of failed writes goes up by one exactly where the fault is a failed write
+abbrev pub CountsFind : {T : Type 0} → Result T FindFontFault → ℕ → ℕ → Type 0
+CountsFind (Ok done) old new = new ≡ old
+CountsFind (Err find.Write) old new = new ≡ old + 1
+CountsFind (Err (find.Font font)) old new = new ≡ old
+CountsFind (Err (find.OutOfMemory error)) old new = new ≡ old
+CountsFind (Err find.Budget) old new = new ≡ old
+
+-- the search for a font's certificate tests the condition on its bytes likewise
+abbrev pub FindTellsFontFault : {T : Type 0} → Condition → Result T FindFontFault → Type 0
+FindTellsFontFault condition (Ok done) = condition ≡ None
+FindTellsFontFault condition (Err (find.Font font)) =
+    font ≢ OutOfMemory alloc_error → condition ≡ Some font
+FindTellsFontFault condition (Err find.Write) = condition ≡ None
+FindTellsFontFault condition (Err (find.OutOfMemory error)) = condition ≡ None
+FindTellsFontFault condition (Err find.Budget) = ⊥
+
+-- the fault is neither the font's nor a budget's
+abbrev pub IsFindFaultOutsideFontAndBudget : FindFontFault → Type 0
+IsFindFaultOutsideFontAndBudget (find.Font font) = ⊥
+IsFindFaultOutsideFontAndBudget find.Write = Unit {0}
+IsFindFaultOutsideFontAndBudget (find.OutOfMemory error) = Unit {0}
+IsFindFaultOutsideFontAndBudget find.Budget = ⊥
+
+-- where the verdict names a refused program, nothing was written
+abbrev pub WritesNothing : Option (List ℕ) → Option (List ℕ) → Judgement → Type 0
+WritesNothing old new judgement = judgement.refused ≢ [] → new ≡ old

@@ -1,0 +1,76 @@
+-- What the verdict on one program is, and what is reported of it.
+use Rattle.std.specs.Prelude.{◌≡◌, ℕ, List, [], ◌∷◌, ◌++◌, Option, Some}
+use Rattle.tt_code.specs.Cut.{Instruction}
+use Rattle.tt_code.specs.declared.reason.Reason.{Reason}
+use Rattle.tt_abs.specs.declared.setting.Setting.{Setting}
+use Rattle.tt_abs.specs.declared.state.State.{State}
+use Rattle.tt_abs.specs.Settings.{setting_of}
+use Rattle.tt_abs.specs.Soundness.{IsSafe}
+use Rattle.tt_abs.specs.StateFlow.{FitsLimits, Place}
+use Rattle.tt_family.specs.Contents.{Contents, family_of}
+use Rattle.tt_family.specs.Fillings.{HasGoodFilling, IsFilling}
+use Rattle.tt_family.specs.GoodFamilies.{IsGoodFamily}
+use Rattle.tt_abs.specs.declared.refusal.Refusal.{Refusal}
+use Rattle.tt_abs.specs.declared.refusal.Refusal.TheVariants.{Refused, OutOfMemory}
+use Rattle.tt_abs.specs.declared.spot.Spot.{Spot}
+use Rattle.tt_find.specs.Found.{IsLeast}
+use Rattle.hintcheck_fonts.specs.Certificates.{IsGoodListing}
+use Rattle.hintcheck_fonts.specs.Programs.{HasGoodFamily, IsCutInto, IsRefusal, Subject}
+use Rattle.hintcheck_report.specs.Places.{program_at}
+use Rattle.tt_cert.specs.declared.form.Form.{Form}
+use Rattle.tt_cert.specs.declared.name.Name.{Name}
+use Rattle.hintcheck_fonts.specs.declared.program.Search.{Search}
+use Rattle.hintcheck_fonts.specs.declared.program.Search.TheVariants as search
+use Rattle.hintcheck_report.specs.declared.refused.Refused.{Refused as AnyRefused}
+
+-- this is the program of this setting
+pub record IsSubjectOf (x : Subject) (s : Setting) : Type 0 where
+  pub cut : IsCutInto x s.main.now
+  pub setting : x.setting s.main.now ≡ setting_of s
+  pub functions : x.functions ≡ s.start.now
+
+-- The program has these instructions, and the family's filling is good for it, the least that is,
+-- and within the font's limits; so every machine that a run comes to is covered, and doesn't fault.
+pub record IsAccepted (x : Subject) (instructions : List Instruction)
+    (family : Place → Option State) : Type 0 where
+  pub cut : IsCutInto x instructions
+  pub filling : Place → Option State
+  pub fills : IsFilling (x.setting instructions) family filling
+  pub good : IsGoodFamily (x.setting instructions) x.functions filling
+  pub least : IsLeast (x.setting instructions) x.functions filling
+  pub within : (p : Place) (a : State) → filling p ≡ Some a → FitsLimits (x.setting instructions) a
+  pub safe : IsSafe (x.setting instructions) x.functions filling
+
+-- what holds of what is reported of a program by this name, where the fault refuses it; out of
+-- memory is unspecified
+abbrev pub IfRefused : Name → Refusal → (AnyRefused → Type 0) → Type 0
+IfRefused called (Refused spot offset r) Is = Is (reported_at called spot offset r)
+IfRefused called (OutOfMemory e) Is = Unit {0}
+
+-- the fault names why the program is refused; out of memory is unspecified
+abbrev pub IsFaultOfProgram : Subject → Refusal → Type 0
+IsFaultOfProgram x fault = IfRefused x.name fault (IsRefusal x)
+
+-- where the fault refuses the program, no family is good for it
+abbrev pub NoneIsGoodFor : Subject → Refusal → Type 0
+NoneIsGoodFor x fault = IfRefused x.name fault (λ _. HasGoodFamily x → ⊥)
+
+-- the family has a good filling in this setting
+abbrev pub IsFilledIn : Setting → Contents → Type 0
+IsFilledIn s family = HasGoodFilling (setting_of s) s.start.now (family_of family)
+
+-- the family is good in this setting, as a certificate of this form lists it
+abbrev pub IsListedIn : Form → Setting → Contents → Type 0
+IsListedIn form s family = IsGoodListing form (setting_of s) s.start.now family
+
+-- the fault refuses a program by this name, and what is reported of it is appended to the list
+abbrev pub IsAppendedRefusal : Name → Refusal → List AnyRefused → List AnyRefused → Type 0
+IsAppendedRefusal called (Refused spot offset r) old new =
+    new ≡ old ++ reported_at called spot offset r ∷ []
+IsAppendedRefusal called (OutOfMemory e) old new = ⊥
+
+-- the search is for the family that a certificate lists
+abbrev pub IsForCertificate : Search → Type 0
+IsForCertificate search.Verdict = ⊥
+IsForCertificate search.Certificate = Unit {0}
+IsForCertificate search.Writing = Unit {0}

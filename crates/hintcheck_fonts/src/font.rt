@@ -1,0 +1,157 @@
+//! The verdict on a font.
+
+ghost use Rattle.std.specs.Prelude.{◌≡◌, [], IfOk, OnOk};
+ghost use Rattle.tt_family.specs.Budgets.{Spends};
+ghost use Rattle.tt_font.specs.Conditions.{TestsWithMemory};
+ghost use Rattle.tt_font.specs.FileFaults.{font_fault};
+ghost use Rattle.tt_font.specs.Reading.{FontData, Reads};
+ghost use Rattle.hintcheck_fonts.specs.BudgetAnswers.{VerdictTellsBudget, VerdictTellsFontFault};
+ghost use Rattle.hintcheck_fonts.specs.FontPrograms.{IsFontInRange, IsSafeFont, IsVerdict};
+ghost use Rattle.hintcheck_fonts.specs.Representation.FontVerdicts.{AreAllRefused};
+ghost use Rattle.hintcheck_fonts.specs.Representation.ProgramOrder.{stage_of};
+ghost use Rattle.hintcheck_fonts.specs.Representation.SessionStages.{ListsOutcome};
+ghost use Rattle.hintcheck_fonts.specs.Sessions.{at_start};
+
+use crate::finding::Finding;
+use crate::program::Search;
+use crate::programs::{FontPrograms, Programs};
+use crate::report::{Refused, Verdict};
+use crate::session::Outcome;
+use std::alloc::{AllocError, Global};
+use thiserror::Error;
+use tt_family::Budget;
+use tt_font::{Font, FontFault};
+
+/// Adds the outcome's program to the list of the refused ones, if it is refused.
+pub(crate) fn list_outcome(refused: &mut Vec<Refused>, outcome: Outcome) -> Result<(), AllocError>
+    ensures { OnOk result (ListsOutcome refused.old.items outcome.refused refused.new.items) }
+{
+    if let Some(one) = outcome.refused {
+        refused.push(one)?;
+    }
+    Ok(())
+}
+
+/// Judges these programs with this judge, one after the other: returns the refused ones, in their
+/// order.
+fn refused_by<'a>(
+    alloc: Global,
+    programs: &mut FontPrograms<'a>,
+    judge: &mut Finding,
+    budget: &mut Budget,
+) -> Result<Vec<Refused>, AllocError>
+    requires range { IsFontInRange programs.old.font.now }
+    requires start { stage_of programs.old ≡ at_start }
+    ensures refused { IfOk result (λ refused. AreAllRefused programs.old.font.now refused.items) }
+    ensures spends { Spends budget.old budget.new }
+{
+    let mut refused = Vec::new(alloc);
+    while let Some(outcome) = programs.judge_next(alloc, judge, budget)? {
+        list_outcome(&mut refused, outcome)?;
+    }
+    Ok(refused)
+}
+
+/// Judges the programs of a font, one after the other, each in the memory of those before: returns
+/// the refused ones, in their order.
+pub(crate) fn refused_programs(
+    alloc: Global,
+    font: &Font<'_>,
+    budget: &mut Budget,
+) -> Result<Vec<Refused>, AllocError>
+    requires { IsFontInRange font.now }
+    ensures refused { IfOk result (λ refused. AreAllRefused font.now refused.items) }
+    ensures spends { Spends budget.old budget.new }
+{
+    let mut programs = Programs::new(font);
+    let mut judge = Finding::new(alloc, Search::Verdict);
+    refused_by(alloc, &mut programs, &mut judge, budget)
+}
+
+/// Reads a font. Each of its programs has fewer than 2^31 bytes, and the greatest depth of its
+/// stack is a number of 16 bits.
+///
+/// # Errors
+/// The faults of `Font::read`.
+pub fn read_font<'a>(alloc: Global, bytes: &'a [u8]) -> Result<Font<'a>, FontFault>
+    ensures reads { IfOk result (λ font. Reads bytes.entry.now font) }
+    ensures range { IfOk result (λ font. IsFontInRange font) }
+    ensures faults { TestsWithMemory (font_fault bytes.entry.now) result }
+{
+    let font = Font::read(alloc, bytes)?;
+    font.range_facts();
+    Ok(font)
+}
+
+/// Returns the verdict on the programs of a font file: on the font program, then on the CVT
+/// program, then on each glyph program. The CVT program starts with the functions that are known
+/// where the font program ends, and a glyph program with those that are known where the CVT program
+/// ends. A refused font program or CVT program ends the verdict; a refused glyph program doesn't.
+///
+/// # Errors
+/// The faults of `Font::read`; `OutOfMemory`.
+pub fn verdict(alloc: Global, font: &[u8]) -> Result<Verdict, FontFault>
+    ensures exact { IfOk result (λ v. (d : FontData) × Reads font.now d × IsVerdict d v
+        × (v.refused ≡ [] → IsSafeFont d)) }
+    ensures faults { TestsWithMemory (font_fault font.now) result }
+{
+    let read = read_font(alloc, font)?;
+    let refused = refused_programs(alloc, &read, &mut Budget::unlimited())?;
+    Ok(Verdict::new(u32::from(read.glyph_count()) + 2, refused))
+}
+
+/// Why there is no verdict on a font within a budget.
+#[derive(Debug, Drop, Error)]
+pub enum VerdictFault {
+    /// The font's own fault, or that memory ran out.
+    #[error(transparent)]
+    Font(FontFault),
+    /// More points were to be made than the budget allows.
+    #[error("budget")]
+    Budget,
+}
+
+impl From<FontFault> for VerdictFault {
+    ghost use Rattle.std.specs.Prelude.{◌≡◌};
+    ghost use Rattle.hintcheck_fonts.specs.declared.font.VerdictFault.TheVariants.{Font};
+
+    ghost from_gives = { λ font fault. fault ≡ Font font };
+
+    fn from(font: FontFault) -> VerdictFault {
+        VerdictFault::Font(font)
+    }
+}
+
+/// Returns the verdict on the programs of a font file, as `verdict` does, and makes at most as many
+/// points as the budget allows: one point is made each time that a state is carried on, to find a
+/// family or to check it.
+///
+/// # Errors
+/// As `verdict`; `Budget` exactly where more points were to be made than the budget allows, in this
+/// call or in an earlier one.
+pub fn verdict_within(
+    alloc: Global,
+    font: &[u8],
+    budget: &mut Budget,
+) -> Result<Verdict, VerdictFault>
+    ensures exact { IfOk result (λ v. (d : FontData) × Reads font.now d × IsVerdict d v
+        × (v.refused ≡ [] → IsSafeFont d)) }
+    ensures faults { VerdictTellsFontFault (font_fault font.now) result }
+    // What it costs: at most as many points as the budget has left. A verdict or out of memory
+    // comes only where that was enough, `Budget` only where it wasn't.
+    ensures spends { Spends budget.old budget.new }
+    ensures budget { VerdictTellsBudget budget.new result }
+{
+    if budget.is_exceeded() {
+        return Err(VerdictFault::Budget);
+    }
+    let read = read_font(alloc, font)?;
+    let judged = refused_programs(alloc, &read, budget);
+    if budget.is_exceeded() {
+        return Err(VerdictFault::Budget);
+    }
+    match judged {
+        Ok(refused) => Ok(Verdict::new(u32::from(read.glyph_count()) + 2, refused)),
+        Err(error) => Err(VerdictFault::Font(FontFault::OutOfMemory(error))),
+    }
+}

@@ -1,0 +1,286 @@
+//! The check of a font by its certificate: each program by the family that its section lists.
+
+ghost use Rattle.std.specs.Prelude.{◌≡◌, ◌+◌, [], IfErr, IfOk, Ok, Err, length};
+ghost use Rattle.tt_family.specs.Budgets.{Spends};
+ghost use Rattle.tt_font.specs.FileFaults.{font_fault};
+ghost use Rattle.tt_font.specs.Reading.{FontData, Reads};
+ghost use Rattle.tt_stream.specs.Reads.{ConsumesBeginning};
+ghost use Rattle.hintcheck_fonts.specs.BudgetAnswers.{CheckTellsBudget, CheckWithinTellsFontFault, IsCheckFaultOutsideFont};
+ghost use Rattle.hintcheck_fonts.specs.CertificateFaults.{CheckTellsFontFault, CountsCheck, IsCheckFaultOutsideFontAndBudget};
+ghost use Rattle.hintcheck_fonts.specs.Certificates.{IsChecked};
+ghost use Rattle.hintcheck_fonts.specs.CheckedFonts.{AnswersFinding, Finds, HasGoodFamilies, IsLeftBy, IsTold, bytes_in};
+ghost use Rattle.hintcheck_fonts.specs.FailedReads.{HasRead, IsCutHeader, IsUnbroken, IsUnbrokenFor};
+ghost use Rattle.hintcheck_fonts.specs.FontPrograms.{IsFontInRange, IsSafeFont};
+ghost use Rattle.hintcheck_fonts.specs.Representation.SessionStages.{HasHeader};
+ghost use Rattle.hintcheck_fonts.specs.Sessions.{IsHeaderFault};
+
+use crate::font::{list_outcome, read_font};
+use crate::report::{Refused, Verdict};
+use crate::sections::{HEADER, Progress, SECTIONS};
+use crate::session::Session;
+use std::alloc::{AllocError, Global};
+use thiserror::Error;
+use tt_cert::{DecodeFault, read_form};
+use tt_family::Budget;
+use tt_font::{Font, FontFault};
+use tt_stream::Source;
+
+/// Why a font isn't checked by its certificate.
+#[derive(Debug, Drop, Error)]
+pub enum CheckFontFault {
+    /// The font's own fault, or that memory ran out while the font was read.
+    #[error(transparent)]
+    Font(FontFault),
+    /// The bytes are no certificate for the font: the place of the first byte of what is wrong, or
+    /// of the certificate's end where that comes too early.
+    #[error("certificate form at byte {0}")]
+    Form(u64),
+    /// The certificate can't be read.
+    #[error("read")]
+    Read,
+    /// Memory ran out.
+    #[error("out of memory")]
+    OutOfMemory(AllocError),
+    /// More points were to be made than the budget allows.
+    #[error("budget")]
+    Budget,
+}
+
+impl From<FontFault> for CheckFontFault {
+    ghost use Rattle.std.specs.Prelude.{◌≡◌};
+    ghost use Rattle.hintcheck_fonts.specs.declared.font_check.CheckFontFault.TheVariants.{Font};
+
+    ghost from_gives = { λ font fault. fault ≡ Font font };
+
+    fn from(font: FontFault) -> CheckFontFault {
+        CheckFontFault::Font(font)
+    }
+}
+
+impl From<AllocError> for CheckFontFault {
+    ghost use Rattle.std.specs.Prelude.{◌≡◌};
+    ghost use Rattle.hintcheck_fonts.specs.declared.font_check.CheckFontFault.TheVariants.{OutOfMemory};
+
+    ghost from_gives = { λ error fault. fault ≡ OutOfMemory error };
+
+    fn from(error: AllocError) -> CheckFontFault {
+        CheckFontFault::OutOfMemory(error)
+    }
+}
+
+impl From<DecodeFault> for CheckFontFault {
+    ghost use Rattle.std.specs.Prelude.{◌≡◌};
+    ghost use Rattle.hintcheck_fonts.specs.CertificateFaults.{fault_of_decoding};
+
+    ghost from_gives = { λ decode fault. fault ≡ fault_of_decoding decode };
+
+    fn from(fault: DecodeFault) -> CheckFontFault {
+        match fault {
+            DecodeFault::Form(place) => CheckFontFault::Form(place),
+            DecodeFault::Read => CheckFontFault::Read,
+            DecodeFault::OutOfMemory(error) => CheckFontFault::OutOfMemory(error),
+        }
+    }
+}
+
+/// Reads the header of the font's certificate, which has a section for each program.
+pub(crate) fn read_start<S: Source>(
+    font: &Font<'_>,
+    source: &mut S,
+) -> Result<Progress, CheckFontFault>
+    ensures header { IsTold (S.remaining source.old) → Finds result
+        (λ p. IsTold (S.remaining source.new) × (p.place ≡ 10)
+        × HasHeader font.now p.form (S.remaining source.old) (S.remaining source.new))
+        (IsHeaderFault font.now (S.remaining source.old)) }
+    ensures beginning { ConsumesBeginning (S.remaining source.old) (S.remaining source.new) }
+    ensures stopped { IfErr result
+        (HasRead (S.remaining source.old) (S.remaining source.new) IsCutHeader) }
+    ensures failures { CountsCheck result (S.failures source.old) (S.failures source.new) }
+    ensures font { IfErr result IsCheckFaultOutsideFontAndBudget }
+{
+    let (form, sections) = read_form(source)?;
+    if sections != u32::from(font.glyph_count()) + 2 {
+        return Err(CheckFontFault::Form(SECTIONS));
+    }
+    Ok(Progress {
+        form,
+        place: HEADER,
+    })
+}
+
+/// Checks the programs of a font, one after the other, by the certificate that is left in the
+/// source: returns the refused ones, in their order.
+fn check_programs<S: Source>(
+    alloc: Global,
+    font: &Font<'_>,
+    source: &mut S,
+    budget: &mut Budget,
+) -> Result<Vec<Refused>, CheckFontFault>
+    requires { IsFontInRange font.now }
+    ensures good { IfOk result (λ refused. refused.items ≡ [] → HasGoodFamilies font.now) }
+    ensures exact { IsTold (S.remaining source.old) → Finds result
+        (λ refused. IsChecked font.now (bytes_in (S.remaining source.old)) (Ok refused.items))
+        (λ place. IsChecked font.now (bytes_in (S.remaining source.old)) (Err place)) }
+    ensures unread { IsTold (S.remaining source.old) → IfOk result (λ refused.
+        IsLeftBy (bytes_in (S.remaining source.old)) refused.items (S.remaining source.new)) }
+    ensures beginning { ConsumesBeginning (S.remaining source.old) (S.remaining source.new) }
+    ensures whole_units { IfErr result
+        (HasRead (S.remaining source.old) (S.remaining source.new) (IsUnbroken font.now)) }
+    ensures failures { CountsCheck result (S.failures source.old) (S.failures source.new) }
+    ensures font { IfErr result IsCheckFaultOutsideFontAndBudget }
+    ensures spends { Spends budget.old budget.new }
+{
+    let mut session = Session::new(font);
+    let mut refused = Vec::new(alloc);
+    while let Some(outcome) = session.check_next_spending(alloc, source, budget)? {
+        list_outcome(&mut refused, outcome)?;
+    }
+    Ok(refused)
+}
+
+/// Returns the verdict on the programs of a font that was read, by its certificate.
+pub fn check_read_font<S: Source>(
+    alloc: Global,
+    font: &Font<'_>,
+    source: &mut S,
+    budget: &mut Budget,
+) -> Result<Verdict, CheckFontFault>
+    requires { IsFontInRange font.now }
+    ensures safe { IfOk result (λ v. v.refused ≡ [] → IsSafeFont font.now) }
+    ensures programs { IfOk result (λ v. v.programs ≡ length font.now.glyphs + 2) }
+    ensures exact { IsTold (S.remaining source.old) → Finds result
+        (AnswersFinding font.now (bytes_in (S.remaining source.old)))
+        (λ place. IsChecked font.now (bytes_in (S.remaining source.old)) (Err place)) }
+    ensures unread { IsTold (S.remaining source.old) → IfOk result
+        (λ v. IsLeftBy (bytes_in (S.remaining source.old)) v.refused (S.remaining source.new)) }
+    ensures beginning { ConsumesBeginning (S.remaining source.old) (S.remaining source.new) }
+    ensures whole_units { IfErr result
+        (HasRead (S.remaining source.old) (S.remaining source.new) (IsUnbroken font.now)) }
+    ensures failures { CountsCheck result (S.failures source.old) (S.failures source.new) }
+    ensures font { IfErr result IsCheckFaultOutsideFontAndBudget }
+    ensures spends { Spends budget.old budget.new }
+{
+    let refused = check_programs(alloc, font, source, budget)?;
+    Ok(Verdict::new(u32::from(font.glyph_count()) + 2, refused))
+}
+
+/// Returns the verdict as `check_read_font` does, but answers `Budget` where the budget is
+/// exceeded, unless a fault of form or a failed read comes first.
+pub fn check_read_font_within<S: Source>(
+    alloc: Global,
+    font: &Font<'_>,
+    source: &mut S,
+    budget: &mut Budget,
+) -> Result<Verdict, CheckFontFault>
+    requires { IsFontInRange font.now }
+    ensures safe { IfOk result (λ v. v.refused ≡ [] → IsSafeFont font.now) }
+    ensures programs { IfOk result (λ v. v.programs ≡ length font.now.glyphs + 2) }
+    ensures exact { IsTold (S.remaining source.old) → Finds result
+        (AnswersFinding font.now (bytes_in (S.remaining source.old)))
+        (λ place. IsChecked font.now (bytes_in (S.remaining source.old)) (Err place)) }
+    ensures unread { IsTold (S.remaining source.old) → IfOk result
+        (λ v. IsLeftBy (bytes_in (S.remaining source.old)) v.refused (S.remaining source.new)) }
+    ensures beginning { ConsumesBeginning (S.remaining source.old) (S.remaining source.new) }
+    ensures whole_units { IfErr result
+        (HasRead (S.remaining source.old) (S.remaining source.new) (IsUnbroken font.now)) }
+    ensures failures { CountsCheck result (S.failures source.old) (S.failures source.new) }
+    ensures font { IfErr result IsCheckFaultOutsideFont }
+    ensures spends { Spends budget.old budget.new }
+    ensures budget { CheckTellsBudget budget.new result }
+{
+    let checked = check_read_font(alloc, font, source, budget);
+    match checked {
+        Ok(_) | Err(CheckFontFault::OutOfMemory(_)) if budget.is_exceeded() => {
+            Err(CheckFontFault::Budget)
+        }
+        checked => checked,
+    }
+}
+
+/// Returns the verdict on the programs of a font file by its certificate, which is all that is left
+/// in the source: each program is checked by the family that its section lists, and the certificate
+/// isn't trusted, wherever it comes from. The CVT program starts with the functions that are known
+/// where the font program ends, and a glyph program with those that are known where the CVT program
+/// ends. A refused font program or CVT program ends the check, which reads nothing after its
+/// section; a refused glyph program doesn't.
+///
+/// # Errors
+/// The faults of `Font::read`; `Form` where the bytes are no certificate for the font; `Read`
+/// exactly where a read failed; `OutOfMemory`.
+pub fn check_font<S: Source>(
+    alloc: Global,
+    font: &[u8],
+    source: &mut S,
+) -> Result<Verdict, CheckFontFault>
+    // Whatever comes of it, a beginning of the certificate was read.
+    ensures beginning { ConsumesBeginning (S.remaining source.old) (S.remaining source.new) }
+    // Where no program is refused, no run of any of them reaches a fault.
+    ensures safe { IfOk result (λ v. (d : FontData) × Reads font.now d
+        × (v.refused ≡ [] → IsSafeFont d)) }
+    // What the check comes to, where the source tells its bytes: the refused programs, or the place
+    // at which the bytes are no certificate.
+    ensures exact { IsTold (S.remaining source.old) → Finds result
+        (λ v. (d : FontData) × Reads font.now d
+        × AnswersFinding d (bytes_in (S.remaining source.old)) v)
+        (λ place. (d : FontData) × Reads font.now d
+        × IsChecked d (bytes_in (S.remaining source.old)) (Err place)) }
+    // What it leaves unread: what follows the section of a refused font program or CVT program;
+    // otherwise nothing.
+    ensures unread { IsTold (S.remaining source.old) → IfOk result
+        (λ v. IsLeftBy (bytes_in (S.remaining source.old)) v.refused (S.remaining source.new)) }
+    // Where the check of the font by the bytes refuses nothing, no program is refused and the form
+    // isn't at fault: `find_font` writes such bytes.
+    ensures accepts { IsTold (S.remaining source.old) → (d : FontData) → Reads font.now d
+        → IsChecked d (bytes_in (S.remaining source.old)) (Ok [])
+        → Finds result (λ v. v.refused ≡ []) (λ _. ⊥) }
+    // Where a read failed, what was read is at fault nowhere but at its end: no unit that was read
+    // whole breaks a rule.
+    ensures whole_units { IfErr result
+        (HasRead (S.remaining source.old) (S.remaining source.new) (IsUnbrokenFor font.now)) }
+    ensures failures { CountsCheck result (S.failures source.old) (S.failures source.new) }
+    // A fault of the font is the first one of its bytes, unless memory ran out; any other answer
+    // means that they have none.
+    ensures faults { CheckTellsFontFault (font_fault font.now) result }
+{
+    let read = read_font(alloc, font)?;
+    check_read_font(alloc, &read, source, &mut Budget::unlimited())
+}
+
+/// Returns the verdict on the programs of a font file by its certificate, as `check_font` does, and
+/// makes at most as many points as the budget allows: one point is made each time that a state is
+/// carried on.
+///
+/// # Errors
+/// As `check_font`; `Budget` where more points were to be made than the budget allows, in this call
+/// or in an earlier one, unless a fault of the font or of form, or a failed read, comes first.
+pub fn check_font_within<S: Source>(
+    alloc: Global,
+    font: &[u8],
+    source: &mut S,
+    budget: &mut Budget,
+) -> Result<Verdict, CheckFontFault>
+    ensures beginning { ConsumesBeginning (S.remaining source.old) (S.remaining source.new) }
+    ensures safe { IfOk result (λ v. (d : FontData) × Reads font.now d
+        × (v.refused ≡ [] → IsSafeFont d)) }
+    ensures exact { IsTold (S.remaining source.old) → Finds result
+        (λ v. (d : FontData) × Reads font.now d
+        × AnswersFinding d (bytes_in (S.remaining source.old)) v)
+        (λ place. (d : FontData) × Reads font.now d
+        × IsChecked d (bytes_in (S.remaining source.old)) (Err place)) }
+    ensures unread { IsTold (S.remaining source.old) → IfOk result
+        (λ v. IsLeftBy (bytes_in (S.remaining source.old)) v.refused (S.remaining source.new)) }
+    ensures accepts { IsTold (S.remaining source.old) → (d : FontData) → Reads font.now d
+        → IsChecked d (bytes_in (S.remaining source.old)) (Ok [])
+        → Finds result (λ v. v.refused ≡ []) (λ _. ⊥) }
+    ensures whole_units { IfErr result
+        (HasRead (S.remaining source.old) (S.remaining source.new) (IsUnbrokenFor font.now)) }
+    ensures failures { CountsCheck result (S.failures source.old) (S.failures source.new) }
+    ensures faults { CheckWithinTellsFontFault (font_fault font.now) result }
+    // What it costs: at most as many points as the budget has left. A verdict or out of memory
+    // comes only where that was enough, `Budget` only where it wasn't.
+    ensures spends { Spends budget.old budget.new }
+    ensures budget { CheckTellsBudget budget.new result }
+{
+    let read = read_font(alloc, font)?;
+    check_read_font_within(alloc, &read, source, budget)
+}

@@ -1,0 +1,169 @@
+//! The verdict on one program: it is cut, a family of abstract states is found for it, and that
+//! family is checked, except where it is found once more to be written.
+
+ghost use Rattle.std.specs.Prelude.{◌≡◌, ◌⊎◌, ℕ, ◌<◌, ◌^◌, List, IfErr, IfOk, IfSome, OnOk, length, true};
+ghost use Rattle.tt_code.specs.Cut.{Instruction, IsCut};
+ghost use Rattle.tt_code.specs.Grammar.{IsStructured};
+ghost use Rattle.tt_code.specs.Settings.{GlyphProgram};
+ghost use Rattle.tt_abs.specs.Entries.{Ascends};
+ghost use Rattle.tt_abs.specs.Settings.{setting_of};
+ghost use Rattle.tt_abs.specs.StateFlow.{FunctionsFit};
+ghost use Rattle.tt_family.specs.Budgets.{Spends};
+ghost use Rattle.tt_family.specs.Checks.{IsOutOfMemory};
+ghost use Rattle.tt_cert.specs.declared.name.Name.{Name as ProgramName};
+ghost use Rattle.tt_find.specs.Finders.{HasFound};
+ghost use Rattle.tt_find.specs.Found.{IsJustified, IsNeverEnding, NamesPlace, NoneIsGood};
+ghost use Rattle.tt_find.specs.FoundSubjects.{HasLeastContexts, HasOnlyNeeded, IsLeastFor};
+ghost use Rattle.hintcheck_fonts.specs.Programs.{Subject};
+ghost use Rattle.hintcheck_fonts.specs.ProgramVerdicts.{IfRefused, IsFaultOfProgram, IsFilledIn, IsForCertificate, IsSubjectOf, NoneIsGoodFor};
+ghost use Rattle.hintcheck_fonts.specs.Representation.Judges.{IsFoundHere};
+ghost use Rattle.hintcheck_fonts.specs.Representation.ProgramOrder.{IsUncut};
+
+use std::alloc::Global;
+use tt_abs::{Refusal, Setting, Spot};
+use tt_code::{CodeFault, Program, Reason};
+use tt_family::{Budget, Certificate, check_within};
+use tt_find::Finder;
+
+/// Returns the fault of a program that is refused at this offset of its own bytes.
+fn refused_at(offset: u32, reason: Reason) -> Refusal
+    ensures { result ≡ Refusal.Refused Spot.Main offset reason }
+{
+    Refusal::Refused {
+        spot: Spot::Main,
+        offset,
+        reason,
+    }
+}
+
+/// Cuts the bytes of a program, at most 2^31 - 1, into its instructions.
+///
+/// # Errors
+/// `Refused` where they can't be cut or their structure is wrong; `OutOfMemory`.
+pub fn cut<'a>(alloc: Global, bytes: &'a [u8]) -> Result<Program<'a>, Refusal>
+    requires { length bytes.now < 2 ^ 31 }
+    ensures cut { IfOk result (λ program.
+        IsCut bytes.entry.now program × IsStructured program) }
+    ensures uncut { (called : ProgramName)
+        → IfErr result (λ fault. IfRefused called fault (IsUncut called bytes.entry.now)) }
+    ensures only { (instructions : List Instruction) → IsCut bytes.entry.now instructions
+        → IsStructured instructions → IfErr result IsOutOfMemory }
+{
+    match Program::cut(alloc, bytes) {
+        Ok(program) => Ok(program),
+        Err(CodeFault::CannotCut(offset)) => Err(refused_at(offset, Reason::CannotCut)),
+        Err(CodeFault::Structure(offset)) => Err(refused_at(offset, Reason::Structure)),
+        Err(CodeFault::OutOfMemory(error)) => Err(Refusal::OutOfMemory(error)),
+    }
+}
+
+/// Checks the family that was found for a program.
+///
+/// # Errors
+/// `Refused` where it has no good filling; `OutOfMemory`.
+fn check_found(
+    alloc: Global,
+    setting: &Setting<'_>,
+    certificate: &Certificate,
+    budget: &mut Budget,
+) -> Result<(), Refusal>
+    requires { Ascends setting.now.start.now }
+    // The check accepts it: this relies on no promise of the finder's.
+    ensures good { OnOk result (IsFilledIn setting.now certificate.now) }
+    ensures exact { IsFilledIn setting.now certificate.now → IfErr result IsOutOfMemory }
+    ensures spends { Spends budget.old budget.new }
+{
+    check_within(alloc, setting, certificate, budget)
+}
+
+/// What a family is searched for.
+#[derive(Clone, Copy)]
+pub enum Search {
+    /// Only for the verdict, by a family that is checked.
+    Verdict,
+    /// For the program's certificate, which lists no state that could be left out, and is checked.
+    Certificate,
+    /// For the program's certificate, which lists no state that could be left out, and is written
+    /// after the verdict. Nothing is checked once more: that the family has a good filling is the
+    /// finder's promise.
+    Writing,
+}
+
+impl Search {
+    /// Whether only a verdict is wanted.
+    pub(crate) fn is_for_verdict(self) -> bool
+        ensures { result ≡ true → IsForCertificate self → ⊥ }
+    {
+        match self {
+            Search::Verdict => true,
+            Search::Certificate | Search::Writing => false,
+        }
+    }
+}
+
+/// Finds the family of abstract states of the program of this setting, which the finder keeps: one
+/// that is for a certificate has no state that could be left out. Returns how many updates it took.
+///
+/// # Errors
+/// As `Finder::find_within`.
+fn find(
+    alloc: Global,
+    finder: &mut Finder,
+    setting: &Setting<'_>,
+    search: Search,
+    budget: &mut Budget,
+) -> Result<u64, Refusal>
+    requires ascends { Ascends setting.now.start.now }
+    requires fits { FunctionsFit (setting_of setting.now) setting.now.start.now }
+    ensures kept { IfOk result (HasFound finder.new) }
+    ensures filling { OnOk result (IfSome finder.new.found (IsLeastFor setting.now)) }
+    ensures contexts { OnOk result (IfSome finder.new.found (HasLeastContexts setting.now)) }
+    ensures needed { IsForCertificate search
+        → OnOk result (IfSome finder.new.found (HasOnlyNeeded setting.now)) }
+    ensures justified { IfErr result
+        (NamesPlace (IsJustified (setting_of setting.now) setting.now.start.now)) }
+    ensures none_good { IfErr result (λ fault. IsOutOfMemory fault ⊎ IsNeverEnding fault
+        ⊎ NoneIsGood (setting_of setting.now) setting.now.start.now) }
+    ensures spends { Spends budget.old budget.new }
+{
+    match search {
+        Search::Verdict => finder.find_within(alloc, setting, budget),
+        Search::Certificate | Search::Writing => {
+            finder.find_needed_within(alloc, setting, budget)
+        }
+    }
+}
+
+/// Finds the family of abstract states of the program of this setting, and checks it where that is
+/// asked. A family that is found passes the check. The finder keeps it.
+///
+/// # Errors
+/// `Refused` where no family is found; `OutOfMemory`.
+pub(crate) fn find_and_check(
+    alloc: Global,
+    finder: &mut Finder,
+    setting: &Setting<'_>,
+    search: Search,
+    budget: &mut Budget,
+) -> Result<(), Refusal>
+    requires ascends { Ascends setting.now.start.now }
+    requires fits { FunctionsFit (setting_of setting.now) setting.now.start.now }
+    ensures accepted { (x : Subject) → IsSubjectOf x setting.now
+        → OnOk result (IsFoundHere finder.new search x setting.now.main.now) }
+    ensures refused { (x : Subject) → IsSubjectOf x setting.now
+        → IfErr result (IsFaultOfProgram x) }
+    ensures none_good { (x : Subject) (points contours : ℕ) → IsSubjectOf x setting.now
+        → (setting_of setting.now).kind ≡ GlyphProgram points contours
+        → IfErr result (NoneIsGoodFor x) }
+    ensures spends { Spends budget.old budget.new }
+{
+    setting.range_facts();
+    find(alloc, finder, setting, search, budget)?;
+    match search {
+        Search::Writing => Ok(()),
+        Search::Verdict | Search::Certificate => {
+            let certificate = finder.certificate().unwrap();
+            check_found(alloc, setting, certificate, budget)
+        }
+    }
+}

@@ -1,0 +1,359 @@
+//! The judge that searches and checks a program by symbolic states.
+
+ghost use Rattle.std.specs.Prelude.{◌≡◌, IfOk, OnOk, refl};
+ghost use Rattle.tt_abs.specs.Entries.{Ascends};
+ghost use Rattle.tt_abs.specs.Settings.{setting_of};
+ghost use Rattle.tt_symbolic_font.specs.Known.{StartGlyphs};
+ghost use Rattle.hintcheck_fonts.specs.Representation.FontVerdicts.{ComesToEnd};
+ghost use Rattle.hintcheck_fonts.specs.Representation.SymbolicChecks.{AreCheckedInTurn, IsCheckedBy, IsEnded, IsEndedBy, IsRunnable, refusal_as};
+
+use crate::judge::Judge;
+use crate::report::Name;
+use std::alloc::{AllocError, Global};
+use std::mem;
+use tt_abs::{Kind, Refusal, Setting, SortedMap, Spot};
+use tt_code::Reason;
+use tt_family::{Budget, is_short};
+use tt_symbolic::{Kept, NOTHING_KEPT};
+use tt_symbolic_check::{CheckRefusal, Effort, Start};
+use tt_symbolic_font::{Ends, GlyphStarts, check_before_glyphs, start_with};
+use tt_symbolic_search::{Insight, Question, Search, USUAL_SEARCH};
+
+/// Judges a program by symbolic states, which are found and checked. What was learnt from one program
+/// of a font serves the next ones.
+pub struct SymbolicCheck {
+    search: Search,
+    /// How many steps the search may make, for all programs together.
+    most_steps: u64,
+    /// What is known where the font program or the CVT program ends that was accepted last.
+    ends: Ends,
+    /// With what glyph programs start.
+    starts: GlyphStarts,
+    /// Whether a glyph program may write what these starts list.
+    may_write_kept: bool,
+    /// The program that is to be explained, and what is asked about it; nothing where no answer is.
+    explained: Option<(Name, Question)>,
+}
+
+// Written out, so that who holds a judge proves in one step that its memory is given back.
+impl Drop for SymbolicCheck {
+    fn drop(self) {
+        let SymbolicCheck {
+            search,
+            most_steps: _,
+            ends,
+            starts,
+            may_write_kept: _,
+            explained: _,
+        } = self;
+        drop(search);
+        drop(ends);
+        drop(starts);
+    }
+}
+
+/// Returns how much may be done for the next program, where so many steps may be made for all
+/// programs together.
+fn effort_left(search: &Search, most_steps: u64) -> Effort {
+    let left = most_steps.saturating_sub(search.steps());
+    Effort {
+        steps: USUAL_SEARCH.steps.min(left),
+        ..USUAL_SEARCH
+    }
+}
+
+/// Searches and checks a font program or a CVT program, which starts with these functions. Returns
+/// what is known where it ends.
+///
+/// # Errors
+/// Those of `Search::find` and of `check_before_glyphs`.
+fn check_to_end(
+    alloc: Global,
+    search: &mut Search,
+    effort: Effort,
+    setting: &Setting<'_>,
+    functions: &[(u16, u32)],
+) -> Result<Ends, CheckRefusal>
+    requires { Ascends functions.now }
+    ensures { IfOk result (IsEnded (setting_of setting.now) functions.now) }
+{
+    let functions = SortedMap::from_slice(alloc, functions)?;
+    let start = start_with(alloc, &functions)?;
+    let found = search.find(setting, &NOTHING_KEPT, &[start], effort)?;
+    check_before_glyphs(
+        alloc,
+        setting,
+        &functions,
+        found.listed.as_slice(),
+        found.effort,
+    )
+}
+
+/// Searches and checks a glyph program from these starts.
+///
+/// # Errors
+/// `Refused` too where it is longer than the font allows; those of `Search::find` and of
+/// `check_glyph_program`.
+fn check_glyph(
+    alloc: Global,
+    search: &mut Search,
+    effort: Effort,
+    setting: &Setting<'_>,
+    starts: &GlyphStarts,
+) -> Result<(), CheckRefusal>
+    ensures { OnOk result (IsRunnable (setting_of setting.now) starts.now) }
+{
+    if !is_short(setting) {
+        return Err(CheckRefusal::Refused {
+            spot: Spot::Main,
+            offset: u32::from(setting.limits.program_size),
+            reason: Reason::ProgramTooLong,
+        });
+    }
+    let kept = Kept {
+        storage: starts.storage.as_slice(),
+        controls: starts.controls.as_slice(),
+    };
+    let found = search.find(setting, &kept, starts.starts.as_slice(), effort)?;
+    starts.check_glyph_program(alloc, setting, found.listed.as_slice(), found.effort)
+}
+
+/// Returns the start of which only the functions are known that all ends have.
+fn unknown_starts(alloc: Global, ends: &Ends) -> Result<GlyphStarts, AllocError>
+    ensures { IfOk result (StartGlyphs ends.now) }
+{
+    let mut start = Start::unknown(alloc);
+    start.functions.copy_from(&ends.functions)?;
+    let mut starts = Vec::new(alloc);
+    starts.push(start)?;
+    Ok(GlyphStarts {
+        starts,
+        storage: Vec::new(alloc),
+        controls: Vec::new(alloc),
+    })
+}
+
+/// Makes the starts of glyph programs after the ends of the CVT program. Where the search proposes
+/// none that follow each of them, nothing but functions is known.
+fn starts_after(alloc: Global, search: &mut Search, ends: &Ends) -> Result<GlyphStarts, AllocError>
+    ensures { IfOk result (StartGlyphs ends.now) }
+{
+    let mut proposed = search.starts_after(ends.states.as_slice())?;
+    for start in &mut proposed {
+        start.functions.copy_from(&ends.functions)?;
+    }
+    match GlyphStarts::new(alloc, ends, proposed)? {
+        Some(starts) => Ok(starts),
+        None => unknown_starts(alloc, ends),
+    }
+}
+
+/// Checks the programs of a font of one glyph by what the search finds for each.
+///
+/// # Errors
+/// Those of `Search::find`, of `check_before_glyphs` and of `check_glyph_program`.
+fn check_found(
+    alloc: Global,
+    search: &mut Search,
+    font: &Setting<'_>,
+    cvt: &Setting<'_>,
+    glyph: &Setting<'_>,
+) -> Result<(), CheckRefusal>
+    ensures { OnOk result (AreCheckedInTurn (setting_of font.now) (setting_of cvt.now)
+        (setting_of glyph.now)) }
+{
+    let first = check_to_end(alloc, search, USUAL_SEARCH, font, &[])?;
+    let functions = first.functions.as_slice();
+    let second = check_to_end(alloc, search, USUAL_SEARCH, cvt, functions)?;
+    let starts = starts_after(alloc, search, &second)?;
+    check_glyph(alloc, search, USUAL_SEARCH, glyph, &starts)
+}
+
+/// Searches and checks the programs of a font of one glyph.
+///
+/// # Errors
+/// Those of `Search::find`, of `check_before_glyphs` and of `check_glyph_program`.
+pub(crate) fn check_in_turn(
+    alloc: Global,
+    font: &Setting<'_>,
+    cvt: &Setting<'_>,
+    glyph: &Setting<'_>,
+) -> Result<(), CheckRefusal>
+    ensures { OnOk result (AreCheckedInTurn (setting_of font.now) (setting_of cvt.now)
+        (setting_of glyph.now)) }
+{
+    let mut search = Search::new(alloc);
+    check_found(alloc, &mut search, font, cvt, glyph)
+}
+
+/// Returns the fault of a program that is refused so. Too many steps are told at the program's start.
+pub(crate) fn refusal_of(refusal: CheckRefusal) -> Refusal
+    ensures { result ≡ refusal_as refusal }
+{
+    match refusal {
+        CheckRefusal::Refused {
+            spot,
+            offset,
+            reason,
+        } => Refusal::Refused {
+            spot,
+            offset,
+            reason,
+        },
+        CheckRefusal::KeptEntry { spot, offset } => Refusal::Refused {
+            spot,
+            offset,
+            reason: Reason::KeptEntry,
+        },
+        CheckRefusal::BudgetMet => Refusal::Refused {
+            spot: Spot::Main,
+            offset: 0,
+            reason: Reason::TooManySteps,
+        },
+        CheckRefusal::OutOfMemory(error) => Refusal::OutOfMemory(error),
+    }
+}
+
+/// Returns what the search is asked about a program, where this is to be explained.
+fn question_on(explained: Option<(Name, Question)>, program: Name) -> Option<Question> {
+    match explained {
+        Some((name, question)) if name == program => Some(question),
+        _ => None,
+    }
+}
+
+/// What is known of a program that never ends.
+fn no_ends(alloc: Global) -> Ends {
+    Ends {
+        states: Vec::new(alloc),
+        functions: SortedMap::new(alloc),
+    }
+}
+
+impl SymbolicCheck {
+    /// Makes a judge that knows nothing yet, whose search may make so many steps for all programs
+    /// together. It takes no memory.
+    pub fn new(alloc: Global, most_steps: u64) -> Self {
+        SymbolicCheck {
+            search: Search::new(alloc),
+            most_steps,
+            ends: no_ends(alloc),
+            starts: GlyphStarts {
+                starts: Vec::new(alloc),
+                storage: Vec::new(alloc),
+                controls: Vec::new(alloc),
+            },
+            may_write_kept: false,
+            explained: None,
+        }
+    }
+
+    /// Lets the judge keep what explains its answer for the program of this name.
+    pub fn explain(&mut self, program: Name, question: Question) {
+        self.explained = Some((program, question));
+    }
+
+    /// Takes what the search tells of the program that is explained.
+    pub fn take_insight(&mut self) -> Option<Insight> {
+        self.search.take_insight()
+    }
+
+    /// Takes what is known where the program ends that was accepted last.
+    pub(crate) fn take_ends(&mut self, alloc: Global) -> Ends
+        ensures { result ≡ self.old.ends }
+    {
+        mem::replace(&mut self.ends, no_ends(alloc))
+    }
+
+    /// Makes the starts of glyph programs after these ends of the CVT program, without the memory
+    /// entries that glyph programs were found to write.
+    ///
+    /// # Errors
+    /// If memory runs out.
+    pub(crate) fn start_glyphs(&mut self, alloc: Global, ends: &Ends) -> Result<(), AllocError>
+        ensures { OnOk result (StartGlyphs ends.now self.new.starts) }
+    {
+        self.starts = starts_after(alloc, &mut self.search, ends)?;
+        self.may_write_kept = false;
+        Ok(())
+    }
+
+    /// Whether a glyph program was refused from the present starts because it may write what they
+    /// list.
+    pub(crate) fn may_write_kept(&self) -> bool {
+        self.may_write_kept
+    }
+
+    /// Searches and checks the program of this setting, which starts with these functions if it is no
+    /// glyph's.
+    fn check(
+        &mut self,
+        alloc: Global,
+        setting: &Setting<'_>,
+        functions: &[(u16, u32)],
+    ) -> Result<(), CheckRefusal>
+        requires { Ascends functions.now }
+        ensures ended { OnOk result (ComesToEnd (setting_of setting.now).kind
+            → IsEnded (setting_of setting.now) functions.now self.new.ends) }
+        ensures runnable { OnOk result ((ComesToEnd (setting_of setting.now).kind → ⊥)
+            → IsRunnable (setting_of setting.now) self.new.starts) }
+        ensures starts { self.new.starts ≡ self.old.starts }
+    {
+        let effort = effort_left(&self.search, self.most_steps);
+        let search = &mut self.search;
+        match setting.kind {
+            Kind::Font | Kind::Cvt => {
+                self.ends = check_to_end(alloc, search, effort, setting, functions)?;
+                Ok(())
+            }
+            Kind::Glyph { .. } => check_glyph(alloc, search, effort, setting, &self.starts),
+        }
+    }
+}
+
+impl Judge for SymbolicCheck {
+    type Known = (u16, u32);
+
+    ghost CanStart = { λ _ functions. Ascends functions };
+
+    ghost Accepts = { λ j x start is. IsCheckedBy j x start is };
+
+    ghost Ends = { λ j x start is known. IsEndedBy j x start is known };
+
+    ghost Refuses = { λ j x start r. r.program ≡ x.name };
+
+    ghost Keeps = { λ j k. k.starts ≡ j.starts };
+
+    fn judge(
+        &mut self,
+        alloc: Global,
+        program: Name,
+        setting: &Setting<'_>,
+        start: &[(u16, u32)],
+        _budget: &mut Budget,
+    ) -> Result<(), Refusal> {
+        self.search.ask(question_on(self.explained, program));
+        match self.check(alloc, setting, start) {
+            Ok(()) => Ok(()),
+            Err(refusal) => {
+                if let CheckRefusal::KeptEntry { .. } = &refusal {
+                    self.may_write_kept = true;
+                }
+                Err(refusal_of(refusal))
+            }
+        }
+    }
+
+    fn uncut_facts(&self) {}
+
+    fn known_at_end(
+        &self,
+        alloc: Global,
+        _setting: &Setting<'_>,
+        _start: &[(u16, u32)],
+    ) -> Result<Vec<(u16, u32)>, AllocError> {
+        Vec::from_slice(alloc, self.ends.functions.as_slice())
+    }
+
+    ghost keeps_itself = { λ j. refl };
+}
