@@ -1,5 +1,5 @@
 -- Bytes that are written after a line.
-use Rattle.std.proofs.Common.{List, [], ℕ, ◌++◌, Option, append-nil, append_assoc, subst, sym}
+use Rattle.std.proofs.Common.{◌≡◌, List, [], ℕ, ◌++◌, Option, append-nil, append_assoc, subst, sym}
 use Rattle.std.specs.Io.KnownBytes.{Appends}
 use Rattle.std.proofs.KnownBytes.{Appends-trans}
 use Rattle.tt_stream.specs.Streams.{AppendsOnly}
@@ -13,3 +13,7 @@ first_then text a b c first more = record {
   others = first.others ++ more.bytes;
   written = subst (Appends a c) (append_assoc text first.others more.bytes) (Appends-trans a b c (text ++ first.others) more.bytes first.written more.appended);
 }
+
+-- the same of a line that is known to be another one
+pub first_is : (text other : List ℕ) (a b : Option (List ℕ)) → text ≡ other → WritesFirst text a b → WritesFirst other a b
+first_is text other a b same first = subst (λ (t : List ℕ). WritesFirst t a b) same first

@@ -3,6 +3,7 @@
 ghost use Rattle.std.specs.Prelude.{◌++◌, codes, OnOk};
 ghost use Rattle.tt_stream.specs.Streams.{CountsPrintFailure};
 ghost use Rattle.hintcheck_explain.specs.Texts.{WritesFirst};
+ghost use Rattle.hintcheck_report.specs.Places.{reported_at};
 ghost use Rattle.hintcheck_report.specs.Texts.{refused_text};
 
 use crate::asked::Asked;

@@ -1,24 +1,20 @@
 -- The verdict on a font's programs, as they are judged one by one.
-use Rattle.std.proofs.Common.{◌≡◌, ◌⊎◌, inl, inr, ℕ, zero, suc, ◌+◌, ◌<◌, List, [], ◌∷◌, ◌++◌, Option, Some, None, true, drop, refl, sym, ◌∙◌, ap, subst, arith, append_assoc, append-nil}
-use Rattle.std.specs.Prelude.{is_some, option_map, slice_get}
-use Rattle.std.proofs.lemmas.Option.{slice_get_within}
+use Rattle.std.proofs.Common.{◌≡◌, ◌⊎◌, inl, inr, ℕ, zero, suc, ◌+◌, List, [], ◌∷◌, ◌++◌, Option, Some, None, drop, refl, sym, ◌∙◌, ap, subst, append_assoc, append-nil}
+use Rattle.std.specs.Prelude.{option_map, slice_get}
 use Rattle.tt_code.specs.Cut.{Instruction}
 use Rattle.tt_abs.specs.Entries.{Ascends}
 use Rattle.tt_font.specs.Reading.{FontData, GlyphData}
-use Rattle.hintcheck_fonts.specs.FontPrograms.{AreRefused, IsVerdict, accepted, cvt_refused, cvt_subject, font_of, font_refused, font_subject, glyph_subject, judgement_on, no_glyph_left, none_ended, refused}
+use Rattle.hintcheck_fonts.specs.FontPrograms.{AreRefused, IsVerdict, accepted, cvt_refused, cvt_subject, font_of, font_refused, glyph_subject, judgement_on, no_glyph_left, none_ended, refused}
 use Rattle.hintcheck_fonts.specs.Programs.{EndsWith, IsRefusal}
 use Rattle.hintcheck_fonts.specs.Representation.FontVerdicts.{AreAllRefused}
 use Rattle.hintcheck_fonts.specs.Representation.Judges.{AnswersFinding, AreWithin, IsOutcomeOf}
-use Rattle.hintcheck_fonts.specs.Representation.ProgramOrder.{CanGoOn, IsOfKindNext, cvt_done, cvt_stops, font_done, font_stops, glyph_done, glyph_stops, next_program, skipped_to}
-use Rattle.hintcheck_fonts.specs.Representation.SessionStages.{IsAt, KeepsGood, KeepsKnown, ListsOutcome}
+use Rattle.hintcheck_fonts.specs.Representation.ProgramOrder.{CanGoOn, cvt_done, cvt_stops, font_done, font_stops, glyph_done, glyph_stops, next_program}
+use Rattle.hintcheck_fonts.specs.Representation.SessionStages.{KeepsGood, KeepsKnown, ListsOutcome}
 use Rattle.hintcheck_fonts.specs.Sessions.{Stage, after_font, at_glyph, at_start, over}
 use Rattle.hintcheck_fonts.specs.declared.finding.Finding.{Finding}
 use Rattle.hintcheck_report.specs.declared.refused.Refused.{Refused}
 use Rattle.hintcheck_fonts.specs.declared.session.Outcome.{Outcome}
-use Rattle.tt_cert.specs.declared.name.Name.{Name}
-use Rattle.tt_cert.specs.declared.name.Name.TheVariants as name
 use Rattle.hintcheck_fonts.proofs.CheckedSections.{dropped}
-use Rattle.hintcheck_fonts.proofs.ProgramSteps.{calls_left, fewer_left}
 
 -- what the next program starts with is what a judge asks for
 

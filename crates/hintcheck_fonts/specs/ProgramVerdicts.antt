@@ -1,7 +1,6 @@
 -- What the verdict on one program is, and what is reported of it.
-use Rattle.std.specs.Prelude.{◌≡◌, ℕ, List, [], ◌∷◌, ◌++◌, Option, Some}
+use Rattle.std.specs.Prelude.{◌≡◌, List, [], ◌∷◌, ◌++◌, Option, Some}
 use Rattle.tt_code.specs.Cut.{Instruction}
-use Rattle.tt_code.specs.declared.reason.Reason.{Reason}
 use Rattle.tt_abs.specs.declared.setting.Setting.{Setting}
 use Rattle.tt_abs.specs.declared.state.State.{State}
 use Rattle.tt_abs.specs.Settings.{setting_of}
@@ -12,11 +11,10 @@ use Rattle.tt_family.specs.Fillings.{HasGoodFilling, IsFilling}
 use Rattle.tt_family.specs.GoodFamilies.{IsGoodFamily}
 use Rattle.tt_abs.specs.declared.refusal.Refusal.{Refusal}
 use Rattle.tt_abs.specs.declared.refusal.Refusal.TheVariants.{Refused, OutOfMemory}
-use Rattle.tt_abs.specs.declared.spot.Spot.{Spot}
 use Rattle.tt_find.specs.Found.{IsLeast}
 use Rattle.hintcheck_fonts.specs.Certificates.{IsGoodListing}
 use Rattle.hintcheck_fonts.specs.Programs.{HasGoodFamily, IsCutInto, IsRefusal, Subject}
-use Rattle.hintcheck_report.specs.Places.{program_at}
+use Rattle.hintcheck_report.specs.Places.{reported_at}
 use Rattle.tt_cert.specs.declared.form.Form.{Form}
 use Rattle.tt_cert.specs.declared.name.Name.{Name}
 use Rattle.hintcheck_fonts.specs.declared.program.Search.{Search}

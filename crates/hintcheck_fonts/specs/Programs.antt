@@ -10,11 +10,9 @@ use Rattle.tt_abs.specs.declared.state.State.{State}
 use Rattle.tt_abs.specs.StateFlow.{Place}
 use Rattle.tt_family.specs.GoodFamilies.{IsGoodFamily}
 use Rattle.tt_abs.specs.Spots.{spot_of}
-use Rattle.tt_abs.specs.declared.spot.Spot.{Spot}
-use Rattle.tt_abs.specs.declared.spot.Spot.TheVariants as spot
 use Rattle.tt_find.specs.Found.{IsJustified, IsLeast}
 use Rattle.tt_cert.specs.declared.name.Name.{Name}
-use Rattle.tt_cert.specs.declared.name.Name.TheVariants as name
+use Rattle.hintcheck_report.specs.Places.{program_at}
 use Rattle.hintcheck_report.specs.declared.refused.Refused.{Refused}
 
 -- A program as it is checked: its name; its bytes; what it is checked against, once its
