@@ -1,5 +1,5 @@
 -- What is told of a program that is explained, and of the faults.
-use Rattle.std.proofs.Common.{◌≡◌, ◌≢◌, ◌∙◌, ℕ, Bool, true, false, IfErr, IsErrAnd, List, [], Option, None, Some, Result, Ok, Err, refl, sym, ap, subst}
+use Rattle.std.proofs.Common.{◌≡◌, ◌∙◌, ℕ, IfErr, IsErrAnd, List, [], Some, Result, Ok, Err, refl, sym, ap, subst}
 use Rattle.std.specs.Prelude.{slice_get}
 use Rattle.tt_code.specs.Cut.{Instruction}
 use Rattle.tt_font.specs.Reading.{FontData, GlyphData}

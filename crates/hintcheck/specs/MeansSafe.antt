@@ -1,5 +1,5 @@
 -- What the exit statuses 0 and 1 mean: what was asked for is safe, or refused.
-use Rattle.std.specs.Prelude.{◌≡◌, ◌≢◌, ◌↔◌, ◌+◌, ◌≤◌, ◌<◌, ℕ, All, List, [], Some, length, true, unwrap_or}
+use Rattle.std.specs.Prelude.{◌≡◌, ◌↔◌, ◌+◌, ◌≤◌, ◌<◌, ℕ, All, List, [], Some, length, true, unwrap_or}
 use Rattle.tt_code.specs.declared.reason.ReasonClass.TheVariants.{PossibleFault}
 use Rattle.tt_font.specs.Reading.{FontData, GlyphData, Reads}
 use Rattle.hintcheck_words.specs.HexWords.{Spells}
@@ -14,7 +14,7 @@ use Rattle.hintcheck.specs.Commands.{status_of}
 use Rattle.hintcheck.specs.declared.commands.faults.CommandFault.{CommandFault}
 use Rattle.hintcheck_fonts.specs.BarePrograms.{bare_font, bare_subject}
 use Rattle.hintcheck.specs.Explanations.{HoldAcceptedProgram, HoldRefusedProgram}
-use Rattle.hintcheck_fonts.specs.FontPrograms.{IsSafeFont, IsSafeGlyph, IsVerdict}
+use Rattle.hintcheck_fonts.specs.FontPrograms.{IsSafeFont, IsSafeGlyph}
 use Rattle.hintcheck.specs.Listing.{HoldUnlistedProgram}
 use Rattle.hintcheck_fonts.specs.Programs.{HasGoodFamily, IsRefusal}
 use Rattle.hintcheck.specs.RefusalClasses.{number_of_class}

@@ -1,10 +1,10 @@
 -- What the answers of the symbolic profile mean. A refusal tells no more than that the search found
 -- no way to accept the program.
-use Rattle.std.specs.Prelude.{◌≡◌, ◌≢◌, ◌≤◌, ℕ, List, [], length}
-use Rattle.tt_font.specs.Reading.{FontData, GlyphData, Reads}
+use Rattle.std.specs.Prelude.{◌≡◌, ◌≤◌, ℕ, List, [], length}
+use Rattle.tt_font.specs.Reading.{GlyphData}
 use Rattle.hintcheck_words.specs.HexWords.{Spells}
 use Rattle.hintcheck_fonts.specs.BarePrograms.{bare_font}
-use Rattle.hintcheck_fonts.specs.SymbolicVerdicts.{IsSafeAlone, IsSymbolicVerdict}
+use Rattle.hintcheck_fonts.specs.SymbolicVerdicts.{IsSafeAlone}
 use Rattle.hintcheck_fonts.specs.Verdicts.{Judgement}
 
 -- The words spell a `maxp` table and a glyph program, of which no run faults in a font of only this
