@@ -8,8 +8,8 @@ _hintcheck() {
         return
     fi
     case $command in
-        verdict) options='--symbolic --points --help' ;;
-        scan) options='--symbolic --points --fail-on --help' ;;
+        verdict) options='--symbolic --points --json --help' ;;
+        scan) options='--symbolic --points --fail-on --json --help' ;;
         find | check) options='--points --help' ;;
         explain | bare) options='--symbolic --help' ;;
     esac
@@ -33,7 +33,7 @@ _hintcheck() {
                         mapfile -t COMPREPLY < <(compgen -W possible -- "${word#=}")
                         return
                     fi
-                elif [ "${COMP_WORDS[i]}" = --symbolic ]; then
+                elif [ "${COMP_WORDS[i]}" = --symbolic ] || [ "${COMP_WORDS[i]}" = --json ]; then
                     at=$((at - 1))
                 fi
             done

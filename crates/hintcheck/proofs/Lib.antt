@@ -8,3 +8,5 @@ pub mod ScanFaults
 pub mod PlaceLemmas
 pub mod ExplanationLemmas
 pub mod ProgramsBefore
+pub mod TellingFaults
+pub mod WrittenObjects

@@ -15,7 +15,7 @@ use Rattle.hintcheck_words.specs.declared.words.ScanOptions.{ScanOptions}
 use Rattle.hintcheck.specs.CommandFaults.{IsFaultOfFontFile}
 use Rattle.hintcheck.specs.FaultTexts.{command_fault_text}
 use Rattle.hintcheck.specs.RefusalClasses.{number_of_class}
-use Rattle.hintcheck.specs.Scans.{Answer, IsAnswer, PrintsScan, Scanned, counts_text, greatest_status, judged, left_out_text, line_of, status_of_answer, summary, unread}
+use Rattle.hintcheck.specs.Scans.{Answer, IsAnswer, PrintsScan, Scanned, counts_text, greatest_status, judged, left_out_text, line_of, status_of_answer, summary, text_of, unread}
 use Rattle.hintcheck.specs.Texts.{profile_text}
 use Rattle.hintcheck_fonts.specs.Verdicts.{Judgement}
 use Rattle.hintcheck.specs.declared.commands.faults.CommandFault.{CommandFault}
@@ -52,7 +52,7 @@ scans_none options old = record { scanned = []; names_are = refl; answers = All-
 
 -- one font file
 pub scans_one : (options : ScanOptions) (name : List ℕ) (answer : Answer) (status : ℕ) (old new : Option (List ℕ)) → IsAnswer options.profile options.budget answer → status ≡ status_of_answer options.fail_on answer
-    → Appends old new (line_of options.profile (record { name = name; answer = answer })) → PrintsScan options (name ∷ []) status old new
+    → Appends old new (text_of options (record { name = name; answer = answer })) → PrintsScan options (name ∷ []) status old new
 scans_one options name answer status old new is same written =
     let s : Scanned = record { name = name; answer = answer } in
     record {
@@ -60,7 +60,7 @@ scans_one options name answer status old new is same written =
       names_are = refl;
       answers = All-cons (Answered options) s [] is (All-nil (Answered options));
       greatest = omega arith;
-      written = subst (Appends old new) (sym (append-nil (line_of options.profile s))) written;
+      written = subst (Appends old new) (sym (append-nil (text_of options s))) written;
     }
 
 -- font files, and then others
@@ -71,7 +71,7 @@ scans_both options a b s t old mid new first second =
       names_are = map-append (λ s. s.name) first.scanned second.scanned ∙ ap (λ x. x ++ map (λ s. s.name) second.scanned) first.names_are ∙ ap (λ y. a ++ y) second.names_are;
       answers = All-append (Answered options) first.scanned second.scanned first.answers second.answers;
       greatest = omega (arith, greatest-append options.fail_on first.scanned second.scanned, first.greatest, second.greatest);
-      written = subst (Appends old new) (sym (flat_map-append (line_of options.profile) first.scanned second.scanned)) (appends_both old mid new _ _ first.written second.written);
+      written = subst (Appends old new) (sym (flat_map-append (text_of options) first.scanned second.scanned)) (appends_both old mid new _ _ first.written second.written);
     }
 
 -- the font files so far, and the next one

@@ -7,6 +7,7 @@ use Rattle.tt_font.specs.declared.fault.FontFault.TheVariants.{OutOfMemory}
 use Rattle.hintcheck_words.specs.HexWords.{IsHexWord, Spells}
 use Rattle.hintcheck_words.specs.Requests.{Request, bare, check, explain, find, is_taken, list, meaning, scan, upgrade, verdict}
 use Rattle.hintcheck_words.specs.declared.words.FailOn.TheVariants.{Unknown}
+use Rattle.hintcheck_words.specs.declared.words.Format.TheVariants.{Json}
 use Rattle.hintcheck_words.specs.declared.words.ScanOptions.{ScanOptions}
 use Rattle.hintcheck.specs.Commands.{ReadsToEnd, status_of}
 use Rattle.hintcheck_fonts.specs.BarePrograms.{IsMemory}
@@ -83,10 +84,11 @@ IsFaultOfFontFile fault.OutOfMemory = Unit {0}
 IsFaultOfFontFile fault.Budget = Unit {0}
 IsFaultOfFontFile other = ⊥
 
--- Why a scan with these options has a fault: the word names no class of reasons; or one of the font
--- files has a fault that gives the same exit status.
+-- Why a scan with these options has a fault: the word names no class of reasons; memory ran out at
+-- an object of JSON; or one of the font files has a fault that gives the same exit status.
 abbrev pub IsFaultOfScan : ScanOptions → CommandFault → Type 0
 IsFaultOfScan options fault.ClassWord = options.fail_on ≡ Unknown
+IsFaultOfScan options fault.OutOfMemory = options.format ≡ Json
 IsFaultOfScan options fault.ScanFault =
     (reported : CommandFault) × IsFaultOfFontFile reported × (status_of reported ≡ 2)
 IsFaultOfScan options fault.ScanUnfinished =
@@ -142,6 +144,11 @@ abbrev pub IsFaultOfPrinting : CommandFault → Type 0
 IsFaultOfPrinting fault.Write = Unit {0}
 IsFaultOfPrinting fault.Text = Unit {0}
 IsFaultOfPrinting other = ⊥
+
+-- why what a scan with these options tells of a font file isn't printed
+abbrev pub IsFaultOfTelling : ScanOptions → CommandFault → Type 0
+IsFaultOfTelling options fault.OutOfMemory = options.format ≡ Json
+IsFaultOfTelling options other = IsFaultOfPrinting other
 
 -- why the lines of a program aren't printed
 abbrev pub IsFaultOfLines : CommandFault → Type 0

@@ -10,3 +10,4 @@ pub mod CommandFaults
 pub mod FaultTexts
 pub mod RefusalClasses
 pub mod Scans
+pub mod JsonObjects

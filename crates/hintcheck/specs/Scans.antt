@@ -1,4 +1,4 @@
--- What a scan prints: a line for each font file, and the exit status that these have together.
+-- What a scan prints: a line or an object for each font file, and the exit status that these have together.
 use Rattle.std.specs.Prelude.{◌≡◌, ℕ, zero, suc, All, codes, flat_map, List, [], ◌∷◌, ◌++◌, length, map, max, min, Option, unwrap_or}
 use Rattle.std.specs.Fmt.{decimal}
 use Rattle.std.specs.Io.KnownBytes.{Appends}
@@ -8,11 +8,14 @@ use Rattle.tt_code.specs.declared.reason.ReasonClass.TheVariants.{PossibleFault,
 use Rattle.tt_cert.specs.declared.name.Name.{Name}
 use Rattle.tt_cert.specs.declared.name.Name.TheVariants as name
 use Rattle.hintcheck_words.specs.declared.words.FailOn.{FailOn}
+use Rattle.hintcheck_words.specs.declared.words.Format.{Format}
+use Rattle.hintcheck_words.specs.declared.words.Format.TheVariants.{Lines, Json}
 use Rattle.hintcheck_words.specs.declared.words.Profile.{Profile}
 use Rattle.hintcheck_words.specs.declared.words.ScanOptions.{ScanOptions}
 use Rattle.hintcheck.specs.Commands.{status_of}
 use Rattle.hintcheck.specs.CommandFaults.{IsFaultOfFontFile, IsWithin}
 use Rattle.hintcheck.specs.FaultTexts.{command_fault_text}
+use Rattle.hintcheck.specs.JsonObjects.{beginning, fault_members, verdict_members}
 use Rattle.hintcheck.specs.MeansSafe.{IsVerdictBy}
 use Rattle.hintcheck.specs.RefusalClasses.{class_text, number_failing, number_of_class}
 use Rattle.hintcheck.specs.Texts.{profile_text}
@@ -89,6 +92,26 @@ pub record Scanned : Type 0 where
 abbrev pub line_of : Profile → Scanned → List ℕ
 line_of profile s = s.name ++ (codes ": " ++ (answer_text profile s.answer ++ codes "\n"))
 
+-- an answer as members of an object
+abbrev pub answer_members : Answer → List ℕ
+answer_members (judged judgement) = verdict_members judgement
+answer_members (unread reported) = fault_members reported
+
+-- its object, in a line
+abbrev pub object_of : ScanOptions → Scanned → List ℕ
+object_of options s =
+    beginning s.name options.profile (status_of_answer options.fail_on s.answer)
+    ++ (answer_members s.answer ++ codes "}\n")
+
+-- the one of two texts that has this form
+abbrev pub in_format : Format → List ℕ → List ℕ → List ℕ
+in_format Lines line object = line
+in_format Json line object = object
+
+-- what is printed of it
+abbrev pub text_of : ScanOptions → Scanned → List ℕ
+text_of options s = in_format options.format (line_of options.profile s) (object_of options s)
+
 -- the greatest exit status of font files, 0 of none
 abbrev pub greatest_status : FailOn → List Scanned → ℕ
 greatest_status fail_on [] = 0
@@ -96,14 +119,15 @@ greatest_status fail_on (s ∷ others) =
     max (status_of_answer fail_on s.answer) (greatest_status fail_on others)
 
 -- The files with these names were scanned with these options, this is the greatest exit status of
--- them, and their lines were written in the order of the names, where the written bytes are known.
+-- them, and their lines or objects were written in the order of the names, where the written bytes
+-- are known.
 pub record PrintsScan (options : ScanOptions) (names : List (List ℕ)) (status : ℕ)
     (old new : Option (List ℕ)) : Type 0 where
   pub scanned : List Scanned
   pub names_are : map (λ s. s.name) scanned ≡ names
   pub answers : All (λ s. IsAnswer options.profile options.budget s.answer) scanned
   pub greatest : status ≡ greatest_status options.fail_on scanned
-  pub written : Appends old new (flat_map (line_of options.profile) scanned)
+  pub written : Appends old new (flat_map (text_of options) scanned)
 
 -- the fault is a scan's, which comes after the last line
 abbrev pub IsOfScan : CommandFault → Type 0

@@ -15,6 +15,7 @@ mod explain_task;
 pub mod faults;
 mod files;
 mod find_task;
+mod json_objects;
 mod list_task;
 mod scan_task;
 mod upgrade_task;

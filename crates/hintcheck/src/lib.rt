@@ -17,7 +17,7 @@ pub use hintcheck_fonts::{
     read_font, upgrade, verdict, verdict_symbolic, verdict_symbolic_within, verdict_within,
 };
 pub use hintcheck_words::{
-    FailOn, Profile, ScanOptions, Task, TaskFault, WordFault, read_words, word_bytes,
+    FailOn, Format, Profile, ScanOptions, Task, TaskFault, WordFault, read_words, word_bytes,
 };
 pub use instruction_list::list_program;
 pub use symbolic_explanation::explain_program_symbolic;

@@ -178,16 +178,42 @@ fn command_without_files(rt: HostRuntime) {
     assert_command_refused(&rt, &rt, &mut heap, &words, "accepted: 1 programs\n");
 }
 
+/// Writes a font file, and returns its name.
+fn write_font(rt: &HostRuntime) -> Result<PathBuf, Fail> {
+    let font = file_of(rt.alloc(), &CALL_POPS)?;
+    let path = path_of(rt, "ttf").ok_or("a path")?;
+    fs::write(rt, path.as_str(), &font)?;
+    Ok(path)
+}
+
 #[test]
 fn scan_of_a_file(rt: HostRuntime) -> Result<(), Fail> {
-    let files = files_of(rt.alloc(), &CALL_POPS)?;
-    let path = path_of(&rt, "ttf").ok_or("a path")?;
+    let path = write_font(&rt)?;
     let font = path.as_str();
-    fs::write(&rt, font, &files.font)?;
     let line = format!(in rt.alloc(); "{font}: {ACCEPTED}")?;
     let fault = format!(in rt.alloc(); "{font}: fault: 9 out of memory\n")?;
     let mut heap = Heap::new(rt.alloc());
     let words = ["hintcheck", "scan", font];
+    assert_order_refused(&rt, &rt, &mut heap, &words, Printed::Line(&line, &fault));
+    fs::remove_file(&rt, font)?;
+    Ok(())
+}
+
+/// The object of an accepted font, and of one at which memory ran out, after the file's name.
+const OBJECTS: [&str; 2] = [
+    "\"profile\":\"strict\",\"status\":0,\"programs\":3,\"refused\":[]}\n",
+    "\"profile\":\"strict\",\"status\":3,\"fault\":{\"number\":9,\"text\":\"out of memory\"}}\n",
+];
+
+#[test]
+fn scan_of_a_file_as_json(rt: HostRuntime) -> Result<(), Fail> {
+    let path = write_font(&rt)?;
+    let font = path.as_str();
+    let [accepted, fault] = OBJECTS;
+    let line = format!(in rt.alloc(); "{{\"version\":1,\"file\":\"{font}\",{accepted}")?;
+    let fault = format!(in rt.alloc(); "{{\"version\":1,\"file\":\"{font}\",{fault}")?;
+    let mut heap = Heap::new(rt.alloc());
+    let words = ["hintcheck", "scan", "--json", font];
     assert_order_refused(&rt, &rt, &mut heap, &words, Printed::Line(&line, &fault));
     fs::remove_file(&rt, font)?;
     Ok(())

@@ -107,6 +107,14 @@ scan_symbolic_rule : IsFlagRule scan_built.rules (codes "SYMBOLIC") (rule_at sca
 unfolding hintcheck scan_built rule_at clap_on_literals
 scan_symbolic_rule = record { found = refl; named = refl; parser = refl }
 
+verdict_json_rule : IsFlagRule verdict_built.rules (codes "JSON") (rule_at verdict_built (codes "JSON"))
+unfolding hintcheck verdict_built rule_at clap_on_literals
+verdict_json_rule = record { found = refl; named = refl; parser = refl }
+
+scan_json_rule : IsFlagRule scan_built.rules (codes "JSON") (rule_at scan_built (codes "JSON"))
+unfolding hintcheck scan_built rule_at clap_on_literals
+scan_json_rule = record { found = refl; named = refl; parser = refl }
+
 explain_symbolic_rule : IsFlagRule explain_built.rules (codes "SYMBOLIC") (rule_at explain_built (codes "SYMBOLIC"))
 unfolding hintcheck explain_built rule_at clap_on_literals
 explain_symbolic_rule = record { found = refl; named = refl; parser = refl }
@@ -176,6 +184,12 @@ meets_one words name rows e found =
       profile_of_explain = λ explain.
           let at_explain = level_at (built hintcheck) name (codes "explain") rows explain_built named explain explain_found in
           flag_among explain_built rows (codes "SYMBOLIC") (rule_at explain_built (codes "SYMBOLIC")) at_explain explain_symbolic_rule;
+      format_of_verdict = λ verdict.
+          let at_verdict = level_at (built hintcheck) name (codes "verdict") rows verdict_built named verdict verdict_found in
+          flag_among verdict_built rows (codes "JSON") (rule_at verdict_built (codes "JSON")) at_verdict verdict_json_rule;
+      format_of_scan = λ scan.
+          let at_scan = level_at (built hintcheck) name (codes "scan") rows scan_built named scan scan_found in
+          flag_among scan_built rows (codes "JSON") (rule_at scan_built (codes "JSON")) at_scan scan_json_rule;
     }
 
 pub fault_is : (a : App) (words : List Text) → a ≡ hintcheck → (is_simple_and_free a ≡ true → fault_of a words ≡ []) → fault_of hintcheck words ≡ []

@@ -1,7 +1,7 @@
 -- The command line, in the terms of clap's definitions:
 --     hintcheck bare [--symbolic] MAXP CVT POINTS CONTOURS [PROGRAM]
---     hintcheck verdict [--symbolic] [--points POINTS] FONT
---     hintcheck scan [--symbolic] [--points POINTS] [--fail-on CLASS] FONT..
+--     hintcheck verdict [--symbolic] [--points POINTS] [--json] FONT
+--     hintcheck scan [--symbolic] [--points POINTS] [--fail-on CLASS] [--json] FONT..
 --     hintcheck explain [--symbolic] FONT PROGRAM [OFFSET]
 --     hintcheck find [--points POINTS] FONT CERT
 --     hintcheck check [--points POINTS] FONT CERT
@@ -64,6 +64,10 @@ points = number_option (codes "POINTS") (codes "points")
 abbrev pub symbolic : Rule
 symbolic = flag (codes "SYMBOLIC") (codes "symbolic")
 
+-- the option `--json`, which asks for an object of JSON for each font
+abbrev pub json : Rule
+json = flag (codes "JSON") (codes "json")
+
 -- the option `--fail-on`, which names the class of reasons for which a scan fails
 abbrev pub fail_on : Rule
 fail_on = text_option (codes "CLASS") (codes "fail-on")
@@ -80,12 +84,13 @@ bare = with_rule (with_rule (with_rule (with_rule (with_rule (with_rule (new_app
 
 -- the subcommand `verdict`, which checks all programs of a font file
 abbrev pub verdict : App
-verdict = with_rule (of_texts_and_points (codes "verdict") (codes "FONT" ∷ [])) symbolic
+verdict = with_rule (with_rule (of_texts_and_points (codes "verdict") (codes "FONT" ∷ []))
+    symbolic) json
 
 -- the subcommand `scan`, which checks all programs of each of several font files
 abbrev pub scan : App
-scan = with_rule (with_rule (with_rule (with_rule (new_app (codes "scan"))
-    (needed_list (codes "FONT"))) points) symbolic) fail_on
+scan = with_rule (with_rule (with_rule (with_rule (with_rule (new_app (codes "scan"))
+    (needed_list (codes "FONT"))) points) symbolic) fail_on) json
 
 -- the subcommand `explain`, which tells how one program is checked
 abbrev pub explain : App

@@ -10,6 +10,8 @@ use Rattle.clap.specs.declared.parser.matches.ArgMatches.{ArgMatches}
 use Rattle.hintcheck_words.specs.CommandLine.{hintcheck}
 use Rattle.hintcheck_words.specs.declared.words.FailOn.{FailOn}
 use Rattle.hintcheck_words.specs.declared.words.FailOn.TheVariants as fail_on
+use Rattle.hintcheck_words.specs.declared.words.Format.{Format}
+use Rattle.hintcheck_words.specs.declared.words.Format.TheVariants as format
 use Rattle.hintcheck_words.specs.declared.words.Profile.{Profile}
 use Rattle.hintcheck_words.specs.declared.words.Profile.TheVariants as profile
 use Rattle.hintcheck_words.specs.declared.words.ScanOptions.{ScanOptions}
@@ -94,6 +96,10 @@ points_in rows = optional_number_in rows (codes "POINTS")
 abbrev pub profile_in : List Row → Profile
 profile_in rows = if flag_in rows (codes "SYMBOLIC") then profile.Symbolic else profile.Strict
 
+-- the form in which the answers are printed
+abbrev pub format_in : List Row → Format
+format_in rows = if flag_in rows (codes "JSON") then format.Json else format.Lines
+
 -- for which refused programs a scan fails, by the word that names their class
 abbrev pub fail_on_named : Text → FailOn
 fail_on_named word =
@@ -115,9 +121,19 @@ unfoldable pub explain_request : List Row → Request
 explain_request rows = explain (text_in rows (codes "FONT")) (text_in rows (codes "PROGRAM"))
     (optional_number_in rows (codes "OFFSET")) (profile_in rows)
 
+-- the verdict on one font as an object of JSON, which is a scan of that font
+abbrev pub json_request : List Row → Request
+json_request rows = scan (text_in rows (codes "FONT") ∷ []) (record {
+  budget = points_in rows;
+  profile = profile_in rows;
+  fail_on = fail_on.Refused;
+  format = format.Json;
+})
+
 -- what `verdict` asks for, by what its arguments got
 unfoldable pub verdict_request : List Row → Request
-verdict_request rows = verdict (text_in rows (codes "FONT")) (points_in rows) (profile_in rows)
+verdict_request rows = if flag_in rows (codes "JSON") then json_request rows
+    else verdict (text_in rows (codes "FONT")) (points_in rows) (profile_in rows)
 
 -- what `scan` asks for, by what its arguments got
 unfoldable pub scan_request : List Row → Request
@@ -125,6 +141,7 @@ scan_request rows = scan (texts_in rows (codes "FONT")) (record {
   budget = points_in rows;
   profile = profile_in rows;
   fail_on = fail_on_in rows;
+  format = format_in rows;
 })
 
 -- what `find` asks for, by what its arguments got
@@ -187,9 +204,13 @@ HasPoints rows = HasLongNumberIfAny rows (codes "POINTS")
 abbrev pub HasProfile : List Row → Type 0
 HasProfile rows = HasFlag rows (codes "SYMBOLIC")
 
+-- the flag that tells the form of the answers can be read
+abbrev pub HasFormat : List Row → Type 0
+HasFormat rows = HasFlag rows (codes "JSON")
+
 -- a subcommand that asks for something, whose numbers are there if it is `bare`, whose offset is a
 -- number if it is `explain`, whose limit of the points is one if it has that option, and whose
--- profile can be read if it has one
+-- profile and form of the answers can be read if it has them
 pub record IsReadable (found : Text × List Row) : Type 0 where
   pub known : is_some (request_of found) ≡ true
   pub numbers : found.0 ≡ codes "bare" → HasNumbers found.1
@@ -202,6 +223,8 @@ pub record IsReadable (found : Text × List Row) : Type 0 where
   pub profile_of_verdict : found.0 ≡ codes "verdict" → HasProfile found.1
   pub profile_of_scan : found.0 ≡ codes "scan" → HasProfile found.1
   pub profile_of_explain : found.0 ≡ codes "explain" → HasProfile found.1
+  pub format_of_verdict : found.0 ≡ codes "verdict" → HasFormat found.1
+  pub format_of_scan : found.0 ≡ codes "scan" → HasFormat found.1
 
 -- there is a subcommand, it asks for something, and its numbers and its profile can be read
 abbrev pub MeetsSubcommand : Option (Text × List Row) → Type 0

@@ -1,9 +1,9 @@
 //! What the words of a command line ask for.
 
-ghost use Rattle.std.specs.Prelude.{◌≡◌, IfErr, IfOk, Some, codes, false, map, option_map, string_bytes};
+ghost use Rattle.std.specs.Prelude.{◌≡◌, ◌∷◌, [], IfErr, IfOk, Some, codes, false, map, option_map, string_bytes};
 ghost use Rattle.clap.specs.Words.{app_of, new_app, rule_of, subcommand_rows_of};
-ghost use Rattle.hintcheck_words.specs.CommandLine.{bare, explain, fail_on as fail_on_rule, hintcheck, needed as needed_rule, needed_number as number_rule, of_texts, of_texts_and_points, optional_number as optional_rule, points as points_rule, scan, symbolic as symbolic_rule, verdict};
-ghost use Rattle.hintcheck_words.specs.Requests.{HasNumber, HasNumberIfAny, HasNumbers, HasOffset, HasPoints, HasProfile, IsReadable, IsMemoryIfTaken, MeetsSubcommand, TellsFault, asked, bare_request, check_request, explain_request, fail_on_in, fail_on_named, faults_in, find_request, meaning, met, number_in, optional_in, optional_number_in, points_in, profile_in, request_of, rows_in, scan_request, text_in, texts_in, texts_of, verdict_request};
+ghost use Rattle.hintcheck_words.specs.CommandLine.{bare, explain, fail_on as fail_on_rule, flag, hintcheck, json as json_rule, needed as needed_rule, needed_number as number_rule, of_texts, of_texts_and_points, optional_number as optional_rule, points as points_rule, scan, symbolic as symbolic_rule, verdict};
+ghost use Rattle.hintcheck_words.specs.Requests.{HasFormat, HasNumber, HasNumberIfAny, HasNumbers, HasOffset, HasPoints, HasProfile, IsReadable, IsMemoryIfTaken, MeetsSubcommand, TellsFault, asked, bare_request, check_request, explain_request, fail_on_in, fail_on_named, faults_in, find_request, flag_in, format_in, json_request, meaning, met, number_in, optional_in, optional_number_in, points_in, profile_in, request_of, rows_in, scan_request, text_in, texts_in, texts_of, verdict_request};
 
 use clap::error::ErrorKind;
 use clap::{Arg, ArgAction, ArgMatches, Command, value_parser};
@@ -30,7 +30,16 @@ pub enum FailOn {
     Unknown,
 }
 
-/// How the font files of a scan are checked.
+/// The form in which the answers of a scan are printed.
+#[derive(Clone, Copy, Debug, PartialEq, Eq)]
+pub enum Format {
+    /// A line for each font.
+    Lines,
+    /// An object of JSON for each font, in a line.
+    Json,
+}
+
+/// How the font files of a scan are checked, and what is printed of them.
 #[derive(Clone, Copy, Debug, PartialEq, Eq)]
 pub struct ScanOptions {
     /// How many points may be made per font; None where that isn't limited.
@@ -39,6 +48,8 @@ pub struct ScanOptions {
     pub profile: Profile,
     /// For which refused programs the scan fails.
     pub fail_on: FailOn,
+    /// The form in which the answers are printed.
+    pub format: Format,
 }
 
 /// What the words ask for.
@@ -72,7 +83,7 @@ pub enum Task {
     Scan {
         /// The names of the font files.
         fonts: Vec<String>,
-        /// How they are checked.
+        /// How they are checked, and what is printed.
         options: ScanOptions,
     },
     /// Tells how one program of a font file is checked.
@@ -251,18 +262,28 @@ fn plain_command<'a>(alloc: Global, command: Subcommand<'a>) -> Command<'a>
         .after_help(command.example)
 }
 
+/// Makes an option of this long name that takes no value.
+fn flag_option<'a>(alloc: Global, id: &'a str, name: &'a str, help: &'a str) -> Arg<'a>
+    ensures rule { rule_of result ≡ flag id.entry.now name.entry.now }
+    ensures local { result.global ≡ false }
+{
+    Arg::new(alloc, id)
+        .long(name)
+        .action(ArgAction::SetTrue)
+        .help(help)
+}
+
 /// Makes the option `--symbolic`.
 fn symbolic_option<'a>(alloc: Global) -> Arg<'a>
     ensures rule { rule_of result ≡ symbolic_rule }
     ensures local { result.global ≡ false }
 {
-    Arg::new(alloc, "SYMBOLIC")
-        .long("symbolic")
-        .action(ArgAction::SetTrue)
-        .help(
-            "Follows values that are computed; its acceptances have further premises (see the \
-            manual)",
-        )
+    flag_option(
+        alloc,
+        "SYMBOLIC",
+        "symbolic",
+        "Follows values that are computed; its acceptances have further premises (see the manual)",
+    )
 }
 
 /// Makes the subcommand `bare`.
@@ -329,6 +350,14 @@ fn limited_command<'a>(
     ))
 }
 
+/// Makes the option `--json`.
+fn json_option<'a>(alloc: Global, help: &'a str) -> Arg<'a>
+    ensures rule { rule_of result ≡ json_rule }
+    ensures local { result.global ≡ false }
+{
+    flag_option(alloc, "JSON", "json", help)
+}
+
 /// Makes the subcommand `verdict`.
 ///
 /// # Errors
@@ -336,7 +365,9 @@ fn limited_command<'a>(
 fn verdict_command<'a>(alloc: Global) -> Result<Command<'a>, AllocError>
     ensures { IfOk result (λ c. app_of c ≡ verdict) }
 {
-    limited_command(alloc, VERDICT, &[FONT])?.arg(symbolic_option(alloc))
+    limited_command(alloc, VERDICT, &[FONT])?
+        .arg(symbolic_option(alloc))?
+        .arg(json_option(alloc, "Prints an object of JSON, as `scan --json` does"))
 }
 
 /// Makes the option `--fail-on`.
@@ -364,7 +395,8 @@ fn scan_command<'a>(alloc: Global) -> Result<Command<'a>, AllocError>
             "How many points may be made per font; without it, as many as the font asks for",
         ))?
         .arg(symbolic_option(alloc))?
-        .arg(fail_on_option(alloc))
+        .arg(fail_on_option(alloc))?
+        .arg(json_option(alloc, "Prints an object of JSON for each font, in a line"))
 }
 
 /// Makes the argument that is an offset, which may be left out.
@@ -494,6 +526,26 @@ fn asked_profile(values: &ArgMatches<'_>) -> Profile
     }
 }
 
+/// Whether the words ask for objects of JSON.
+fn is_json_asked(values: &ArgMatches<'_>) -> bool
+    requires { HasFormat (rows_in values.now) }
+    ensures { result ≡ flag_in (rows_in values.now) (codes "JSON") }
+{
+    values.get_flag("JSON")
+}
+
+/// Returns the form in which the words ask for the answers.
+fn asked_format(values: &ArgMatches<'_>) -> Format
+    requires { HasFormat (rows_in values.now) }
+    ensures { result ≡ format_in (rows_in values.now) }
+{
+    if is_json_asked(values) {
+        Format::Json
+    } else {
+        Format::Lines
+    }
+}
+
 /// Returns for which refused programs a scan fails, by the word that names their class.
 fn class_named(word: &str) -> FailOn
     ensures { result ≡ fail_on_named word.now }
@@ -551,6 +603,39 @@ fn explain_task(alloc: Global, values: &ArgMatches<'_>) -> Result<Task, AllocErr
     })
 }
 
+/// Returns the texts that are this one alone.
+///
+/// # Errors
+/// If memory runs out.
+fn one_text(alloc: Global, text: String) -> Result<Vec<String>, AllocError>
+    ensures { IfOk result (λ ts. ts.items ≡ text ∷ []) }
+{
+    let mut texts = Vec::new(alloc);
+    texts.push(text)?;
+    Ok(texts)
+}
+
+/// Returns the task of the subcommand `verdict` with the option `--json`.
+///
+/// # Errors
+/// If memory runs out.
+fn json_task(alloc: Global, values: &ArgMatches<'_>) -> Result<Task, AllocError>
+    requires points { HasPoints (rows_in values.now) }
+    requires profile { HasProfile (rows_in values.now) }
+    ensures { IfOk result (λ t. asked t ≡ json_request (rows_in values.now)) }
+{
+    let font = text(alloc, values, "FONT")?;
+    Ok(Task::Scan {
+        fonts: one_text(alloc, font)?,
+        options: ScanOptions {
+            budget: points(values),
+            profile: asked_profile(values),
+            fail_on: FailOn::Refused,
+            format: Format::Json,
+        },
+    })
+}
+
 /// Returns the task of the subcommand `verdict`.
 ///
 /// # Errors
@@ -558,8 +643,12 @@ fn explain_task(alloc: Global, values: &ArgMatches<'_>) -> Result<Task, AllocErr
 fn verdict_task(alloc: Global, values: &ArgMatches<'_>) -> Result<Task, AllocError>
     requires points { HasPoints (rows_in values.now) }
     requires profile { HasProfile (rows_in values.now) }
+    requires format { HasFormat (rows_in values.now) }
     ensures { IfOk result (λ t. asked t ≡ verdict_request (rows_in values.now)) }
 {
+    if is_json_asked(values) {
+        return json_task(alloc, values);
+    }
     Ok(Task::Verdict {
         font: text(alloc, values, "FONT")?,
         budget: points(values),
@@ -574,6 +663,7 @@ fn verdict_task(alloc: Global, values: &ArgMatches<'_>) -> Result<Task, AllocErr
 fn scan_task(alloc: Global, values: &ArgMatches<'_>) -> Result<Task, AllocError>
     requires points { HasPoints (rows_in values.now) }
     requires profile { HasProfile (rows_in values.now) }
+    requires format { HasFormat (rows_in values.now) }
     ensures { IfOk result (λ t. asked t ≡ scan_request (rows_in values.now)) }
 {
     Ok(Task::Scan {
@@ -582,6 +672,7 @@ fn scan_task(alloc: Global, values: &ArgMatches<'_>) -> Result<Task, AllocError>
             budget: points(values),
             profile: asked_profile(values),
             fail_on: asked_class(values),
+            format: asked_format(values),
         },
     })
 }

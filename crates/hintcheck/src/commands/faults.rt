@@ -24,7 +24,7 @@ const UNFINISHED: u8 = 3;
 
 /// A font's fault, whose text begins with its number.
 #[derive(Debug, Drop)]
-pub struct Numbered(FontFault);
+pub struct Numbered(pub(super) FontFault);
 
 impl fmt::Display for Numbered {
     ghost use Rattle.std.specs.Prelude.{Some};

@@ -1,22 +1,24 @@
-//! The subcommand `scan`: the verdicts on font files, a line for each.
+//! The subcommand `scan`: the verdicts on font files, a line or an object for each.
 
 ghost use Rattle.std.specs.Prelude.{◌≡◌, ◌≢◌, ◌⊎◌, ◌+◌, ◌≤◌, ◌<◌, All, codes, IfErr, IfOk, List, [], ◌∷◌, ◌++◌, OnOk, map, string_bytes, ℕ};
 ghost use Rattle.std.specs.Io.KnownBytes.{Appends};
 ghost use Rattle.tt_code.specs.Refusals.{class_of};
 ghost use Rattle.tt_stream.specs.Streams.{CountsPrintFailure};
 ghost use Rattle.hintcheck.specs.Commands.{TellsFailure, status_of};
-ghost use Rattle.hintcheck.specs.CommandFaults.{IsFaultOfPrinting, IsFaultOfScan};
+ghost use Rattle.hintcheck.specs.CommandFaults.{IsFaultOfFontFile, IsFaultOfPrinting, IsFaultOfScan, IsFaultOfTelling};
 ghost use Rattle.hintcheck.specs.MeansSafe.{HoldFailing, HoldPassing, TellsFonts};
 ghost use Rattle.hintcheck.specs.RefusalClasses.{class_text, number_failing, number_of_class};
-ghost use Rattle.hintcheck.specs.Scans.{IsOfScan, PrintsScan, counts_text, judged, left_out_text, line_of, status_of_failing};
+ghost use Rattle.hintcheck.specs.Scans.{IsOfScan, PrintsScan, counts_text, judged, left_out_text, line_of, status_of_answer, status_of_failing, text_of, unread};
 ghost use Rattle.hintcheck.specs.Texts.{profile_text};
 
 use super::faults::CommandFault;
+use super::json_objects::{print_fault_object, print_verdict_object};
 use super::verdict_lines::end_of_profile;
 use super::verdict_task::file_verdict;
 use super::{ACCEPTED, REFUSED};
 use hintcheck_fonts::report::{Name, Refused, Verdict};
-use hintcheck_words::{FailOn, Profile, ScanOptions};
+use hintcheck_words::{FailOn, Format, Profile, ScanOptions};
+use std::alloc::Global;
 use std::rt::Files;
 use tt_code::{Reason, ReasonClass};
 use tt_stream::{PrintFailed, Sink};
@@ -35,7 +37,7 @@ fn count_of(refused: &[Refused], class: ReasonClass) -> usize
 }
 
 /// Returns the reason's class in words.
-fn text_of_class(reason: Reason) -> &'static str
+pub(super) fn text_of_class(reason: Reason) -> &'static str
     ensures { result.now ≡ class_text (class_of reason) }
 {
     match reason.class() {
@@ -129,7 +131,49 @@ fn verdict_status(verdict: &Verdict, fail_on: FailOn) -> u8
     }
 }
 
-/// Prints the line of the font file with this name, and returns its exit status: that of its
+/// Prints what these options ask for of the font file with this name and this verdict, which gives
+/// the exit status.
+fn tell_judged<O: Sink>(
+    alloc: Global,
+    out: &mut O,
+    name: &str,
+    verdict: &Verdict,
+    options: ScanOptions,
+    status: u8,
+) -> Result<(), CommandFault>
+    requires { status ≡ status_of_answer options.fail_on (judged verdict.now) }
+    ensures written { OnOk result (Appends (O.contents out.old) (O.contents out.new)
+        (text_of options (record { name = name.now; answer = judged verdict.now }))) }
+    ensures failures { TellsFailure result (O.failures out.old) (O.failures out.new) }
+    ensures faults { IfErr result (IsFaultOfTelling options) }
+{
+    match options.format {
+        Format::Lines => Ok(print_line(out, name, verdict, options.profile)?),
+        Format::Json => print_verdict_object(alloc, out, name, verdict, options.profile, status),
+    }
+}
+
+/// Prints what these options ask for of the font file with this name and this fault.
+fn tell_unread<O: Sink>(
+    alloc: Global,
+    out: &mut O,
+    name: &str,
+    fault: &CommandFault,
+    options: ScanOptions,
+) -> Result<(), CommandFault>
+    requires { IsFaultOfFontFile fault.now }
+    ensures written { OnOk result (Appends (O.contents out.old) (O.contents out.new)
+        (text_of options (record { name = name.now; answer = unread fault.now }))) }
+    ensures failures { TellsFailure result (O.failures out.old) (O.failures out.new) }
+    ensures faults { IfErr result (IsFaultOfTelling options) }
+{
+    match options.format {
+        Format::Lines => Ok(writeln!(out, "{name}: fault: {fault}")?),
+        Format::Json => print_fault_object(alloc, out, name, fault, options.profile),
+    }
+}
+
+/// Prints what is told of the font file with this name, and returns its exit status: that of its
 /// verdict, or of the fault.
 fn scan_font<R: Files + AllocGlobal, O: Sink>(
     rt: &R,
@@ -141,22 +185,23 @@ fn scan_font<R: Files + AllocGlobal, O: Sink>(
     ensures printed { IfOk result (λ status. PrintsScan options (name.now ∷ [])
         status (O.contents out.old) (O.contents out.new)) }
     ensures failures { TellsFailure result (O.failures out.old) (O.failures out.new) }
-    ensures faults { IfErr result IsFaultOfPrinting }
+    ensures faults { IfErr result (IsFaultOfTelling options) }
 {
     match file_verdict(rt, name, options.budget, options.profile) {
         Ok(verdict) => {
-            print_line(out, name, &verdict, options.profile)?;
-            Ok(verdict_status(&verdict, options.fail_on))
+            let status = verdict_status(&verdict, options.fail_on);
+            tell_judged(rt.alloc(), out, name, &verdict, options, status)?;
+            Ok(status)
         }
         Err(fault) => {
-            writeln!(out, "{name}: fault: {fault}")?;
+            tell_unread(rt.alloc(), out, name, &fault, options)?;
             Ok(fault.status())
         }
     }
 }
 
-/// Prints a line for each of the font files with these names, and returns the greatest exit status
-/// of them: 0 where the scan fails for no program, 1 where it fails for one.
+/// Prints what is told of each of the font files with these names, and returns the greatest exit
+/// status of them: 0 where the scan fails for no program, 1 where it fails for one.
 fn scan_all<R: Files + AllocGlobal, O: Sink>(
     rt: &R,
     fonts: &[String],
@@ -168,7 +213,7 @@ fn scan_all<R: Files + AllocGlobal, O: Sink>(
         PrintsScan options (map (λ s. string_bytes s) fonts.now)
         status (O.contents out.old) (O.contents out.new)) }
     ensures failures { TellsFailure result (O.failures out.old) (O.failures out.new) }
-    ensures faults { IfErr result IsFaultOfPrinting }
+    ensures faults { IfErr result (IsFaultOfTelling options) }
 {
     let mut greatest = ACCEPTED;
     for font in fonts {
@@ -178,13 +223,14 @@ fn scan_all<R: Files + AllocGlobal, O: Sink>(
     Ok(greatest)
 }
 
-/// Prints a line for each of the font files with these names, and returns the greatest exit status
-/// of them: 0 where the scan fails for no program, 1 where it fails for one.
+/// Prints a line or an object for each of the font files with these names, and returns the greatest
+/// exit status of them: 0 where the scan fails for no program, 1 where it fails for one.
 ///
 /// # Errors
 /// `ClassWord` where the word for which programs the scan is to fail names none, and nothing is
-/// printed then; `Write` exactly where a write to `out` failed; after the last line, `ScanFault`
-/// where the greatest status is 2, and `ScanUnfinished` where it is 3.
+/// printed then; `Write` exactly where a write to `out` failed; `OutOfMemory` where memory ran out
+/// at an object; after the last line, `ScanFault` where the greatest status is 2, and
+/// `ScanUnfinished` where it is 3.
 pub(super) fn scan_fonts<R: Files + AllocGlobal, O: Sink>(
     rt: &R,
     fonts: &[String],

@@ -1,7 +1,7 @@
 use Rattle.std.proofs.Common.{rules, ap₂, codes, ◌≡◌, ◌∙◌}
 use Rattle.std.proofs.lemmas.Result.{IfOk-weaker}
 use Rattle.clap.specs.Words.{rule_of, with_rule}
-use Rattle.hintcheck_words.specs.CommandLine.{fail_on, needed_list, points, symbolic}
+use Rattle.hintcheck_words.specs.CommandLine.{fail_on, json, needed_list, points, symbolic}
 use Rattle.hintcheck_words.proofs.Building.{range_set}
 use Rattle.hintcheck_words.proofs.words.scan_command.Goals as goal
 
@@ -11,7 +11,9 @@ returns c =
     let points_is : rule_of c.points_option.result ≡ points = search rules in
     let symbolic_is : rule_of c.symbolic_option.result ≡ symbolic = search rules in
     let fail_on_is : rule_of c.fail_on_option.result ≡ fail_on = search rules in
-    IfOk-weaker c.arg-4.result _ _ (λ r h. h.shape (search rules) ∙ ap₂ with_rule
+    let json_is : rule_of c.json_option.result ≡ json = search rules in
+    IfOk-weaker c.arg-5.result _ _ (λ r h. h.shape (search rules) ∙ ap₂ with_rule
+    (c.in_ok-arg-4.ensures.shape (search rules) ∙ ap₂ with_rule
     (c.in_ok-arg-3.ensures.shape (search rules) ∙ ap₂ with_rule
     (c.in_ok-arg-2.ensures.shape (search rules) ∙ ap₂ with_rule
-    (c.in_ok-arg.ensures.shape (search rules) ∙ ap₂ with_rule c.plain_command.ensures font_is) points_is) symbolic_is) fail_on_is) c.arg-4.ensures
+    (c.in_ok-arg.ensures.shape (search rules) ∙ ap₂ with_rule c.plain_command.ensures font_is) points_is) symbolic_is) fail_on_is) json_is) c.arg-5.ensures

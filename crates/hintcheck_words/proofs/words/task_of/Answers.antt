@@ -12,14 +12,14 @@ unfolding request_of requests
 returns-in-bare c = IfOk-weaker c.bare_task.result _ _ (λ t h. rw c.in-bare.is (ap (λ (r : Request). Some r) (sym h))) c.bare_task.ensures
 
 pub verdict_task-requires : goal.verdict_task-requires
-verdict_task-requires c = record { points = c.requires.of_verdict c.in-verdict.is; profile = c.requires.profile_of_verdict c.in-verdict.is }
+verdict_task-requires c = record { points = c.requires.of_verdict c.in-verdict.is; profile = c.requires.profile_of_verdict c.in-verdict.is; format = c.requires.format_of_verdict c.in-verdict.is }
 
 pub returns-in-verdict : goal.returns-in-verdict
 unfolding request_of requests
 returns-in-verdict c = IfOk-weaker c.verdict_task.result _ _ (λ t h. rw c.in-verdict.is (ap (λ (r : Request). Some r) (sym h))) c.verdict_task.ensures
 
 pub scan_task-requires : goal.scan_task-requires
-scan_task-requires c = record { points = c.requires.of_scan c.in-scan.is; profile = c.requires.profile_of_scan c.in-scan.is }
+scan_task-requires c = record { points = c.requires.of_scan c.in-scan.is; profile = c.requires.profile_of_scan c.in-scan.is; format = c.requires.format_of_scan c.in-scan.is }
 
 pub returns-in-scan : goal.returns-in-scan
 unfolding request_of requests

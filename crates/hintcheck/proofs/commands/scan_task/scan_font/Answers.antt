@@ -1,32 +1,29 @@
 use Rattle.std.proofs.Common.{◌∙◌, sym}
 use Rattle.hintcheck.proofs.ScanLemmas.{fails_for, fault_tells, passes, verdict_tells}
-use Rattle.hintcheck.proofs.ScannedLines.{fault_line, scans_one}
+use Rattle.hintcheck.proofs.ScannedLines.{scans_one}
 use Rattle.hintcheck.specs.Scans.{judged, unread}
 use Rattle.hintcheck.proofs.commands.scan_task.scan_font.Goals as goal
 
-pub returns-in_ok-print_line-in-Ok-clause-tells : goal.returns-in_ok-print_line-in-Ok-clause-tells
-returns-in_ok-print_line-in-Ok-clause-tells g c =
+pub returns-in_ok-tell_judged-in-Ok-clause-tells : goal.returns-in_ok-tell_judged-in-Ok-clause-tells
+returns-in_ok-tell_judged-in-Ok-clause-tells g c =
     let options = c.args.options in
     let verdict = c.in-Ok.verdict in
     let given = c.in-Ok.ensures.given in
-    let status = c.verdict_status.ensures in
+    let status = c.verdict_status-status.ensures in
     verdict_tells options _ _ status.status (λ zero. passes options.fail_on options.profile verdict given c.in-Ok.ensures.safe (sym status.answer ∙ zero))
     (λ one. fails_for options.fail_on options.profile verdict given c.in-Ok.ensures.refused (sym status.answer ∙ one))
 
-pub returns-in_ok-writeln-in-Err-clause-tells : goal.returns-in_ok-writeln-in-Err-clause-tells
-returns-in_ok-writeln-in-Err-clause-tells g c = fault_tells c.args.options _ c.in-Err.fault _ c.in-Err.ensures.faults.0 c.status.ensures.status c.status.ensures.within
+pub returns-in_ok-tell_unread-in-Err-clause-tells : goal.returns-in_ok-tell_unread-in-Err-clause-tells
+returns-in_ok-tell_unread-in-Err-clause-tells g c = fault_tells c.args.options _ c.in-Err.fault _ c.in-Err.ensures.faults.0 c.status.ensures.status c.status.ensures.within
 
-pub returns-in_ok-print_line-in-Ok-clause-printed : goal.returns-in_ok-print_line-in-Ok-clause-printed
-returns-in_ok-print_line-in-Ok-clause-printed g c =
+pub returns-in_ok-tell_judged-in-Ok-clause-printed : goal.returns-in_ok-tell_judged-in-Ok-clause-printed
+returns-in_ok-tell_judged-in-Ok-clause-printed g c =
     let contents = g.O.Sink.contents in
-    scans_one c.args.options c.args.name.now (judged c.in-Ok.verdict) c.verdict_status.result (contents c.args.out.now) (contents c.print_line.new.out) c.in-Ok.ensures.given c.verdict_status.ensures.answer
-    c.in_ok-print_line-in-Ok.ensures.written
+    scans_one c.args.options c.args.name.now (judged c.in-Ok.verdict) c.verdict_status-status.result (contents c.args.out.now) (contents c.tell_judged.new.out) c.in-Ok.ensures.given c.verdict_status-status.ensures.answer
+    c.in_ok-tell_judged-in-Ok.ensures.written
 
-pub returns-in_ok-writeln-in-Err-clause-printed : goal.returns-in_ok-writeln-in-Err-clause-printed
-returns-in_ok-writeln-in-Err-clause-printed g c =
+pub returns-in_ok-tell_unread-in-Err-clause-printed : goal.returns-in_ok-tell_unread-in-Err-clause-printed
+returns-in_ok-tell_unread-in-Err-clause-printed g c =
     let contents = g.O.Sink.contents in
-    let old = contents c.args.out.now in
-    let new = contents c.writeln.new.self in
-    let faults = c.in-Err.ensures.faults.0 in
-    scans_one c.args.options c.args.name.now (unread c.in-Err.fault) c.status.result old new c.in-Err.ensures.faults c.status.ensures.status
-    (fault_line c.args.options.profile c.args.name.now c.in-Err.fault old new faults c.in_ok-writeln-in-Err.ensures.written)
+    scans_one c.args.options c.args.name.now (unread c.in-Err.fault) c.status.result (contents c.args.out.now) (contents c.tell_unread.new.out) c.in-Err.ensures.faults c.status.ensures.status
+    c.in_ok-tell_unread-in-Err.ensures.written

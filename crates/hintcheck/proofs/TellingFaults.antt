@@ -1,0 +1,23 @@
+-- Why what a scan tells of a font file isn't printed.
+use Rattle.std.proofs.Common.{◌≡◌, ◌≢◌, ◌⊎◌, inl, inr}
+use Rattle.hintcheck_words.specs.declared.words.FailOn.TheVariants.{Unknown}
+use Rattle.hintcheck_words.specs.declared.words.Format.TheVariants.{Json}
+use Rattle.hintcheck_words.specs.declared.words.ScanOptions.{ScanOptions}
+use Rattle.hintcheck.specs.CommandFaults.{IsFaultOfLines, IsFaultOfPrinting, IsFaultOfScan, IsFaultOfTelling}
+use Rattle.hintcheck.specs.declared.commands.faults.CommandFault.{CommandFault}
+use Rattle.hintcheck.specs.declared.commands.faults.CommandFault.TheVariants as fault
+
+-- a text isn't printed
+pub printing_told : (options : ScanOptions) (f : CommandFault) → IsFaultOfPrinting f → IsFaultOfTelling options f
+printing_told options fault.OutOfMemory is = absurd is
+printing_told options _ is = is
+
+-- nor is an object
+pub lines_told : (options : ScanOptions) (f : CommandFault) → options.format ≡ Json → IsFaultOfLines f → IsFaultOfTelling options f
+lines_told options fault.OutOfMemory json is = json
+lines_told options _ json is = is
+
+-- what that is for the scan
+pub telling_of_scan : (options : ScanOptions) (f : CommandFault) → options.fail_on ≢ Unknown → IsFaultOfTelling options f → IsFaultOfScan options f ⊎ (options.fail_on ≢ Unknown × IsFaultOfPrinting f)
+telling_of_scan options fault.OutOfMemory named is = inl is
+telling_of_scan options _ named is = inr (named, is)

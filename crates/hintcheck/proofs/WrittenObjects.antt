@@ -1,0 +1,52 @@
+-- Objects of JSON that are written piece by piece.
+use Rattle.std.proofs.Common.{◌≡◌, ℕ, List, ◌++◌, Option, codes, subst}
+use Rattle.std.specs.Fmt.{decimal}
+use Rattle.std.specs.Io.KnownBytes.{Appends}
+use Rattle.json.specs.Print.{quoted}
+use Rattle.tt_code.specs.Refusals.{class_of, number_of, reason_text}
+use Rattle.hintcheck_words.specs.declared.words.Profile.{Profile}
+use Rattle.hintcheck.specs.Commands.{status_of}
+use Rattle.hintcheck.specs.JsonObjects.{beginning, fault_members, fault_object, place_members, profile_name, refused_object, refused_objects, verdict_members}
+use Rattle.hintcheck.specs.RefusalClasses.{class_text}
+use Rattle.hintcheck.proofs.ScannedLines.{appends_both}
+use Rattle.hintcheck_fonts.specs.Verdicts.{Judgement}
+use Rattle.hintcheck.specs.declared.commands.faults.CommandFault.{CommandFault}
+use Rattle.hintcheck_report.specs.declared.refused.Refused.{Refused}
+
+-- the beginning, with the name and the profile as they are printed
+pub beginning_written : (name : List ℕ) (profile : Profile) (status : ℕ) (file shown : List ℕ) (old new : Option (List ℕ)) → file ≡ quoted name → shown ≡ profile_name profile
+    → Appends old new (codes "{\"version\":1,\"file\":" ++ (file ++ (codes ",\"profile\":\"" ++ (shown ++ (codes "\",\"status\":" ++ (decimal status ++ codes ","))))))
+    → Appends old new (beginning name profile status)
+beginning_written name profile status file shown old new file_is shown_is written =
+    let rest : List ℕ = codes "\",\"status\":" ++ (decimal status ++ codes ",") in
+    subst (λ f. Appends old new (codes "{\"version\":1,\"file\":" ++ (f ++ (codes ",\"profile\":\"" ++ (profile_name profile ++ rest))))) file_is
+    (subst (λ p. Appends old new (codes "{\"version\":1,\"file\":" ++ (file ++ (codes ",\"profile\":\"" ++ (p ++ rest))))) shown_is written)
+
+-- a refused program, by its place and its reason
+pub refused_written : (r : Refused) (number : ℕ) (class : List ℕ) (o p q : Option (List ℕ)) → number ≡ number_of r.reason → class ≡ class_text (class_of r.reason) → Appends o p (place_members r)
+    → Appends p q (codes "\"reason\":" ++ (decimal number ++ (codes ",\"name\":\"" ++ (reason_text r.reason ++ (codes "\",\"class\":\"" ++ (class ++ codes "\"}"))))))
+    → Appends o q (refused_object r)
+refused_written r number class o p q number_is class_is first second =
+    let with_class = subst (λ c. Appends p q (codes "\"reason\":" ++ (decimal number ++ (codes ",\"name\":\"" ++ (reason_text r.reason ++ (codes "\",\"class\":\"" ++ (c ++ codes "\"}"))))))) class_is second in
+    let with_number = subst (λ n. Appends p q (codes "\"reason\":" ++ (decimal n ++ (codes ",\"name\":\"" ++ (reason_text r.reason ++ (codes "\",\"class\":\"" ++ (class_text (class_of r.reason) ++ codes "\"}"))))))) number_is with_class in
+    appends_both o p q _ _ first with_number
+
+-- a verdict, by the number of programs and the refused ones
+pub verdict_written : (j : Judgement) (programs : ℕ) (rs : List Refused) (o p q r : Option (List ℕ)) → programs ≡ j.programs → rs ≡ j.refused
+    → Appends o p (codes "\"programs\":" ++ (decimal programs ++ codes ",\"refused\":[")) → Appends p q (refused_objects rs) → Appends q r (codes "]") → Appends o r (verdict_members j)
+verdict_written j programs rs o p q r programs_are rs_are first second third =
+    let start = subst (λ n. Appends o p (codes "\"programs\":" ++ (decimal n ++ codes ",\"refused\":["))) programs_are first in
+    let middle = subst (λ xs. Appends p q (refused_objects xs)) rs_are second in
+    appends_both o p r _ _ start (appends_both p q r _ _ middle third)
+
+-- three pieces, one after the other
+pub appends_three : (o p q r : Option (List ℕ)) (a b c : List ℕ) → Appends o p a → Appends p q b → Appends q r c → Appends o r (a ++ (b ++ c))
+appends_three o p q r a b c first second third = appends_both o p r a (b ++ c) first (appends_both p q r b c second third)
+
+-- the object of a fault, by its pieces
+pub fault_written : (name : List ℕ) (profile : Profile) (f : CommandFault) (status : ℕ) (o p q r s : Option (List ℕ)) → status ≡ status_of f → Appends o p (beginning name profile status)
+    → Appends p q (codes "\"fault\":") → Appends q r (fault_object f) → Appends r s (codes "}\n")
+    → Appends o s (beginning name profile (status_of f) ++ (fault_members f ++ codes "}\n"))
+fault_written name profile f status o p q r s status_is first second third fourth =
+    let start = subst (λ n. Appends o p (beginning name profile n)) status_is first in
+    appends_both o p s _ _ start (appends_both p r s _ _ (appends_both p q r _ _ second third) fourth)

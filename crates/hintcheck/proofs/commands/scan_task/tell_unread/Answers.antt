@@ -1,0 +1,17 @@
+use Rattle.std.proofs.lemmas.Result.{IfErr-weaker, on_ok_weaker}
+use Rattle.hintcheck.proofs.ScannedLines.{fault_line}
+use Rattle.hintcheck.proofs.TellingFaults.{lines_told, printing_told}
+use Rattle.hintcheck.proofs.commands.scan_task.tell_unread.Goals as goal
+
+pub returns-in_ok-writeln-in-Lines-clause-written : goal.returns-in_ok-writeln-in-Lines-clause-written
+returns-in_ok-writeln-in-Lines-clause-written g c =
+    let contents = g.O.Sink.contents in
+    rw c.in-Lines.is (fault_line c.args.options.profile c.args.name.now c.args.fault.now (contents c.args.out.now) (contents c.writeln.new.self) c.requires c.in_ok-writeln-in-Lines.ensures.written)
+
+pub returns-in-Json-clause-written : goal.returns-in-Json-clause-written
+returns-in-Json-clause-written g c =
+    on_ok_weaker c.print_fault_object.result (λ written. rw c.in-Json.is written) c.print_fault_object.ensures.written
+
+pub returns-in-Json-clause-faults : goal.returns-in-Json-clause-faults
+returns-in-Json-clause-faults g c =
+    IfErr-weaker c.print_fault_object.result _ _ (λ told is. lines_told c.args.options told c.in-Json.is is) c.print_fault_object.ensures.faults

@@ -1,0 +1,74 @@
+-- What a scan prints in the form JSON: an object for each font file, in a line. (RFC 8259. Own: the
+-- members and their names.)
+use Rattle.std.specs.Prelude.{ℕ, codes, flat_map, List, [], ◌∷◌, ◌++◌}
+use Rattle.std.specs.Fmt.{decimal}
+use Rattle.json.specs.Print.{quoted}
+use Rattle.tt_code.specs.Refusals.{class_of, number_of, reason_text}
+use Rattle.tt_font.specs.FaultNumbers.{fault_number}
+use Rattle.tt_font.specs.FaultTexts.{fault_text}
+use Rattle.tt_cert.specs.Names.{text_of}
+use Rattle.hintcheck_words.specs.declared.words.Profile.{Profile}
+use Rattle.hintcheck_words.specs.declared.words.Profile.TheVariants.{Strict, Symbolic}
+use Rattle.hintcheck.specs.FaultTexts.{unopened_text}
+use Rattle.hintcheck.specs.RefusalClasses.{class_text}
+use Rattle.hintcheck_fonts.specs.Verdicts.{Judgement}
+use Rattle.hintcheck.specs.declared.commands.faults.CommandFault.{CommandFault}
+use Rattle.hintcheck.specs.declared.commands.faults.CommandFault.TheVariants as fault
+use Rattle.hintcheck_report.specs.declared.refused.Refused.{Refused}
+
+-- the profile in a word
+abbrev pub profile_name : Profile → List ℕ
+profile_name Strict = codes "strict"
+profile_name Symbolic = codes "symbolic"
+
+-- how the object of a font file begins: the version of the form, the file's name, by which profile
+-- the font is checked, and the exit status
+abbrev pub beginning : List ℕ → Profile → ℕ → List ℕ
+beginning name profile status = codes "{\"version\":1,\"file\":" ++ (quoted name
+    ++ (codes ",\"profile\":\"" ++ (profile_name profile
+    ++ (codes "\",\"status\":" ++ (decimal status ++ codes ",")))))
+
+-- which program is refused, and where: the program that holds the place, and the offset
+abbrev pub place_members : Refused → List ℕ
+place_members r = codes "{\"program\":\"" ++ (text_of r.program
+    ++ (codes "\",\"place\":\"" ++ (text_of r.place.program
+    ++ (codes "\",\"offset\":" ++ (decimal r.place.offset ++ codes ",")))))
+
+-- why: the reason's number, its name, and the class of reasons to which it belongs
+abbrev pub reason_members : Refused → List ℕ
+reason_members r = codes "\"reason\":" ++ (decimal (number_of r.reason)
+    ++ (codes ",\"name\":\"" ++ (reason_text r.reason
+    ++ (codes "\",\"class\":\"" ++ (class_text (class_of r.reason) ++ codes "\"}")))))
+
+-- a refused program
+abbrev pub refused_object : Refused → List ℕ
+refused_object r = place_members r ++ reason_members r
+
+-- one that comes after another
+unfoldable pub next_object : Refused → List ℕ
+next_object r = codes "," ++ refused_object r
+
+-- refused programs, with commas between them
+abbrev pub refused_objects : List Refused → List ℕ
+refused_objects [] = []
+refused_objects (r ∷ rs) = refused_object r ++ flat_map next_object rs
+
+-- a verdict: how many programs the font has, and those that are refused
+abbrev pub verdict_members : Judgement → List ℕ
+verdict_members j = (codes "\"programs\":" ++ (decimal j.programs ++ codes ",\"refused\":["))
+    ++ (refused_objects j.refused ++ codes "]")
+
+-- the fault of a font file, by its number and its text; another fault has none
+abbrev pub fault_object : CommandFault → List ℕ
+fault_object (fault.Font numbered) = codes "{\"number\":" ++ (decimal (fault_number numbered.0)
+    ++ (codes ",\"text\":\"" ++ (fault_text numbered.0 ++ codes "\"}")))
+fault_object (fault.Unopened why) =
+    codes "{\"number\":44,\"text\":\"read" ++ (unopened_text why ++ codes "\"}")
+fault_object fault.Read = codes "{\"number\":44,\"text\":\"read\"}"
+fault_object fault.OutOfMemory = codes "{\"number\":9,\"text\":\"out of memory\"}"
+fault_object fault.Budget = codes "{\"number\":46,\"text\":\"budget\"}"
+fault_object other = []
+
+-- why there is no verdict
+abbrev pub fault_members : CommandFault → List ℕ
+fault_members reported = codes "\"fault\":" ++ fault_object reported
