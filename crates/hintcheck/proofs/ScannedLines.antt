@@ -130,6 +130,7 @@ fault_line profile name fault.Budget old new is written = written
 fault_line profile name (fault.Usage text) old new is written = absurd is
 fault_line profile name fault.MaxpWord old new is written = absurd is
 fault_line profile name fault.ProgramWord old new is written = absurd is
+fault_line profile name fault.ProgramName old new is written = absurd is
 fault_line profile name fault.OffsetWord old new is written = absurd is
 fault_line profile name fault.ClassWord old new is written = absurd is
 fault_line profile name fault.CertificateWord old new is written = absurd is

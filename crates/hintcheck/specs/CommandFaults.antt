@@ -158,7 +158,7 @@ IsFaultOfLines other = IsFaultOfPrinting other
 -- why the program with this name of the font in these bytes isn't listed
 abbrev pub IsFaultOfListing : List ℕ → List ℕ → CommandFault → Type 0
 IsFaultOfListing bytes word (fault.Font numbered) = IsFaultOfFont bytes numbered.0
-IsFaultOfListing bytes word fault.ProgramWord = HoldNoSuchProgram bytes word
+IsFaultOfListing bytes word fault.ProgramName = HoldNoSuchProgram bytes word
 IsFaultOfListing bytes word other = IsFaultOfLines other
 
 -- why the program with this name of a font file isn't listed
@@ -170,7 +170,7 @@ IsFaultOfFileListing word reported =
 -- asked for or none.
 abbrev pub IsFaultOfExplaining : List ℕ → List ℕ → Option ℕ → CommandFault → Type 0
 IsFaultOfExplaining bytes word offset (fault.Font numbered) = IsFaultOfFont bytes numbered.0
-IsFaultOfExplaining bytes word offset fault.ProgramWord = HoldNoSuchProgram bytes word
+IsFaultOfExplaining bytes word offset fault.ProgramName = HoldNoSuchProgram bytes word
 IsFaultOfExplaining bytes word offset fault.OffsetWord = HoldNoSuchPlace bytes word offset
 IsFaultOfExplaining bytes word offset fault.OutOfMemory = Unit {0}
 IsFaultOfExplaining bytes word offset other =

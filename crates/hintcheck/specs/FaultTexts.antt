@@ -26,6 +26,8 @@ abbrev pub command_fault_text : CommandFault → Option (List ℕ)
 command_fault_text (fault.Usage text) = None
 command_fault_text fault.MaxpWord = Some (codes "words: MAXP")
 command_fault_text fault.ProgramWord = Some (codes "words: PROGRAM")
+command_fault_text fault.ProgramName =
+    Some (codes "words: PROGRAM: f, p, or g and the number of a glyph")
 command_fault_text fault.OffsetWord = Some (codes "words: OFFSET")
 command_fault_text fault.ClassWord = Some (codes "words: CLASS")
 command_fault_text fault.CertificateWord =

@@ -147,8 +147,8 @@ fn do_task<R: Files + AllocGlobal, O: Sink>(
 ///
 /// # Errors
 /// `Write` exactly where a write to `out` failed; `Usage` for words that the command line doesn't
-/// take; `MaxpWord` and `ProgramWord` for a word that spells no bytes; `ProgramWord` also for one
-/// that names no program of the font; `OffsetWord` for an offset at which none of the program's
+/// take; `MaxpWord` and `ProgramWord` for a word that spells no bytes; `ProgramName` for one that
+/// names no program of the font; `OffsetWord` for an offset at which none of the program's
 /// instructions begins; `ClassWord` where a scan is to fail for reasons of a class that doesn't
 /// exist; `ScanFault` and `ScanUnfinished` where a font of a scan has a fault, which its line
 /// tells; `Budget` where more points were to be made than `--points` allows; `CertificateWord`

@@ -237,7 +237,7 @@ fn explain_named<O: Sink>(
 /// CVT program is refused. With an offset the explanation tells what is known there.
 ///
 /// # Errors
-/// The faults of `Font::read`; `ProgramWord` where the word is the name of none of the font's
+/// The faults of `Font::read`; `ProgramName` where the word is the name of none of the font's
 /// programs; `OffsetWord` where no instruction of the program begins at the offset, whether or not
 /// the program is checked; `Write` exactly where a write to `out` failed; `OutOfMemory`.
 pub fn explain_program<O: Sink>(
@@ -261,6 +261,6 @@ pub fn explain_program<O: Sink>(
             check_offset(alloc, named.bytes, offset)?;
             explain_named(alloc, &read, named.name, offset, out)
         }
-        None => Err(CommandFault::ProgramWord),
+        None => Err(CommandFault::ProgramName),
     }
 }

@@ -185,7 +185,7 @@ fn list_named<O: Sink>(alloc: Global, named: Named<'_>, out: &mut O) -> Result<u
     ensures unlisted { IfOk result (λ status. status ≡ 1 → CannotBeListed named.entry.bytes.now) }
     ensures told { IfOk result (λ status. status ≡ 1 → TellsUnlisted named.entry.name
         named.entry.bytes.now (O.contents out.old) (O.contents out.new)) }
-    ensures named { result ≢ Err CommandFault.ProgramWord }
+    ensures named { result ≢ Err CommandFault.ProgramName }
     ensures failures { TellsFailure result (O.failures out.old) (O.failures out.new) }
     ensures faults { IfErr result IsFaultOfLines }
 {
@@ -208,7 +208,7 @@ fn list_named<O: Sink>(alloc: Global, named: Named<'_>, out: &mut O) -> Result<u
 /// Printing takes no memory.
 ///
 /// # Errors
-/// The faults of `Font::read`; `ProgramWord` where the word is the name of none of the font's
+/// The faults of `Font::read`; `ProgramName` where the word is the name of none of the font's
 /// programs; `Write` exactly where a write to `out` failed; `OutOfMemory`.
 pub fn list_program<O: Sink>(
     alloc: Global,
@@ -222,7 +222,7 @@ pub fn list_program<O: Sink>(
     ensures unlisted { IfOk result (λ status. status ≡ 1 → HoldUnlistedProgram font.now word.now) }
     ensures told { IfOk result (λ status. status ≡ 1
         → HoldToldProgram font.now word.now (O.contents out.old) (O.contents out.new)) }
-    ensures unnamed { result ≡ Err CommandFault.ProgramWord → HoldNoSuchProgram font.now word.now }
+    ensures unnamed { result ≡ Err CommandFault.ProgramName → HoldNoSuchProgram font.now word.now }
     ensures failures { TellsFailure result (O.failures out.old) (O.failures out.new) }
     ensures faults { IfErr result (IsFaultOfListing font.now word.now) }
 {
@@ -230,6 +230,6 @@ pub fn list_program<O: Sink>(
     font.range_facts();
     match named_program(&font, word) {
         Some(named) => list_named(alloc, named, out),
-        None => Err(CommandFault::ProgramWord),
+        None => Err(CommandFault::ProgramName),
     }
 }

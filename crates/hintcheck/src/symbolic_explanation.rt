@@ -206,6 +206,6 @@ pub fn explain_program_symbolic<O: Sink>(
             check_offset(alloc, named.bytes, offset)?;
             explain_named(alloc, &read, named, offset, out)
         }
-        None => Err(CommandFault::ProgramWord),
+        None => Err(CommandFault::ProgramName),
     }
 }

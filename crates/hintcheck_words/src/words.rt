@@ -214,14 +214,14 @@ const EXPLAIN: Subcommand<'static> = Subcommand {
 const FIND: Subcommand<'static> = Subcommand {
     name: "find",
     about: "Writes the certificate of a font file",
-    example: "Example: hintcheck find DejaVuSans.ttf DejaVuSans.cert",
+    example: "Example: hintcheck find LiberationSans-Regular.ttf font.cert",
 };
 
 /// The subcommand `check`.
 const CHECK: Subcommand<'static> = Subcommand {
     name: "check",
     about: "Checks a font file by its certificate",
-    example: "Example: hintcheck check DejaVuSans.ttf DejaVuSans.cert",
+    example: "Example: hintcheck check LiberationSans-Regular.ttf font.cert",
 };
 
 /// The subcommand `list`.

@@ -86,8 +86,10 @@ pub enum CommandFault {
     Usage(TaskFault),
     /// The word of the `maxp` table spells no bytes.
     MaxpWord,
-    /// The word of the program spells no bytes, or names no program of the font.
+    /// The word of the program spells no bytes.
     ProgramWord,
+    /// The word of the program is the name of none of the font's programs.
+    ProgramName,
     /// No instruction of the program begins at the offset.
     OffsetWord,
     /// The word for which programs a scan is to fail names no class of reasons.
@@ -133,6 +135,9 @@ impl fmt::Display for CommandFault {
             CommandFault::Usage(text) => write!(f, "{text}"),
             CommandFault::MaxpWord => write!(f, "words: MAXP"),
             CommandFault::ProgramWord => write!(f, "words: PROGRAM"),
+            CommandFault::ProgramName => {
+                write!(f, "words: PROGRAM: f, p, or g and the number of a glyph")
+            }
             CommandFault::OffsetWord => write!(f, "words: OFFSET"),
             CommandFault::ClassWord => write!(f, "words: CLASS"),
             CommandFault::CertificateWord => {
