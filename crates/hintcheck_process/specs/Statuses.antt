@@ -7,10 +7,14 @@ use Rattle.hintcheck.specs.MeansSafe.{IsStatusOf}
 abbrev pub texts_of : {A : Type 0} → List (String A) → List (List ℕ)
 texts_of words = map (λ word. string_bytes word) words
 
--- the status is the one that the command returns for these words, or 3, as where there is no memory
--- for them
+-- the status is the one that the command returns for these words; or it is 141 in the place of 2, as
+-- where nobody reads what is printed
+abbrev pub IsStatusOrClosed : List (List ℕ) → ℕ → Type 0
+IsStatusOrClosed words status = IsStatusOf words status ⊎ (status ≡ 141 × IsStatusOf words 2)
+
+-- the same, or it is 3, as where there is no memory for the words
 abbrev pub IsStatusAt : List (List ℕ) → ℕ → Type 0
-IsStatusAt words status = (status ≡ 3) ⊎ IsStatusOf words status
+IsStatusAt words status = (status ≡ 3) ⊎ IsStatusOrClosed words status
 
 -- the status is 2 or 3, as where the words can't be read
 abbrev pub IsStatusUnread : ℕ → Type 0

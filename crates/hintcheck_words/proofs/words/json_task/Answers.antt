@@ -1,5 +1,5 @@
 use Rattle.std.proofs.Common.{refl}
-use Rattle.hintcheck_words.specs.Requests.{asked, json_request}
+use Rattle.hintcheck_words.specs.Requests.{asked}
 use Rattle.hintcheck_words.proofs.words.json_task.Goals as goal
 
 pub returns : goal.returns

@@ -1,7 +1,6 @@
-use Rattle.std.proofs.Common.{refl, true, false, ◌≡◌, ◌∙◌, sym, subst, codes}
-use Rattle.std.proofs.lemmas.Result.{IfOk-weaker}
+use Rattle.std.proofs.Common.{refl, true, false, ◌≡◌, ◌∙◌, sym, codes}
 use Rattle.clap.specs.Words.{found_of, rows_of}
-use Rattle.hintcheck_words.specs.Requests.{asked, flag_in, json_request, verdict_request}
+use Rattle.hintcheck_words.specs.Requests.{asked, flag_in, verdict_request}
 use Rattle.hintcheck_words.proofs.words.verdict_task.Goals as goal
 
 pub returns-then-is_json_asked : goal.returns-then-is_json_asked

@@ -1,5 +1,5 @@
 use Rattle.std.proofs.lemmas.Result.{IfErr-weaker, on_ok_weaker}
-use Rattle.hintcheck.proofs.TellingFaults.{lines_told, printing_told}
+use Rattle.hintcheck.proofs.TellingFaults.{lines_told}
 use Rattle.hintcheck.proofs.commands.scan_task.tell_judged.Goals as goal
 
 pub returns-in_ok-print_line-in-Lines-clause-written : goal.returns-in_ok-print_line-in-Lines-clause-written

@@ -1,6 +1,6 @@
 use Rattle.std.proofs.lemmas.Result.{IfErr-weaker, on_ok_weaker}
 use Rattle.hintcheck.proofs.ScannedLines.{fault_line}
-use Rattle.hintcheck.proofs.TellingFaults.{lines_told, printing_told}
+use Rattle.hintcheck.proofs.TellingFaults.{lines_told}
 use Rattle.hintcheck.proofs.commands.scan_task.tell_unread.Goals as goal
 
 pub returns-in_ok-writeln-in-Lines-clause-written : goal.returns-in_ok-writeln-in-Lines-clause-written
