@@ -14,6 +14,8 @@ pub(crate) struct Noting<'a, W> {
 }
 
 impl<W: Write> Write for Noting<'_, W> {
+    ghost contents = { λ s. W.contents s.inner };
+
     fn write(&mut self, buf: &[u8]) -> io::Result<usize> {
         match self.inner.write(buf) {
             Ok(count) => Ok(count),
