@@ -1,11 +1,12 @@
 //! The kinds of cases, each a function from the words of a line to the answer.
 
 use crate::context::Context;
+use crate::lengths::lengths;
 use crate::words::Words;
 use crate::{
     builders, families, files, fonts, orders, programs, sections, stacks, steps, symbolic,
 };
-use anyhow::Result;
+use anyhow::{Result, ensure};
 
 /// Returns the answer to a case on certificates, font files or other files; none where it is no kind
 /// of these.
@@ -56,10 +57,48 @@ fn answer_on_programs(
     })
 }
 
-/// Returns the answer to a case of this kind; none where it is no kind of these.
-pub fn answer(context: &Context<'_>, kind: &str, words: &mut Words<'_>) -> Option<Result<String>> {
-    match answer_on_files(context, kind, words) {
-        Some(answer) => Some(answer),
-        None => answer_on_programs(context, kind, words),
+/// The kinds of cases that a program has beside these.
+pub trait Kinds {
+    /// Returns the answer to a case of this kind.
+    fn answer(&self, context: &Context<'_>, kind: &str, words: &mut Words<'_>) -> Result<String>;
+}
+
+/// Returns the answer to a case of this kind, which is one of these or of the program's.
+fn answer_of_kind<K: Kinds>(
+    kinds: &K,
+    context: &Context<'_>,
+    kind: &str,
+    words: &mut Words<'_>,
+) -> Result<String> {
+    if let Some(answer) = answer_on_files(context, kind, words) {
+        return answer;
     }
+    match answer_on_programs(context, kind, words) {
+        Some(answer) => answer,
+        None => kinds.answer(context, kind, words),
+    }
+}
+
+/// Returns the answer to words of which the first says the kind, but not `lengths`.
+pub(crate) fn answer_once<K: Kinds>(
+    kinds: &K,
+    context: &Context<'_>,
+    words: &mut Words<'_>,
+) -> Result<String> {
+    let kind = words.next()?;
+    let answer = answer_of_kind(kinds, context, kind, words)?;
+    ensure!(words.is_empty(), "a word too many");
+    Ok(answer)
+}
+
+/// Returns the answer to words of which the first says the kind.
+pub(crate) fn answer<K: Kinds>(
+    kinds: &K,
+    context: &Context<'_>,
+    words: &mut Words<'_>,
+) -> Result<String> {
+    if words.take_word("lengths") {
+        return lengths(kinds, context, words);
+    }
+    answer_once(kinds, context, words)
 }

@@ -1,15 +1,17 @@
 //! The library's calls on one glyph program, on fonts and on certificates.
 
+use crate::faults::{Fault, fault_text};
 use crate::sessions::refused_in_session;
 use anyhow::{Result, anyhow, ensure};
-use hintcheck::{
-    Budget, CheckFontFault, CommandFault, Refused, UpgradeFault, Verdict, bare, check_font_within,
+use hintcheck_fonts::{
+    Budget, CheckFontFault, Refused, UpgradeFault, Verdict, bare, check_font_within, find_font,
     find_font_within, read_font, upgrade, verdict, verdict_symbolic, verdict_within,
 };
 use std::alloc::Global;
 use std::fmt::Write;
+use std::fs;
 use tt_cases::context::Context;
-use tt_cases::files::{font_of, held, likeness, maxp};
+use tt_cases::files::{font_of, held, likeness, maxp, next_held};
 use tt_cases::words::{Words, bytes_of};
 use tt_stream::Counted;
 use tt_test_fixtures::streams::{ALL, Steps, Taker};
@@ -36,19 +38,11 @@ fn told_of_verdict(alloc: Global, verdict: &Verdict) -> Result<String> {
     Ok(text)
 }
 
-/// Returns the text of a fault, as the command prints it.
-pub(crate) fn told_of_fault(alloc: Global, fault: CommandFault) -> Result<String> {
-    Ok(format!(in alloc; "fault {fault}")?)
-}
-
 /// Returns what an answer tells: the verdict, or the fault.
-fn told_of<E>(alloc: Global, answer: Result<Verdict, E>) -> Result<String>
-where
-    CommandFault: From<E>,
-{
+fn told_of<F: Fault + Drop>(alloc: Global, answer: Result<Verdict, F>) -> Result<String> {
     match answer {
         Ok(verdict) => told_of_verdict(alloc, &verdict),
-        Err(fault) => told_of_fault(alloc, CommandFault::from(fault)),
+        Err(fault) => fault_text(alloc, &fault),
     }
 }
 
@@ -168,6 +162,16 @@ fn told_of_search(
     Ok(format!(in alloc; "{told}, {likeness}")?)
 }
 
+/// `found FONT CERT`: what the search for a font's certificate tells, which is written into a file.
+pub(crate) fn found(context: &Context<'_>, words: &mut Words<'_>) -> Result<String> {
+    let alloc = context.rt.alloc();
+    let font = next_held(context, words)?;
+    let mut sink = Counted::new(Vec::new(alloc));
+    let told = told_of(alloc, find_font(alloc, &font, &mut sink))?;
+    fs::write(context.rt, words.next()?, &sink.into_inner())?;
+    Ok(told)
+}
+
 /// Returns what the upgrade of an old certificate tells, for which there is so much room, and what
 /// is written.
 fn upgraded(alloc: Global, old: &[u8], room: Room) -> (Result<u32, UpgradeFault>, Vec<u8>) {
@@ -191,7 +195,7 @@ fn told_of_upgrade_fault(
         let (_, of_cut) = upgraded(alloc, cut, AMPLE);
         ensure!(written == of_cut.as_slice(), "another beginning");
     }
-    told_of_fault(alloc, CommandFault::from(fault))
+    fault_text(alloc, &fault)
 }
 
 /// Returns how many sections an old certificate has, and how what its upgrade writes compares with
@@ -217,7 +221,7 @@ fn told_of_programs(
         Ok(Some(refused)) => {
             Ok(format!(in alloc; "{programs}: {}", refused_text(alloc, &refused)?)?)
         }
-        Err(fault) => told_of_fault(alloc, CommandFault::from(fault)),
+        Err(fault) => fault_text(alloc, &fault),
     }
 }
 

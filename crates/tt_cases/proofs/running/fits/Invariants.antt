@@ -1,6 +1,6 @@
 use denote.Shadow.{shadow}
 use denote.Text.{Utf8}
-use Rattle.hintcheck_cases.proofs.running.fits.Given as goal
+use Rattle.tt_cases.proofs.running.fits.Given as goal
 
 -- What is left of the answer, and the last piece, are texts.
 abbrev pub invariant-loop-piece : goal.invariant-loop-piece

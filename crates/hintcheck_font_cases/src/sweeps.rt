@@ -1,14 +1,12 @@
-//! Cases that are many: each budget, each length of a file, each byte at each value.
+//! Cases that are many: each budget, each failed call, each byte at each value.
 
 use crate::calls::{AMPLE, Room, call, call_within, told_of_check, told_of_font};
-use crate::commands::run_words;
 use anyhow::{Result, anyhow, ensure};
-use hintcheck::Budget;
+use hintcheck_fonts::Budget;
 use std::alloc::Global;
 use std::fmt::Write;
-use std::fs;
 use tt_cases::context::Context;
-use tt_cases::files::held;
+use tt_cases::files::next_held;
 use tt_cases::words::{Words, number_of};
 use tt_test_fixtures::streams::ALL;
 
@@ -154,40 +152,6 @@ pub(crate) fn failing(context: &Context<'_>, words: &mut Words<'_>) -> Result<St
     Err(anyhow!("too many calls"))
 }
 
-/// Returns what a case on the file `cut` tells while that has `length` bytes, with `N` for this
-/// number where it is that of a byte.
-fn told_of_cut(context: &Context<'_>, kind: &str, words: &[&str], length: usize) -> Result<String> {
-    let alloc = context.rt.alloc();
-    let told = match kind {
-        "run" => run_words(context, words)?,
-        _ => call(context, kind, words, &mut Budget::unlimited())?,
-    };
-    let phrase = format!(in alloc; "at byte {length}")?;
-    match told.split_once(phrase.as_str()) {
-        Some((before, after)) => Ok(format!(in alloc; "{before}at byte N{after}")?),
-        None => Ok(told),
-    }
-}
-
-/// `lengths NAME KIND WORDS`: what a case on the file `cut` tells, where that is a beginning of the
-/// named file, of each length below its own.
-pub(crate) fn lengths(context: &Context<'_>, words: &mut Words<'_>) -> Result<String> {
-    let alloc = context.rt.alloc();
-    let bytes = held(context, words.next()?)?;
-    let kind = words.next()?;
-    let names = words.rest(alloc)?;
-    let mut told = String::new(alloc);
-    for length in 0..bytes.len() {
-        fs::write(context.rt, "cut", &bytes[..length])?;
-        let is = told_of_cut(context, kind, &names, length)?;
-        if length > 0 && is.as_str() != told.as_str() {
-            return Ok(format!(in alloc; "{told}, but at {length} {is}")?);
-        }
-        told = is;
-    }
-    Ok(told)
-}
-
 /// Whether something told is a verdict, or a fault 1 to 8 or 43.
 fn is_answer(told: &str) -> bool {
     match told.strip_prefix("fault ") {
@@ -250,8 +214,8 @@ fn is_certificate_answered(
 /// for each beginning of the font, and with each byte of either at each value.
 pub(crate) fn answered(context: &Context<'_>, words: &mut Words<'_>) -> Result<String> {
     let alloc = context.rt.alloc();
-    let font = held(context, words.next()?)?;
-    let certificate = held(context, words.next()?)?;
+    let font = next_held(context, words)?;
+    let certificate = next_held(context, words)?;
     for length in 0..font.len() {
         if !is_answered(alloc, &font[..length], &certificate)?
             || !is_font_answered(alloc, &font, &certificate, length)?

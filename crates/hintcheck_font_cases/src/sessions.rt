@@ -3,15 +3,15 @@
 ghost use Rattle.hintcheck_fonts.specs.FindingSessions.{IsForFinding};
 ghost use Rattle.hintcheck_fonts.specs.Sessions.{IsForChecking};
 
-use crate::calls::told_of_fault;
+use crate::faults::{Fault, fault_text};
 use anyhow::Result;
-use hintcheck::{
-    Budget, CheckFontFault, CommandFault, FindFontFault, Name, Outcome, Refused, Session, read_font,
+use hintcheck_fonts::{
+    Budget, CheckFontFault, FindFontFault, Name, Outcome, Refused, Session, read_font,
 };
 use std::alloc::Global;
 use std::fmt::Write;
 use tt_cases::context::Context;
-use tt_cases::files::{held, likeness};
+use tt_cases::files::{likeness, next_held};
 use tt_cases::words::{Words, number_of};
 use tt_cert::{NEWEST_FORM, encode, write_header};
 use tt_find::Found;
@@ -70,13 +70,13 @@ pub(crate) fn refused_in_session(
 }
 
 /// Returns what a call answers, as text.
-fn told_of_answer<E>(alloc: Global, answer: Result<Option<Outcome>, E>) -> Result<String>
-where
-    CommandFault: From<E>,
-{
+fn told_of_answer<F: Fault + Drop>(
+    alloc: Global,
+    answer: Result<Option<Outcome>, F>,
+) -> Result<String> {
     match answer {
         Ok(next) => told_of_next(alloc, next),
-        Err(fault) => told_of_fault(alloc, CommandFault::from(fault)),
+        Err(fault) => fault_text(alloc, &fault),
     }
 }
 
@@ -92,8 +92,8 @@ fn budget_of(word: &str, before: Budget) -> Result<Budget> {
 /// `=` within that of the call before. In brackets how many points of the budget are made then, with
 /// `!` where that is exceeded, and how many bytes of the certificate are left.
 pub(crate) fn session(context: &Context<'_>, words: &mut Words<'_>) -> Result<String> {
-    let file = held(context, words.next()?)?;
-    let certificate = held(context, words.next()?)?;
+    let file = next_held(context, words)?;
+    let certificate = next_held(context, words)?;
     session_of(context.rt.alloc(), &file, &certificate, words)
 }
 
@@ -185,7 +185,7 @@ fn told_of_first(
     match first {
         Ok(None) => Ok(format!(in alloc; "none, {left} left")?),
         Ok(Some(refused)) => Ok(format!(in alloc; "{refused}, {left} left")?),
-        Err(fault) => Ok(format!(in alloc; "fault {}, {left} left", CommandFault::from(fault))?),
+        Err(fault) => Ok(format!(in alloc; "{}, {left} left", fault_text(alloc, &fault)?)?),
     }
 }
 
@@ -200,8 +200,8 @@ fn first_of(alloc: Global, file: &[u8], certificate: &[u8]) -> Result<String> {
 /// `first FONT CERT`: the first refused program of a font by its certificate, and how many bytes of
 /// that aren't read.
 pub(crate) fn first(context: &Context<'_>, words: &mut Words<'_>) -> Result<String> {
-    let file = held(context, words.next()?)?;
-    let certificate = held(context, words.next()?)?;
+    let file = next_held(context, words)?;
+    let certificate = next_held(context, words)?;
     first_of(context.rt.alloc(), &file, &certificate)
 }
 
@@ -221,15 +221,15 @@ fn told_of_found(alloc: Global, answer: Answer, sink: &mut Sections) -> Result<S
             told_of_next(alloc, Some(outcome))
         }
         Ok(None) => told_of_next(alloc, None),
-        Err(fault) => told_of_fault(alloc, CommandFault::from(fault)),
+        Err(fault) => fault_text(alloc, &fault),
     }
 }
 
 /// `search FONT WANT BUDGET..`: what the calls tell that find the programs one by one, each within a
 /// budget as of `session`, and how their sections after a header compare with a certificate.
 pub(crate) fn search(context: &Context<'_>, words: &mut Words<'_>) -> Result<String> {
-    let file = held(context, words.next()?)?;
-    let want = held(context, words.next()?)?;
+    let file = next_held(context, words)?;
+    let want = next_held(context, words)?;
     search_of(context.rt.alloc(), &file, &want, words)
 }
 

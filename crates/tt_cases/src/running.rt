@@ -1,21 +1,23 @@
 //! Cases are run, and their answers are compared with those that are wanted.
 
-use crate::kinds::answer;
+use crate::blocks::{Block, blocks_of};
+use crate::context::Context;
+use crate::kinds::{Kinds, answer};
+use crate::words::Words;
 use anyhow::{Result, ensure};
 use std::alloc::Global;
-use tt_cases::blocks::{Block, blocks_of};
-use tt_cases::context::Context;
-use tt_cases::words::Words;
+use std::fs;
+use std::process::ExitCode;
 
 /// How many cases were run, and how many of them failed or couldn't be read.
 #[derive(Clone, Copy, Default)]
-pub(crate) struct Tally {
-    pub(crate) cases: u32,
-    pub(crate) failed: u32,
+struct Tally {
+    cases: u32,
+    failed: u32,
 }
 
 impl Tally {
-    pub(crate) fn add(&mut self, other: Tally) {
+    fn add(&mut self, other: Tally) {
         self.cases = self.cases.saturating_add(other.cases);
         self.failed = self.failed.saturating_add(other.failed);
     }
@@ -61,21 +63,18 @@ fn fits(want: &str, is: &str) -> bool {
     is.ends_with(last)
 }
 
-/// Returns the answer to words of which the first says the kind.
-fn answer_to(context: &Context<'_>, words: &mut Words<'_>) -> Result<String> {
-    let kind = words.next()?;
-    let answer = answer(context, kind, words)?;
-    ensure!(words.is_empty(), "a word too many");
-    Ok(answer)
-}
-
 /// Runs a case; whether it has passed. A difference is printed.
-fn run_case(context: &Context<'_>, block: &Block<'_>, want: &str) -> Result<bool> {
+fn run_case<K: Kinds>(
+    kinds: &K,
+    context: &Context<'_>,
+    block: &Block<'_>,
+    want: &str,
+) -> Result<bool> {
     let alloc = context.rt.alloc();
     let beginning = if is_row(block) { context.beginning } else { "" };
     let mut words = Words::of(alloc, beginning, block.asked)?;
     let want = wanted(alloc, want, &block.lines)?;
-    let is = answer_to(context, &mut words)?;
+    let is = answer(kinds, context, &mut words)?;
     let is = is.trim_end();
     let has_passed = fits(want.as_str(), is);
     if !has_passed {
@@ -105,21 +104,22 @@ fn take_setup<'a>(context: &mut Context<'a>, block: &Block<'a>, has_rows: bool) 
 }
 
 /// Runs a block. It has rows where one follows.
-fn run_block<'a>(
+fn run_block<'a, K: Kinds>(
+    kinds: &K,
     context: &mut Context<'a>,
     tally: &mut Tally,
     block: &Block<'a>,
     has_rows: bool,
 ) -> Result<()> {
     match block.answer {
-        Some(want) => tally.count(!run_case(context, block, want)?),
+        Some(want) => tally.count(!run_case(kinds, context, block, want)?),
         None => take_setup(context, block, has_rows)?,
     }
     Ok(())
 }
 
 /// Runs the cases of a file. A line that can't be read is told, and has failed.
-pub(crate) fn run_file(rt: &HostRuntime, file: &str, text: &str) -> Result<Tally> {
+fn run_text<K: Kinds>(kinds: &K, rt: &HostRuntime, file: &str, text: &str) -> Result<Tally> {
     let mut context = Context::new(rt, file);
     let mut tally = Tally::default();
     let blocks = blocks_of(rt.alloc(), text)?;
@@ -128,10 +128,29 @@ pub(crate) fn run_file(rt: &HostRuntime, file: &str, text: &str) -> Result<Tally
             Some(next) => is_row(next),
             None => false,
         };
-        if let Err(error) = run_block(&mut context, &mut tally, block, has_rows) {
+        if let Err(error) = run_block(kinds, &mut context, &mut tally, block, has_rows) {
             println!(rt; "{file}:{}: can't be read: {error}", block.number)?;
             tally.count(true);
         }
     }
     Ok(tally)
+}
+
+/// Runs the cases of a file, and prints how many there are.
+fn run_file<K: Kinds>(kinds: &K, rt: &HostRuntime, file: &str) -> Result<Tally> {
+    let text = fs::read_to_string(rt, file)?;
+    let tally = run_text(kinds, rt, file, text.as_str())?;
+    println!(rt; "{file}: {} cases", tally.cases)?;
+    Ok(tally)
+}
+
+/// Runs the cases of these files, of this crate's kinds and of those. Prints each difference, and how
+/// many cases there were; the exit status tells whether one has failed.
+pub fn run_files<K: Kinds>(kinds: &K, rt: &HostRuntime, files: &[String]) -> Result<ExitCode> {
+    let mut all = Tally::default();
+    for file in files {
+        all.add(run_file(kinds, rt, file.as_str())?);
+    }
+    println!(rt; "{} cases, {} failed", all.cases, all.failed)?;
+    Ok(ExitCode::from(u8::from(all.failed > 0)))
 }
