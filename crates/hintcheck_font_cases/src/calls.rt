@@ -2,10 +2,10 @@
 
 use crate::faults::{Fault, fault_text};
 use crate::sessions::refused_in_session;
-use anyhow::{Result, anyhow, ensure};
+use anyhow::{Result, bail, ensure};
 use hintcheck_fonts::{
-    Budget, CheckFontFault, Refused, UpgradeFault, Verdict, bare, check_font_within, find_font,
-    find_font_within, read_font, upgrade, verdict, verdict_symbolic, verdict_within,
+    Budget, CheckFontFault, Refused, UpgradeFault, Verdict, bare, check_font, check_font_within,
+    find_font, find_font_within, read_font, upgrade, verdict, verdict_symbolic, verdict_within,
 };
 use std::alloc::Global;
 use std::fmt::Write;
@@ -13,7 +13,7 @@ use std::fs;
 use tt_cases::context::Context;
 use tt_cases::files::{font_of, held, likeness, maxp, next_held};
 use tt_cases::words::{Words, bytes_of};
-use tt_stream::Counted;
+use tt_stream::{Bytes, Counted};
 use tt_test_fixtures::streams::{ALL, Steps, Taker};
 
 /// Returns a refused program, the reason's number and the place.
@@ -112,10 +112,8 @@ impl Room {
     /// Returns the writer.
     fn writer(&self, alloc: Global) -> Taker {
         Taker {
-            bytes: Vec::new(alloc),
-            step: step_of(self.writes),
-            calls: self.writes,
             takes_nothing: self.takes_nothing,
+            ..Taker::new(alloc, step_of(self.writes), self.writes)
         }
     }
 
@@ -126,7 +124,7 @@ impl Room {
 }
 
 /// Returns what the check of a font by a certificate tells, for which there is so much room.
-fn told_of_reading(
+pub(crate) fn told_of_check(
     alloc: Global,
     font: &[u8],
     certificate: &[u8],
@@ -135,16 +133,6 @@ fn told_of_reading(
 ) -> Result<String> {
     let mut source = Counted::new(room.reader(certificate));
     told_of(alloc, check_font_within(alloc, font, &mut source, budget))
-}
-
-/// Returns what the check of a font by a certificate tells.
-pub(crate) fn told_of_check(
-    alloc: Global,
-    font: &[u8],
-    certificate: &[u8],
-    budget: &mut Budget,
-) -> Result<String> {
-    told_of_reading(alloc, font, certificate, AMPLE, budget)
 }
 
 /// Returns what the search for a font's certificate tells, for which there is so much room, and how
@@ -162,13 +150,20 @@ fn told_of_search(
     Ok(format!(in alloc; "{told}, {likeness}")?)
 }
 
-/// `found FONT CERT`: what the search for a font's certificate tells, which is written into a file.
+/// `found FONT CERT`: what the search for a font's certificate tells, which is written into a file;
+/// the check by it tells the same.
 pub(crate) fn found(context: &Context<'_>, words: &mut Words<'_>) -> Result<String> {
     let alloc = context.rt.alloc();
     let font = next_held(context, words)?;
     let mut sink = Counted::new(Vec::new(alloc));
     let told = told_of(alloc, find_font(alloc, &font, &mut sink))?;
-    fs::write(context.rt, words.next()?, &sink.into_inner())?;
+    let certificate = sink.into_inner();
+    let checked = told_of(
+        alloc,
+        check_font(alloc, &font, &mut Bytes::new(&certificate)),
+    )?;
+    ensure!(told.as_str() == checked.as_str(), "{told}, but {checked}");
+    fs::write(context.rt, words.next()?, &certificate)?;
     Ok(told)
 }
 
@@ -233,38 +228,10 @@ fn told_of_session(alloc: Global, file: &[u8], certificate: Steps<'_>) -> Result
     told_of_programs(alloc, programs, answer)
 }
 
-/// Calls the library with files: `verdict FONT`, `check_font FONT CERT`, `find_font FONT WANT` and
-/// `upgrade OLD WANT`, with the certificate that is to be written.
+/// Calls the library with files: `verdict FONT`, `check_font FONT CERT`, `session FONT CERT`,
+/// `find_font FONT WANT` and `upgrade OLD WANT`, with the certificate that is to be written, where a
+/// reader and a writer have so much room.
 pub(crate) fn call(
-    context: &Context<'_>,
-    kind: &str,
-    names: &[&str],
-    budget: &mut Budget,
-) -> Result<String> {
-    call_within(context, kind, names, AMPLE, budget)
-}
-
-/// Calls the library with what a file holds, and another one if there are two.
-fn call_on(
-    alloc: Global,
-    kind: &str,
-    first: &[u8],
-    other: Option<&[u8]>,
-    room: Room,
-    budget: &mut Budget,
-) -> Result<String> {
-    match (kind, other) {
-        ("verdict", None) => told_of_font(alloc, first, budget),
-        ("check_font", Some(other)) => told_of_reading(alloc, first, other, room, budget),
-        ("session", Some(other)) => told_of_session(alloc, first, room.reader(other)),
-        ("find_font", Some(other)) => told_of_search(alloc, first, other, room, budget),
-        ("upgrade", Some(other)) => told_of_upgrade(alloc, first, other, room),
-        _ => Err(anyhow!("no call {kind} of these files")),
-    }
-}
-
-/// Calls the library with files, where a reader and a writer have so much room.
-pub(crate) fn call_within(
     context: &Context<'_>,
     kind: &str,
     names: &[&str],
@@ -272,13 +239,23 @@ pub(crate) fn call_within(
     budget: &mut Budget,
 ) -> Result<String> {
     let alloc = context.rt.alloc();
-    match names {
-        [first] => call_on(alloc, kind, &held(context, first)?, None, room, budget),
-        [first, other] => {
-            let first = held(context, first)?;
-            let other = held(context, other)?;
-            call_on(alloc, kind, &first, Some(&other), room, budget)
-        }
-        _ => Err(anyhow!("no call {kind} of so many files")),
+    let [first, others @ ..] = names else {
+        bail!("no call of no file");
+    };
+    let first = held(context, first)?;
+    let [other] = others else {
+        ensure!(
+            kind == "verdict" && others.is_empty(),
+            "no call {kind} of these files"
+        );
+        return told_of_font(alloc, &first, budget);
+    };
+    let other = held(context, other)?;
+    match kind {
+        "check_font" => told_of_check(alloc, &first, &other, room, budget),
+        "session" => told_of_session(alloc, &first, room.reader(&other)),
+        "find_font" => told_of_search(alloc, &first, &other, room, budget),
+        "upgrade" => told_of_upgrade(alloc, &first, &other, room),
+        _ => bail!("no call {kind} of two files"),
     }
 }

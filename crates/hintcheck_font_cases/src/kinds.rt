@@ -1,5 +1,6 @@
 //! The kinds of cases that ask hintcheck_fonts: on fonts and on certificates.
 
+use crate::calls::AMPLE;
 use crate::{calls, sessions, sweeps};
 use anyhow::{Result, bail};
 use hintcheck_fonts::Budget;
@@ -17,7 +18,7 @@ impl Kinds for FontKinds {
             "profiles" => calls::judge_by_both(context, words),
             "verdict" | "check_font" | "find_font" | "upgrade" => {
                 let names = words.rest(context.rt.alloc())?;
-                calls::call(context, kind, &names, &mut Budget::unlimited())
+                calls::call(context, kind, &names, AMPLE, &mut Budget::unlimited())
             }
             "found" => calls::found(context, words),
             "session" => sessions::session(context, words),

@@ -92,20 +92,11 @@ fn budget_of(word: &str, before: Budget) -> Result<Budget> {
 /// `=` within that of the call before. In brackets how many points of the budget are made then, with
 /// `!` where that is exceeded, and how many bytes of the certificate are left.
 pub(crate) fn session(context: &Context<'_>, words: &mut Words<'_>) -> Result<String> {
+    let alloc = context.rt.alloc();
     let file = next_held(context, words)?;
     let certificate = next_held(context, words)?;
-    session_of(context.rt.alloc(), &file, &certificate, words)
-}
-
-/// Reads a font, and returns what the calls on it and its certificate tell.
-fn session_of(
-    alloc: Global,
-    file: &[u8],
-    certificate: &[u8],
-    words: &mut Words<'_>,
-) -> Result<String> {
-    let font = read_font(alloc, file)?;
-    session_on(alloc, &font, certificate, words)
+    let font = read_font(alloc, &file)?;
+    session_on(alloc, &font, &certificate, words)
 }
 
 /// Returns what the calls on a font and its certificate tell. The session is owned here, where
@@ -189,20 +180,16 @@ fn told_of_first(
     }
 }
 
-/// Returns the first refused program of a font by its certificate, and how many bytes aren't read.
-fn first_of(alloc: Global, file: &[u8], certificate: &[u8]) -> Result<String> {
-    let font = read_font(alloc, file)?;
-    let mut source = Bytes::new(certificate);
-    let first = first_refused(alloc, &font, &mut source);
-    told_of_first(alloc, first, source.ahead().len())
-}
-
 /// `first FONT CERT`: the first refused program of a font by its certificate, and how many bytes of
 /// that aren't read.
 pub(crate) fn first(context: &Context<'_>, words: &mut Words<'_>) -> Result<String> {
+    let alloc = context.rt.alloc();
     let file = next_held(context, words)?;
     let certificate = next_held(context, words)?;
-    first_of(context.rt.alloc(), &file, &certificate)
+    let font = read_font(alloc, &file)?;
+    let mut source = Bytes::new(&certificate);
+    let first = first_refused(alloc, &font, &mut source);
+    told_of_first(alloc, first, source.ahead().len())
 }
 
 /// Writes the section of a program, if that was found.
@@ -226,17 +213,14 @@ fn told_of_found(alloc: Global, answer: Answer, sink: &mut Sections) -> Result<S
 }
 
 /// `search FONT WANT BUDGET..`: what the calls tell that find the programs one by one, each within a
-/// budget as of `session`, and how their sections after a header compare with a certificate.
+/// budget as of `session`, or with `-` without one, and how their sections after a header compare
+/// with a certificate.
 pub(crate) fn search(context: &Context<'_>, words: &mut Words<'_>) -> Result<String> {
+    let alloc = context.rt.alloc();
     let file = next_held(context, words)?;
     let want = next_held(context, words)?;
-    search_of(context.rt.alloc(), &file, &want, words)
-}
-
-/// Reads a font, and returns what the calls that find its programs tell.
-fn search_of(alloc: Global, file: &[u8], want: &[u8], words: &mut Words<'_>) -> Result<String> {
-    let font = read_font(alloc, file)?;
-    search_on(alloc, &font, want, words)
+    let font = read_font(alloc, &file)?;
+    search_on(alloc, &font, &want, words)
 }
 
 /// Returns what the calls that find a font's programs tell, and how their sections compare. The
@@ -263,25 +247,38 @@ fn told_by_searches(
     let mut budget = Budget::unlimited();
     let mut text = String::new(alloc);
     for _ in 0..words.len() {
-        budget = budget_of(words.next()?, budget)?;
-        add_search(alloc, &mut text, session, &mut sink, &mut budget)?;
+        add_search(
+            alloc,
+            &mut text,
+            session,
+            &mut sink,
+            words.next()?,
+            &mut budget,
+        )?;
     }
     text.push_str(likeness(&sink.into_inner(), want))?;
     Ok(text)
 }
 
-/// Adds what the next call tells that finds a program, whose section is written.
+/// Adds what the next call tells that finds a program, whose section is written. It is given the
+/// budget that a word tells, or none where that is `-`.
 fn add_search(
     alloc: Global,
     text: &mut String,
     session: &mut Session<'_>,
     sink: &mut Sections,
+    word: &str,
     budget: &mut Budget,
 ) -> Result<()>
     requires { IsForFinding session.old }
     ensures { IsForFinding session.new }
 {
-    let answer = session.find_next_within(alloc, budget);
+    let answer = if word == "-" {
+        session.find_next(alloc)
+    } else {
+        *budget = budget_of(word, *budget)?;
+        session.find_next_within(alloc, budget)
+    };
     let told = told_of_found(alloc, answer, sink)?;
     write!(text, "{told} ")?;
     Ok(())

@@ -1,6 +1,6 @@
 //! Cases that are many: each budget, each failed call, each byte at each value.
 
-use crate::calls::{AMPLE, Room, call, call_within, told_of_check, told_of_font};
+use crate::calls::{AMPLE, Room, call, told_of_check, told_of_font};
 use anyhow::{Result, anyhow, ensure};
 use hintcheck_fonts::Budget;
 use std::alloc::Global;
@@ -27,11 +27,11 @@ pub(crate) fn within(context: &Context<'_>, words: &mut Words<'_>) -> Result<Str
     let kind = words.next()?;
     let names = words.rest(alloc)?;
     let mut unlimited = Budget::unlimited();
-    let told = call(context, kind, &names, &mut unlimited)?;
+    let told = call(context, kind, &names, AMPLE, &mut unlimited)?;
     let points = unlimited.made();
     for most in 0..=points.saturating_add(1) {
         let mut budget = Budget::of(most);
-        let is = call(context, kind, &names, &mut budget)?;
+        let is = call(context, kind, &names, AMPLE, &mut budget)?;
         if !is_within(is.as_str(), told.as_str(), &budget, most, points) {
             return Ok(format!(in alloc; "{points} points, {told}, but within {most} {is}")?);
         }
@@ -61,7 +61,7 @@ fn show_call(
 ) -> Result<()> {
     let kind = words.next()?;
     let names = files_of(context.rt.alloc(), words)?;
-    let told = call_within(context, kind, &names, room, budget)?;
+    let told = call(context, kind, &names, room, budget)?;
     let mark = if budget.is_exceeded() { "!" } else { "" };
     write!(text, "{told} [{}{mark}] ", budget.made())?;
     Ok(())
@@ -97,12 +97,12 @@ fn told_of_writes(
     writes: usize,
 ) -> Result<String> {
     let failing = Room { writes, ..AMPLE };
-    let told = call_within(context, kind, names, failing, &mut Budget::unlimited())?;
+    let told = call(context, kind, names, failing, &mut Budget::unlimited())?;
     let taking = Room {
         takes_nothing: true,
         ..failing
     };
-    let other = call_within(context, kind, names, taking, &mut Budget::unlimited())?;
+    let other = call(context, kind, names, taking, &mut Budget::unlimited())?;
     ensure!(
         told.as_str() == other.as_str(),
         "{told}, but {other} where nothing is taken"
@@ -125,7 +125,7 @@ fn told_of_failure(
         reads: calls,
         ..AMPLE
     };
-    call_within(context, kind, names, room, &mut Budget::unlimited())
+    call(context, kind, names, room, &mut Budget::unlimited())
 }
 
 /// Whether a failed call is told, after a beginning of what is to be written.
@@ -165,7 +165,7 @@ fn is_answer(told: &str) -> bool {
 /// Whether the check of a font by a certificate has an answer, and accepts only where the verdict
 /// does, which tells this.
 fn is_checked(alloc: Global, font: &[u8], certificate: &[u8], verdict: &str) -> Result<bool> {
-    let check = told_of_check(alloc, font, certificate, &mut Budget::unlimited())?;
+    let check = told_of_check(alloc, font, certificate, AMPLE, &mut Budget::unlimited())?;
     let is_same = !check.ends_with("good") || verdict.ends_with("good");
     Ok(is_answer(check.as_str()) && is_same)
 }

@@ -6,8 +6,8 @@ use crate::kinds::{Kinds, answer};
 use crate::words::Words;
 use anyhow::{Result, ensure};
 use std::alloc::Global;
-use std::fs;
 use std::process::ExitCode;
+use std::{env, fs};
 
 /// How many cases were run, and how many of them failed or couldn't be read.
 #[derive(Clone, Copy, Default)]
@@ -144,11 +144,13 @@ fn run_file<K: Kinds>(kinds: &K, rt: &HostRuntime, file: &str) -> Result<Tally> 
     Ok(tally)
 }
 
-/// Runs the cases of these files, of this crate's kinds and of those. Prints each difference, and how
-/// many cases there were; the exit status tells whether one has failed.
-pub fn run_files<K: Kinds>(kinds: &K, rt: &HostRuntime, files: &[String]) -> Result<ExitCode> {
+/// Runs the cases in the files that the words of the program name, of this crate's kinds and of
+/// those. Prints each difference, and how many cases there were; the exit status tells whether one
+/// has failed.
+pub fn run_files<K: Kinds>(kinds: &K, rt: &HostRuntime) -> Result<ExitCode> {
+    let words: Vec<String> = env::args(rt)?.collect(rt.alloc())?;
     let mut all = Tally::default();
-    for file in files {
+    for file in words.iter().skip(1) {
         all.add(run_file(kinds, rt, file.as_str())?);
     }
     println!(rt; "{} cases, {} failed", all.cases, all.failed)?;
