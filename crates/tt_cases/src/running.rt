@@ -144,13 +144,13 @@ fn run_file<K: Kinds>(kinds: &K, rt: &HostRuntime, file: &str) -> Result<Tally> 
     Ok(tally)
 }
 
-/// Runs the cases in the files that the words of the program name, of this crate's kinds and of
-/// those. Prints each difference, and how many cases there were; the exit status tells whether one
+/// Runs the cases in the files that the words of the program name, of these kinds and of this
+/// crate's. Prints each difference, and how many cases there were; the exit status tells whether one
 /// has failed.
 pub fn run_files<K: Kinds>(kinds: &K, rt: &HostRuntime) -> Result<ExitCode> {
     let words: Vec<String> = env::args(rt)?.collect(rt.alloc())?;
     let mut all = Tally::default();
-    for file in words.iter().skip(1) {
+    for file in words.get(1..).unwrap_or(&[]) {
         all.add(run_file(kinds, rt, file.as_str())?);
     }
     println!(rt; "{} cases, {} failed", all.cases, all.failed)?;
