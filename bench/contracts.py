@@ -27,7 +27,7 @@ FIXTURES = ("tt_test_fixtures",)
 # The crates of tests that the page names.
 TEST_CRATES = ("hintcheck_tests",)
 # The files of cases, which it names `cases/NAME`.
-CASES = TOP / "crates/hintcheck_cases/data"
+CASES = (TOP / "crates/hintcheck_cases/data", TOP / "crates/hintcheck_font_cases/data")
 
 OWNER = re.compile(r"^(?:pub )?(impl|trait)\b([^{]*)\{", re.M)
 FUNCTION = re.compile(r'^ *(pub(?:\(\w+\))? )?(?:final )?(?:extern "C" )?fn (\w+)', re.M)
@@ -169,8 +169,8 @@ def faults_of_row(crate: str, row: list[str], known: dict[tuple[str, str], Claus
         yield f"{crate}: {clauses} cites {sorted(cited)}, not {sorted(named)}"
     for test in re.findall(r"\w+/\w+", tests):
         modules = [TOP / f"crates/{tests}/src/{test}.rt" for tests in TEST_CRATES]
-        cases = CASES / f"{test.removeprefix('cases/')}.txt"
-        if not any(path.exists() for path in [*modules, cases]):
+        cases = [folder / f"{test.removeprefix('cases/')}.txt" for folder in CASES]
+        if not any(path.exists() for path in [*modules, *cases]):
             yield f"{crate}: there is no test module and no file of cases {test}"
     gate, _, further = edits.partition("*also*")
     for folder, cell in ((f"crates/{crate}/must-fail", gate), (f"bench/edits/{crate}", further)):

@@ -1,9 +1,9 @@
 #!/usr/bin/env python3
-"""Asks a second checker of certificates, examples/checker.py, the cases of hintcheck_cases.
+"""Asks a second checker of certificates, examples/checker.py, the cases of hintcheck_font_cases.
 
 Usage: bench/independent_cases.py
 These are the cases of check.txt (`full`, `sparse`), steps.txt (`step`) and sections.txt (`section`,
-`cuts`) in crates/hintcheck_cases/data, of which docs/CASES.md has the notation. Each that is
+`cuts`) in crates/hintcheck_font_cases/data, of which docs/CASES.md has the notation. Each that is
 answered otherwise is printed, and the exit status is then 1.
 """
 
@@ -14,7 +14,7 @@ import re
 import sys
 
 TOP = pathlib.Path(__file__).resolve().parent.parent
-DATA = TOP / "crates/hintcheck_cases/data"
+DATA = TOP / "crates/hintcheck_font_cases/data"
 sys.path.append(str(TOP / "examples"))
 
 import checker  # noqa: E402  (the folder is only known here)

@@ -1,11 +1,11 @@
 #!/usr/bin/env python3
-"""Asks a second checker of certificates, examples/checker.py, the cases of hintcheck_cases in which
-whole files are read.
+"""Asks a second checker of certificates, examples/checker.py, the cases in which whole files are read.
 
 Usage: bench/independent_files.py
-These are the cases `read` of fonts.txt, and `check_font` and `run check` of the other files in
-crates/hintcheck_cases/data, of which docs/CASES.md has the notation. What `find` writes in them is
-here the certificate of a plain search. Other files that hintcheck writes aren't known: cases that
+These are the cases `read` of fonts.txt, `check_font` of the other files in
+crates/hintcheck_font_cases/data and `run check` of those in crates/hintcheck_cases/data, of which
+docs/CASES.md has the notation. What `found` and `run find` write in them is here the certificate of
+a plain search. Other files that hintcheck writes aren't known: cases that
 read one are passed over, and counted. Each that is answered otherwise is printed, and the exit
 status is then 1.
 """
@@ -17,7 +17,7 @@ import struct
 import sys
 
 TOP = pathlib.Path(__file__).resolve().parent.parent
-DATA = TOP / "crates/hintcheck_cases/data"
+FONTS, COMMANDS = TOP / "crates/hintcheck_font_cases/data", TOP / "crates/hintcheck_cases/data"
 sys.path += [str(TOP / "examples"), str(TOP / "bench")]
 
 import checker  # noqa: E402  (the folders are only known here)
@@ -26,11 +26,12 @@ import independent_cases as notation  # noqa: E402
 import independent_trials as trials  # noqa: E402
 import vectors  # noqa: E402
 
-FILES = ("fonts.txt", "certificates.txt", "malicious.txt", "sessions.txt", "upgrades.txt")
-# The file whose fonts and certificates the others know.
-KNOWN = "certificates.txt"
+FILES = (FONTS / "fonts.txt", FONTS / "certificates.txt", FONTS / "malicious.txt", FONTS / "upgrades.txt",
+         COMMANDS / "certificate_commands.txt", COMMANDS / "malicious_commands.txt", COMMANDS / "sessions.txt")
+# The file of a folder whose fonts and certificates the others know.
+KNOWN = {FONTS: FONTS / "certificates.txt", COMMANDS: COMMANDS / "certificate_commands.txt"}
 CHECKED = re.compile(r"(?:run check|check_font) (\S+) (\S+)")
-FINDS = re.compile(r"run find (\S+) (\S+)")
+FINDS = re.compile(r"(?:run find|found) (\S+) (\S+)")
 # What hintcheck writes otherwise is the second name.
 WRITES = re.compile(r"run (?:find|upgrade) (?:--points \d+ )?\S+ (\S+)")
 # Names of files that are never there.
@@ -137,10 +138,10 @@ def checked(names: tuple[str, str], files: dict[str, bytes], library: bool) -> l
     return [f"{len(font.glyphs) + 2}" + (" good" if accepted else f": {told}")]
 
 
-def blocks(name: str) -> collections.abc.Iterator[tuple[str, str, list[str]]]:
+def blocks(path: pathlib.Path) -> collections.abc.Iterator[tuple[str, str, list[str]]]:
     """The lines of a file with a place, what is asked, and the answer's lines."""
     before, block = "", None
-    for number, line in enumerate((DATA / name).read_text().splitlines(), 1):
+    for number, line in enumerate(path.read_text().splitlines(), 1):
         if block and line[:1] in ("|", "!"):
             block[2].append(line[2:] if line[0] == "|" else line)
             continue
@@ -152,10 +153,10 @@ def blocks(name: str) -> collections.abc.Iterator[tuple[str, str, list[str]]]:
             continue
         if arrow:
             first = answer.strip().split(" | ")
-            block = (f"{name}:{number}", (before + asked if line[0] == " " else asked), first)
+            block = (f"{path.name}:{number}", (before + asked if line[0] == " " else asked), first)
         else:
             before = line.split(" # ")[0]
-            yield f"{name}:{number}", before, []
+            yield f"{path.name}:{number}", before, []
     if block:
         yield block
 
@@ -168,11 +169,12 @@ def is_as(told: list[str], wanted: list[str]) -> bool:
     return told[:at] == wanted[:at] and told[len(told) - rest:] == wanted[at + 1:]
 
 
-def answers(name: str) -> collections.abc.Iterator[tuple[str, list[str] | None, list[str]]]:
+def answers(path: pathlib.Path) -> collections.abc.Iterator[tuple[str, list[str] | None, list[str]]]:
     """The cases of a file: the place, what is told (None: a file isn't known), what is expected."""
     files: dict[str, bytes] = {}
-    others = [KNOWN] if name != KNOWN else []
-    for of, (place, asked, wanted) in ((of, block) for of in [*others, name] for block in blocks(of)):
+    known = KNOWN[path.parent]
+    others = [known] if path != known else []
+    for of, (place, asked, wanted) in ((of, block) for of in [*others, path] for block in blocks(of)):
         kind, *words = asked.split()
         told: list[str] | None = None
         try:
@@ -182,7 +184,7 @@ def answers(name: str) -> collections.abc.Iterator[tuple[str, list[str] | None, 
                 told = shown(written(words[0], words[1:], files))
             elif asks := CHECKED.fullmatch(asked.strip()):
                 told = checked(asks.groups(), files, kind != "run")
-            elif (found := FINDS.fullmatch(asked.strip())) and found[1] in files and wanted[0] == "0":
+            elif (found := FINDS.fullmatch(asked.strip())) and found[1] in files and re.match(r"0$|\d+ good", wanted[0]):
                 files[found[2]] = trials.certificate_of(checker.read_font(files[found[1]]))
                 continue
             elif named := WRITES.match(asked):
@@ -192,15 +194,15 @@ def answers(name: str) -> collections.abc.Iterator[tuple[str, list[str] | None, 
                 continue
         except Unknown:
             files.pop(words[0], None)
-        if wanted and of == name:
+        if wanted and of == path:
             yield place, told, wanted
 
 
 def main() -> int:
     """Asks all, and tells how many differ."""
     asked = failed = passed_over = 0
-    for name in FILES:
-        for place, told, wanted in answers(name):
+    for path in FILES:
+        for place, told, wanted in answers(path):
             if told is None:
                 passed_over += 1
                 continue

@@ -27,6 +27,17 @@ pub(crate) fn spelled(context: &Context<'_>, word: &str) -> Result<String> {
     Ok(text)
 }
 
+/// Returns the program's name, and the words for the command that all words of a case stand for.
+pub(crate) fn spelled_all(context: &Context<'_>, words: &mut Words<'_>) -> Result<Vec<String>> {
+    let alloc = context.rt.alloc();
+    let mut spellings = Vec::new(alloc);
+    spellings.push(String::from_str(alloc, "hintcheck")?)?;
+    for word in words.rest(alloc)? {
+        spellings.push(spelled(context, word)?)?;
+    }
+    Ok(spellings)
+}
+
 /// Adds the lines of what was printed, each after a mark.
 fn push_lines(text: &mut String, mark: char, printed: &str) -> Result<()> {
     if printed.is_empty() {
@@ -57,26 +68,13 @@ fn told_of_run(alloc: Global, status: u8, out: &[u8], err: &[u8]) -> Result<Stri
     Ok(text)
 }
 
-/// Returns the exit status of the command at these words of a case, and what it prints.
-pub(crate) fn run_words(context: &Context<'_>, words: &[&str]) -> Result<String> {
+/// `run WORDS`: the exit status of the command, and what it prints.
+pub(crate) fn run(context: &Context<'_>, words: &mut Words<'_>) -> Result<String> {
     let alloc = context.rt.alloc();
-    let mut spellings = Vec::new(alloc);
-    for word in words {
-        spellings.push(spelled(context, word)?)?;
-    }
-    let mut texts = Vec::new(alloc);
-    texts.push("hintcheck")?;
-    for spelling in &spellings {
-        texts.push(spelling.as_str())?;
-    }
+    let spellings = spelled_all(context, words)?;
+    let texts: Vec<&str> = spellings.iter().map(|word| word.as_str()).collect(alloc)?;
     let mut out = Counted::new(Vec::new(alloc));
     let mut err = Counted::new(Vec::new(alloc));
     let status = command(context.rt, &texts, &mut out, &mut err);
     told_of_run(alloc, status, &out.into_inner(), &err.into_inner())
-}
-
-/// `run WORDS`: the exit status of the command, and what it prints.
-pub(crate) fn run(context: &Context<'_>, words: &mut Words<'_>) -> Result<String> {
-    let words = words.rest(context.rt.alloc())?;
-    run_words(context, &words)
 }

@@ -1,9 +1,9 @@
 //! Cases of the command line: the task that words ask for, or why there is none, and hexadecimal
 //! words.
 
-use crate::commands::spelled;
+use crate::commands::{spelled, spelled_all};
 use anyhow::Result;
-use hintcheck_words::{TaskFault, read_words, word_bytes};
+use hintcheck::{TaskFault, read_words, word_bytes};
 use std::alloc::Global;
 use tt_cases::context::Context;
 use tt_cases::words::Words;
@@ -23,15 +23,8 @@ fn task_text(alloc: Global, words: &[&str]) -> Result<String> {
 /// error.
 pub(crate) fn task(context: &Context<'_>, words: &mut Words<'_>) -> Result<String> {
     let alloc = context.rt.alloc();
-    let mut spellings = Vec::new(alloc);
-    for word in words.rest(alloc)? {
-        spellings.push(spelled(context, word)?)?;
-    }
-    let mut texts = Vec::new(alloc);
-    texts.push("hintcheck")?;
-    for spelling in &spellings {
-        texts.push(spelling.as_str())?;
-    }
+    let spellings = spelled_all(context, words)?;
+    let texts: Vec<&str> = spellings.iter().map(|word| word.as_str()).collect(alloc)?;
     task_text(alloc, &texts)
 }
 

@@ -5,15 +5,15 @@ use std::alloc::Global;
 
 /// A line, and the lines of its answer that follow it.
 #[derive(Drop)]
-pub struct Block<'a> {
+pub(crate) struct Block<'a> {
     /// Where the line stands in the file, from 1.
-    pub number: usize,
+    pub(crate) number: usize,
     /// The line before `->`.
-    pub asked: &'a str,
+    pub(crate) asked: &'a str,
     /// What stands after `->` in it, if there is one.
-    pub answer: Option<&'a str>,
+    pub(crate) answer: Option<&'a str>,
     /// The lines that follow it, each begun with `|` or `!`.
-    pub lines: Vec<&'a str>,
+    pub(crate) lines: Vec<&'a str>,
 }
 
 /// Returns what stands before a comment after ` #`.
@@ -65,7 +65,7 @@ fn add_line<'a>(
 }
 
 /// Returns the blocks of a file.
-pub fn blocks_of(alloc: Global, text: &str) -> Result<Vec<Block<'_>>> {
+pub(crate) fn blocks_of(alloc: Global, text: &str) -> Result<Vec<Block<'_>>> {
     let mut blocks = Vec::new(alloc);
     for (place, line) in text.lines().enumerate() {
         add_line(alloc, &mut blocks, place.saturating_add(1), line)?;

@@ -1,17 +1,19 @@
-//! What cases are made of: the notation of their files, and the kinds of cases that ask the parts of
-//! the checker, below its verdict on a font.
+//! What cases are made of: the notation of their files, how they are run, and the kinds of cases that
+//! ask the parts of the checker, below its verdict on a font.
 #![tactic(auto)]
 
-pub mod blocks;
+mod blocks;
 mod builders;
 pub mod context;
 mod families;
 pub mod files;
 mod fonts;
 pub mod kinds;
+mod lengths;
 mod orders;
 mod places;
 mod programs;
+pub mod running;
 mod sections;
 mod stacks;
 mod states;

@@ -21,6 +21,8 @@ use tt_test_fixtures::streams::{ALL, Steps, Taker, steps_of};
 enum Reading {
     /// A section in a form.
     Section(Form),
+    /// A section in a form, read ahead.
+    Ahead(Form),
     /// A whole file.
     File,
     /// A file's header.
@@ -62,6 +64,7 @@ fn told_by(
 ) -> Result<String, AllocError> {
     let (told, start) = match reading {
         Reading::Section(form) => (told_of_section(alloc, steps, start, form), start),
+        Reading::Ahead(form) => (read_ahead(alloc, steps, form), 0),
         Reading::File => (told_of_file_by(alloc, steps), 0),
         Reading::Header => (told_of_header(steps), 0),
         Reading::End(place) => (told_of_end(steps, place), 0),
@@ -72,39 +75,23 @@ fn told_by(
 /// How many bytes a call gives, and where a section begins.
 const WAYS: [(usize, u64); 6] = [(1000, 0), (1000, 1000), (1, 0), (2, 7), (3, 0), (5, 0)];
 
-/// Returns what reading a section ahead tells: the same however many bytes a call gives.
-fn told_ahead(
-    alloc: Global,
-    form: Form,
-    bytes: &[u8],
-    steps: &[usize],
-) -> Result<String, AllocError> {
-    let mut told = String::new(alloc);
-    for &step in steps {
-        let steps = Steps {
-            bytes,
-            step,
-            calls: ALL,
-        };
-        let next = told_text(alloc, &read_ahead(alloc, steps, form), 0)?;
-        if !told.is_empty() && told.as_str() != next.as_str() {
-            return format!(in alloc; "{told}, but {next} by {step}");
-        }
-        told = next;
-    }
-    Ok(told)
-}
+/// The same where a section is read ahead.
+const WAYS_AHEAD: [(usize, u64); 3] = [(1, 0), (7, 0), (1000, 0)];
+
+/// More ways to read a section ahead, up to as many bytes a call as there are.
+const LONG_WAYS: [(usize, u64); 3] = [(1000, 0), (262_144, 0), (ALL, 0)];
 
 /// Returns what reading bytes tells: the same however many a call gives, and wherever a section
 /// begins.
-fn told_in_steps(
+fn told_in_ways(
     alloc: Global,
     reading: Reading,
     bytes: &[u8],
     calls: usize,
+    ways: &[(usize, u64)],
 ) -> Result<String, AllocError> {
     let mut told = String::new(alloc);
-    for (step, start) in WAYS {
+    for &(step, start) in ways {
         let next = told_by(alloc, reading, Steps { bytes, step, calls }, start)?;
         if !told.is_empty() && told.as_str() != next.as_str() {
             return format!(in alloc; "{told}, but {next} by {step} from {start}");
@@ -121,14 +108,14 @@ fn told_alike(
     bytes: &[u8],
     calls: usize,
 ) -> Result<String, AllocError> {
-    let told = told_in_steps(alloc, reading, bytes, calls)?;
+    let told = told_in_ways(alloc, reading, bytes, calls, &WAYS)?;
     let Reading::Section(form) = reading else {
         return Ok(told);
     };
     if calls < ALL {
         return Ok(told);
     }
-    let ahead = told_ahead(alloc, form, bytes, &[1, 7, 1000])?;
+    let ahead = told_in_ways(alloc, Reading::Ahead(form), bytes, ALL, &WAYS_AHEAD)?;
     if told.as_str() == ahead.as_str() {
         return Ok(told);
     }
@@ -255,8 +242,7 @@ fn told_of_calls(
 ) -> Result<String, AllocError> {
     let told = told_by(alloc, reading, byte_steps(bytes, calls), 0)?;
     if let (FAILED, Reading::Section(form)) = (told.as_str(), reading) {
-        let ahead = read_ahead(alloc, byte_steps(bytes, calls), form);
-        return told_text(alloc, &ahead, 0);
+        return told_by(alloc, Reading::Ahead(form), byte_steps(bytes, calls), 0);
     }
     Ok(told)
 }
@@ -280,7 +266,7 @@ pub(crate) fn calls(context: &Context<'_>, words: &mut Words<'_>) -> Result<Stri
 pub(crate) fn ahead(context: &Context<'_>, words: &mut Words<'_>) -> Result<String> {
     let bytes = bytes_said(context, words)?;
     let alloc = context.rt.alloc();
-    Ok(told_ahead(alloc, Form::Four, &bytes, &[1000, 262_144, ALL])?)
+    Ok(told_in_ways(alloc, Reading::Ahead(Form::Four), &bytes, ALL, &LONG_WAYS)?)
 }
 
 /// `cuts section BYTES` and the like: whether each beginning of the bytes tells that it is cut
@@ -345,13 +331,30 @@ fn is_told_of_failure((told, taken): &(Told, Vec<u8>), beginning: &[u8]) -> bool
     *told == Told::Write && taken.as_slice() == beginning
 }
 
-/// Returns how many calls of a writer are made before one fails, untold, where a section is written
-/// as these bytes; nothing where each is told.
-fn untold_call(alloc: Global, section: &Section, want: &[u8]) -> Option<usize> {
+/// What is written.
+#[derive(Clone, Copy)]
+enum Writing<'a> {
+    /// A section.
+    Section(&'a Section),
+    /// The header of a file with so many sections.
+    Header(u32),
+}
+
+/// Writes it to this writer: what is told, and what was taken.
+fn written_to(alloc: Global, writing: Writing<'_>, taker: Taker) -> (Told, Vec<u8>) {
+    match writing {
+        Writing::Section(section) => encoded(alloc, section, taker),
+        Writing::Header(sections) => written_header(sections, taker),
+    }
+}
+
+/// Returns how many calls of a writer are made before one fails, untold, where these bytes are
+/// written; nothing where each is told.
+fn untold_call(alloc: Global, writing: Writing<'_>, want: &[u8]) -> Option<usize> {
     for calls in 0..want.len() {
         for takes_nothing in [false, true] {
             let taker = Taker::failing(alloc, calls, takes_nothing);
-            if !is_told_of_failure(&encoded(alloc, section, taker), &want[..calls]) {
+            if !is_told_of_failure(&written_to(alloc, writing, taker), &want[..calls]) {
                 return Some(calls);
             }
         }
@@ -372,7 +375,7 @@ fn writing_text(alloc: Global, section: &Section, want: &[u8]) -> Result<String,
             return format!(in alloc; "other bytes by {step}");
         }
     }
-    match untold_call(alloc, section, want) {
+    match untold_call(alloc, Writing::Section(section), want) {
         Some(calls) => format!(in alloc; "another answer after {calls}"),
         None => String::from_str(alloc, "same"),
     }
@@ -396,27 +399,13 @@ pub(crate) fn written(context: &Context<'_>, words: &mut Words<'_>) -> Result<St
     told_of_writing(context, &section, words)
 }
 
-/// Returns how many calls of a writer are made before one fails, untold, where a header is written
-/// as these bytes; nothing where each is told.
-fn untold_call_of_header(alloc: Global, sections: u32, want: &[u8]) -> Option<usize> {
-    for calls in 0..want.len() {
-        for takes_nothing in [false, true] {
-            let taker = Taker::failing(alloc, calls, takes_nothing);
-            if !is_told_of_failure(&written_header(sections, taker), &want[..calls]) {
-                return Some(calls);
-            }
-        }
-    }
-    None
-}
-
 /// `head SECTIONS`: the header that is written. Each failed call of the writer is told.
 pub(crate) fn head(context: &Context<'_>, words: &mut Words<'_>) -> Result<String> {
     let alloc = context.rt.alloc();
     let sections = words.next_number()?;
     let (told, bytes) = written_header(sections, Taker::new(alloc, 4, ALL));
     ensure!(told == Told::Done, "no header is written");
-    if let Some(calls) = untold_call_of_header(alloc, sections, &bytes) {
+    if let Some(calls) = untold_call(alloc, Writing::Header(sections), &bytes) {
         bail!("another answer after {calls}");
     }
     Ok(hex::encode_upper(alloc, &bytes)?)

@@ -136,6 +136,15 @@ impl<'a> Words<'a> {
         Ok(Words { words })
     }
 
+    /// Returns the words of a list.
+    pub(crate) fn listed(alloc: Global, list: &[&'a str]) -> Result<Words<'a>> {
+        let mut words = VecDeque::new(alloc);
+        for word in list {
+            words.push_back(*word)?;
+        }
+        Ok(Words { words })
+    }
+
     /// Whether all words have been read.
     pub fn is_empty(&self) -> bool {
         self.words.is_empty()

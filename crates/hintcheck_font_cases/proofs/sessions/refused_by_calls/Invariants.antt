@@ -1,0 +1,5 @@
+use Rattle.hintcheck_fonts.specs.Sessions.{IsForChecking}
+use Rattle.hintcheck_font_cases.proofs.sessions.refused_by_calls.Given as goal
+
+abbrev pub invariant-loop : goal.invariant-loop
+invariant-loop l = IsForChecking l.session

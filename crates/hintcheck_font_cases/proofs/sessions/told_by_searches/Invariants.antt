@@ -1,0 +1,5 @@
+use Rattle.hintcheck_fonts.specs.FindingSessions.{IsForFinding}
+use Rattle.hintcheck_font_cases.proofs.sessions.told_by_searches.Given as goal
+
+abbrev pub invariant-loop : goal.invariant-loop
+invariant-loop l = IsForFinding l.session
