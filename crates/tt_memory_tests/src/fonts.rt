@@ -6,10 +6,17 @@ use std::io;
 use std::test::Fail;
 use tt_font::Font;
 use tt_stream::{Bytes, Counted};
-use tt_test_fixtures::fonts::{MAXP, TWICE, font_of, made, square};
+use tt_test_fixtures::fonts::{MAXP, font_of, square};
 use tt_test_fixtures::heap::Heap;
 use tt_test_fixtures::programs::POPPING;
 use tt_test_fixtures::trials::{Told, Trial, assert_refused, told_of};
+
+/// A glyph that is made of the first one twice: 8 points and 4 phantom points, of which point 11 is
+/// moved.
+const TWICE: [u8; 27] = [
+    0xFF, 0xFF, 0, 0, 0, 0, 0, 0, 0, 0, 0, 0x20, 0, 0, 0, 0, 1, 0, 0, 0, 0, 0, 0, 3, 0xB0, 0x0B,
+    0x2E,
+];
 
 /// A call on a font.
 #[derive(Clone, Copy, Debug)]
@@ -68,8 +75,8 @@ impl Trial for OnFont<'_> {
 fn calls_on_fonts(rt: HostRuntime) -> Result<(), Fail> {
     let mut heap = Heap::new(rt.alloc());
     for (program, glyph) in PROGRAMS {
-        let glyphs = [square(rt.alloc(), glyph)?, made(rt.alloc(), &TWICE)?];
-        let font = font_of(rt.alloc(), &POPPING, &[], &[&glyphs[0], &glyphs[1]])?;
+        let simple = square(rt.alloc(), glyph)?;
+        let font = font_of(rt.alloc(), &POPPING, &[], &[&simple, &TWICE])?;
         let mut sink = Counted::new(Vec::new(rt.alloc()));
         find_font(rt.alloc(), &font, &mut sink)?;
         let certificate = sink.into_inner();
