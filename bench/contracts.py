@@ -24,8 +24,6 @@ PAGE = TOP / "docs/CONTRACTS.md"
 # What the tests share, which promises nothing to users.
 FIXTURES = ("tt_test_fixtures",)
 
-# The crates of tests that the page names.
-TEST_CRATES = ("hintcheck_tests",)
 # The files of cases, which it names `cases/NAME`.
 CASES = (TOP / "crates/hintcheck_cases/data", TOP / "crates/hintcheck_font_cases/data")
 
@@ -168,9 +166,9 @@ def faults_of_row(crate: str, row: list[str], known: dict[tuple[str, str], Claus
     if named != cited:
         yield f"{crate}: {clauses} cites {sorted(cited)}, not {sorted(named)}"
     for test in re.findall(r"\w+/\w+", tests):
-        modules = [TOP / f"crates/{tests}/src/{test}.rt" for tests in TEST_CRATES]
-        cases = [folder / f"{test.removeprefix('cases/')}.txt" for folder in CASES]
-        if not any(path.exists() for path in [*modules, *cases]):
+        owner, name = test.split("/")
+        folders = [(folder, "txt") for folder in CASES] if owner == "cases" else [(TOP / f"crates/{owner}/src", "rt")]
+        if not any((folder / f"{name}.{ending}").exists() for folder, ending in folders):
             yield f"{crate}: there is no test module and no file of cases {test}"
     gate, _, further = edits.partition("*also*")
     for folder, cell in ((f"crates/{crate}/must-fail", gate), (f"bench/edits/{crate}", further)):

@@ -2,11 +2,11 @@
 """Refuses each call its growths of memory in turn, and checks what it answers then.
 
 Usage: bench/refusals.py
-The calls are those of the tests in crates/hintcheck_memory_tests, which `rt test` proves and builds first. A growth is what a call asks of `malloc`
-or `realloc`, and not what is asked before the call for what it is made on, or after it for what is compared. The n-th is refused, for n from 1 until
-there is none to refuse; first each alone, and then each with all later ones. There is a line for each call: how many growths it has on all that it is
-made on, how often it was refused one, and how often it told then that memory ran out and kept what is promised for that. The exit status is 1
-where it didn't each time. Two tests run at once. A C compiler makes what refuses (`cc`), put before the C library's own allocator by LD_PRELOAD.
+The calls are those of the tests in crates/tt_memory_tests and crates/hintcheck_tests, which `rt test` proves and builds first. A growth is what a
+call asks of `malloc` or `realloc`, and not what is asked before the call for what it is made on, or after it for what is compared. The n-th is
+refused, for n from 1 until there is none to refuse; first each alone, and then each with all later ones. There is a line for each call: how many
+growths it has on all that it is made on, and how often it was refused one. A test fails where its call doesn't tell then that memory ran out, and
+the exit status is 1. Two tests run at once. A C compiler makes what refuses (`cc`), put before the C library's own allocator by LD_PRELOAD.
 """
 
 import collections
@@ -19,15 +19,14 @@ import sys
 import tempfile
 
 TOP = pathlib.Path(__file__).resolve().parent.parent
-CRATE = TOP / "crates/hintcheck_memory_tests"
-TESTS = CRATE / "out/hintcheck_memory_tests_tests"
+CRATES = ("tt_memory_tests", "hintcheck_tests")
 PROCESSES = 2
 
 # What a test prints of a call on one example.
-LINE = re.compile(r"^(.+?)(?: (?:on|with) .+)?: (\d+) growths refused, (\d+) told$", re.MULTILINE)
+LINE = re.compile(r"^(.+?)(?: (?:on|with) .+)?: (\d+) growths refused$", re.MULTILINE)
 
-# A request for MESSAGE bytes or more, which no memory has, is a message of the tests (refuser.rt): what is added is the number of the growth
-# that is refused, counted from there. With nothing added none is refused any more, and the answer is whether one was. With ONWARD,
+# A request for MESSAGE bytes or more, which no memory has, is a message of the tests (`MESSAGE` in tt_test_fixtures): what is added is the number of
+# the growth that is refused, counted from there. With nothing added none is refused any more, and the answer is whether one was. With ONWARD,
 # all growths after it are refused too.
 REFUSER = r"""
 #define _GNU_SOURCE
@@ -72,33 +71,32 @@ void *realloc(void *old, size_t size) {
 """
 
 
-class Count:
-    """How many growths a call has on all that it is made on, how often one was refused, and how often it told so."""
+def run(crate: str, word: str, **settings: str) -> subprocess.CompletedProcess[str]:
+    """Runs the built tests of a crate with a word, and with these settings in the environment."""
+    folder = TOP / "crates" / crate
+    program = folder / f"out/{crate}_tests"
+    return subprocess.run([program, word], cwd=folder, env={**os.environ, **settings}, capture_output=True, text=True, check=False)
 
-    growths = refused = told = 0
+
+def tests() -> list[tuple[str, str]]:
+    """The tests: the crate and the full name of each."""
+    listed = [(crate, line) for crate in CRATES for line in run(crate, "--list").stdout.splitlines()]
+    return [(crate, line.removesuffix(": test")) for crate, line in listed if line.endswith(": test")]
 
 
-def count_calls(test: str, refuser: pathlib.Path) -> tuple[dict[str, Count], list[str]]:
-    """Runs a test twice: the count of each of its calls, and what is said where it fails."""
-    counts: dict[str, Count] = collections.defaultdict(Count)
+def count_calls(test: tuple[str, str], refuser: str) -> tuple[collections.Counter[str], collections.Counter[str], list[str]]:
+    """Runs a test twice: how many growths each of its calls has, how many were refused, and what is said where the test fails."""
+    growths: collections.Counter[str] = collections.Counter()
+    refusals: collections.Counter[str] = collections.Counter()
     faults = []
     for settings in ({}, {"ONWARD": "1"}):
-        environment = {**os.environ, "LD_PRELOAD": str(refuser), **settings}
-        done = subprocess.run([TESTS, test], cwd=CRATE, env=environment, capture_output=True, text=True, check=False)
-        for call, refused, told in LINE.findall(done.stdout):
-            count = counts[call]
-            count.growths += 0 if settings else int(refused)
-            count.refused += int(refused)
-            count.told += int(told)
+        done = run(*test, LD_PRELOAD=refuser, **settings)
+        for call, refused in LINE.findall(done.stdout):
+            growths[call] += 0 if settings else int(refused)
+            refusals[call] += int(refused)
         if done.returncode:
-            faults.append(f"{test} {settings}: status {done.returncode}\n{done.stdout}{done.stderr}")
-    return counts, faults
-
-
-def tests() -> list[str]:
-    """The full names of the tests."""
-    listed = subprocess.run([TESTS, "--list"], capture_output=True, text=True, check=True).stdout
-    return [line.removesuffix(": test") for line in listed.splitlines() if line.endswith(": test")]
+            faults.append(f"{' '.join(test)} {settings}: status {done.returncode}\n{done.stdout}{done.stderr}")
+    return growths, refusals, faults
 
 
 def sweep(folder: pathlib.Path) -> bool:
@@ -106,28 +104,25 @@ def sweep(folder: pathlib.Path) -> bool:
     refuser = folder / "refuser.so"
     make = ["cc", "-shared", "-fPIC", "-O2", "-x", "c", "-", "-o", refuser, "-ldl"]
     subprocess.run(make, input=REFUSER.encode(), check=True)
-    growths = refused = told = 0
+    all_growths = all_refusals = 0
     is_well = True
     with concurrent.futures.ThreadPoolExecutor(PROCESSES) as pool:
         names = tests()
-        for test, (counts, faults) in zip(names, pool.map(lambda name: count_calls(name, refuser), names)):
-            for call, count in counts.items():
-                is_wrong = count.told != count.refused or not count.growths
-                print(f"{test} {call}: {count.growths} growths, {count.refused} refusals, {count.told} told{', WRONG' if is_wrong else ''}")
-                is_well = is_well and not is_wrong
-                growths += count.growths
-                refused += count.refused
-                told += count.told
-            for fault in faults:
-                print(fault)
-                is_well = False
-    print(f"{growths} growths, {refused} refusals, {told} told{'' if is_well else ', WRONG'}")
-    return is_well and growths > 0
+        for (_, test), (growths, refusals, faults) in zip(names, pool.map(lambda name: count_calls(name, str(refuser)), names)):
+            for call in growths:
+                print(f"{test} {call}: {growths[call]} growths, {refusals[call]} refusals")
+            all_growths += growths.total()
+            all_refusals += refusals.total()
+            is_well = is_well and not faults
+            print(*faults, sep="\n", end="")
+    print(f"{all_growths} growths, {all_refusals} refusals{'' if is_well else ', WRONG'}")
+    return is_well and all_growths > 0
 
 
 def main() -> None:
-    # All tests are proved and built for that, but only one is run.
-    subprocess.run(["rt", "test", "--", "announced"], cwd=CRATE, stdout=sys.stderr, check=True)
+    # All tests of a crate are proved and built for that, but only one is run.
+    for crate, test in zip(CRATES, ("announced", "two_names")):
+        subprocess.run(["rt", "test", "--", test], cwd=TOP / "crates" / crate, stdout=sys.stderr, check=True)
     with tempfile.TemporaryDirectory() as folder:
         sys.exit(0 if sweep(pathlib.Path(folder)) else 1)
 

@@ -1,13 +1,13 @@
-//! The tests of calls whose steps matter, a module for each crate of the checker that has some, and
-//! one for the command. What the calls answer, and what is printed, is in the cases of
-//! `hintcheck_cases`.
+//! Tests of the command, whose steps matter: outputs that can't be written, files with two names,
+//! and growths of memory that are refused. What it prints otherwise is in the cases of
+//! `hintcheck_cases`, and the memory of the calls below it in `tt_memory_tests`.
 #![tactic(auto)]
 
 #[cfg(test)]
-mod checker;
+mod failing_outputs;
 #[cfg(test)]
-mod code;
+mod outputs;
 #[cfg(test)]
-mod find;
+mod refused_memory;
 #[cfg(test)]
-mod stream;
+mod two_names;

@@ -18,7 +18,7 @@ pub const CALL: Frame = Frame {
 };
 
 /// Returns the state at a start with these functions, with these numbers on the stack, the bottom
-/// first; eight of them at most.
+/// first; 64 of them at most.
 ///
 /// # Errors
 /// If memory runs out.
@@ -28,7 +28,7 @@ pub fn state_of(alloc: Global, functions: &[(u16, u32)], stack: &[i32]) -> Resul
 {
     let mut state = State::start(alloc, functions)?;
     for number in stack {
-        if state.depth() < 8 {
+        if state.depth() < 64 {
             state.push(Cell::Known(*number))?;
         }
     }

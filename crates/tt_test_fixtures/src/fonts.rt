@@ -36,12 +36,6 @@ const SQUARE: [u8; 12] = [0, 1, 0, 0, 0, 0, 0, 0, 0, 0, 0, 3];
 /// The header of a composite glyph.
 pub const MADE: [u8; 10] = [0xFF, 0xFF, 0, 0, 0, 0, 0, 0, 0, 0];
 
-/// The components and the program of a glyph that is made of the first one twice: 8 points and 4
-/// phantom points, of which point 11 is moved.
-pub const TWICE: [u8; 17] = [
-    0, 0x20, 0, 0, 0, 0, 1, 0, 0, 0, 0, 0, 0, 3, 0xB0, 0x0B, 0x2E,
-];
-
 /// Adds a table's record to the directory.
 fn push_record(file: &mut Vec<u8>, tag: &str, offset: usize, length: usize) -> Result<(), NoFile> {
     file.extend_from_slice(tag.as_bytes())?;
@@ -84,7 +78,7 @@ pub fn file_of(alloc: Global, tables: &[(&str, &[u8])]) -> Result<Vec<u8>, NoFil
 }
 
 /// Returns a `maxp` table for this many glyphs.
-pub fn maxp_for(glyphs: u16) -> [u8; 32] {
+fn maxp_for(glyphs: u16) -> [u8; 32] {
     let mut maxp = MAXP;
     let [high, low] = glyphs.to_be_bytes();
     maxp[4] = high;
@@ -182,23 +176,4 @@ pub fn square(alloc: Global, program: &[u8]) -> Result<Vec<u8>, NoFile> {
     let length = u16::try_from(program.len())?.to_be_bytes();
     let parts: [&[u8]; 3] = [&SQUARE, &length, program];
     Ok(parts.concat(alloc)?)
-}
-
-/// Returns a composite glyph with these components and what follows them.
-///
-/// # Errors
-/// `OutOfMemory`.
-pub fn made(alloc: Global, components: &[u8]) -> Result<Vec<u8>, NoFile> {
-    let parts: [&[u8]; 2] = [&MADE, components];
-    Ok(parts.concat(alloc)?)
-}
-
-/// Returns a font of a glyph of 4 points and a composite glyph with these components.
-///
-/// # Errors
-/// `OutOfMemory`; `TooLong` where a number doesn't fit its field.
-pub fn font_with(alloc: Global, components: &[u8]) -> Result<Vec<u8>, NoFile> {
-    let glyph = square(alloc, &[])?;
-    let composite = made(alloc, components)?;
-    font_of(alloc, &[], &[], &[glyph.as_slice(), composite.as_slice()])
 }

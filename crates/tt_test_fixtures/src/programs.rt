@@ -23,9 +23,6 @@ pub const GLYPH: Kind = Kind::Glyph {
 /// FDEF 0: POP; ENDF.
 pub const POPPING: [u8; 5] = [0xb0, 0x00, 0x2c, 0x21, 0x2d];
 
-/// PUSHB 7, 0; CALL.
-pub const CALLS_WITH_A_NUMBER: [u8; 4] = [0xb1, 0x07, 0x00, 0x2b];
-
 /// Returns a program of less than 100 bytes, cut; nothing where it can't be cut, or memory ran out.
 pub fn cut<'a>(alloc: Global, bytes: &'a [u8]) -> Option<Program<'a>> {
     if bytes.len() >= 100 {

@@ -10,10 +10,6 @@ use tt_cert::{
 use tt_family::Certificate;
 use tt_stream::{Buffered, Counted, read_all};
 
-/// What is known of the graphics state where a program starts: the reference points are 0, the
-/// zones 1, the loop number 1. 23 bytes.
-pub const AT_START: &str = "0100000000 0100000000 0100000000 010101 0100000001";
-
 /// What a call says, and in a section's case how many bytes it leaves.
 #[derive(Clone, Copy, Debug, PartialEq, Eq)]
 pub enum Told {
@@ -34,7 +30,7 @@ pub enum Told {
 }
 
 /// Returns what a fault of reading says.
-pub fn told_by_decode_fault(fault: DecodeFault) -> Told {
+fn told_by_decode_fault(fault: DecodeFault) -> Told {
     match fault {
         DecodeFault::Form(place) => Told::Form(place),
         DecodeFault::Read => Told::Read,

@@ -1,3 +1,0 @@
-//! Tests of `tt_code`: what the reasons tell.
-
-mod reasons;
