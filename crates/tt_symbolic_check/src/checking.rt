@@ -5,6 +5,7 @@ ghost use Rattle.tt_abs.specs.Settings.{setting_of};
 ghost use Rattle.tt_symbolic_check.specs.Checked.{AreEnds, IsSafe, KeepsEntries};
 
 use crate::place_index::PlaceIndex;
+use crate::pool::Pool;
 use crate::refusal::CheckRefusal;
 use crate::start::Start;
 use crate::walk::{Effort, begin, walk_on};
@@ -35,6 +36,7 @@ pub fn check(
 {
     let index = PlaceIndex::new(alloc, listed)?;
     let mut walk = begin(alloc, setting, kept, starts, listed)?;
-    walk_on(alloc, setting, kept, listed, &index, &mut walk, effort)?;
+    let mut pool = Pool::new(alloc);
+    walk_on(&mut pool, setting, kept, listed, &index, &mut walk, effort)?;
     Ok(walk.ends)
 }

@@ -1,11 +1,13 @@
 //! Copies of states, and states with a part of a symbol's range.
 
-ghost use Rattle.std.specs.Prelude.{◌≡◌, ◌<◌, ℤ, ◌≤ℤ◌, ◌<ℤ◌, IfOk, length, slice_set};
+ghost use Rattle.std.specs.Prelude.{◌≡◌, ◌<◌, ℤ, ◌≤ℤ◌, ◌<ℤ◌, IfOk, OnOk, length, slice_set};
 ghost use Rattle.tt_symbolic_state.specs.Values.{IsWithin};
 ghost use Rattle.tt_symbolic_check.specs.Copying.{IsCopy, IsLower, IsUpper};
 
 use std::alloc::{AllocError, Global};
+use std::mem;
 use tt_symbolic_state::cell::Range;
+use tt_symbolic_state::stack::Stack;
 use tt_symbolic_state::state::State;
 
 /// Where a symbol's range is split.
@@ -34,6 +36,42 @@ pub fn copied(alloc: Global, state: &State) -> Result<State, AllocError>
         functions: state.functions.copied(alloc)?,
         ranges: Vec::from_slice(alloc, state.ranges.as_slice())?,
     })
+}
+
+/// Makes a list the same as another one, in the memory that it has, where that is enough.
+fn copy_list<T: Copy>(list: &[T], copy: &mut Vec<T>) -> Result<(), AllocError>
+    ensures { OnOk result (copy.new.items ≡ list.now) }
+{
+    copy.clear();
+    copy.extend_from_slice(list)
+}
+
+/// Makes a stack the same as another one, in the memory that it has, where that is enough.
+fn copy_stack(alloc: Global, stack: &Stack, copy: &mut Stack) -> Result<(), AllocError>
+    ensures { OnOk result (copy.new ≡ stack.now) }
+{
+    let mut cells = mem::replace(copy, Stack::new(alloc)).into_cells();
+    copy_list(stack.as_slice(), &mut cells)?;
+    *copy = Stack::from_cells(cells);
+    Ok(())
+}
+
+/// Makes a state a copy of another one, in the memory that it has, where that is enough.
+///
+/// # Errors
+/// If memory runs out; then the state that was to become a copy is unspecified.
+pub fn copy_into(alloc: Global, state: &State, copy: &mut State) -> Result<(), AllocError>
+    ensures { OnOk result (IsCopy state.now copy.new) }
+{
+    copy_list(state.calls.as_slice(), &mut copy.calls)?;
+    copy_stack(alloc, &state.stack, &mut copy.stack)?;
+    copy.storage.copy_from(&state.storage)?;
+    copy.controls.copy_from(&state.controls)?;
+    copy.functions.copy_from(&state.functions)?;
+    copy_list(state.ranges.as_slice(), &mut copy.ranges)?;
+    copy.offset = state.offset;
+    copy.graphics = state.graphics;
+    Ok(())
 }
 
 /// Returns the part of the range up to a number.

@@ -374,6 +374,31 @@ fn may_cover(mine: &State, theirs: &State) -> bool {
         && are_in_same_calls(mine.calls.as_slice(), theirs.calls.as_slice())
 }
 
+/// Whether the second state shows each machine that the first shows. The cells that are assigned to
+/// its symbols are put into a list, in the memory that this has, where that is enough.
+///
+/// # Errors
+/// If memory runs out.
+pub fn covers_by(
+    assigned: &mut Vec<Option<Cell>>,
+    mine: &State,
+    theirs: &State,
+) -> Result<bool, AllocError>
+    ensures { IfOk result (λ b. b ≡ true → Covers mine.now theirs.now) }
+{
+    if !may_cover(mine, theirs) {
+        return Ok(false);
+    }
+    assigned.clear();
+    assigned.resize(theirs.ranges.len(), None)?;
+    let cells = assigned.as_mut_slice();
+    let ranges = mine.ranges.as_slice();
+    if !agree_states(cells, ranges, mine, theirs) {
+        return Ok(false);
+    }
+    Ok(ranges_within(cells, ranges, theirs.ranges.as_slice()))
+}
+
 /// Whether the second state shows each machine that the first shows.
 ///
 /// # Errors
@@ -381,14 +406,6 @@ fn may_cover(mine: &State, theirs: &State) -> bool {
 pub fn covers(alloc: Global, mine: &State, theirs: &State) -> Result<bool, AllocError>
     ensures { IfOk result (λ b. b ≡ true → Covers mine.now theirs.now) }
 {
-    if !may_cover(mine, theirs) {
-        return Ok(false);
-    }
-    let mut assigned = vec![in alloc; None; theirs.ranges.len()]?;
-    let cells = assigned.as_mut_slice();
-    let ranges = mine.ranges.as_slice();
-    if !agree_states(cells, ranges, mine, theirs) {
-        return Ok(false);
-    }
-    Ok(ranges_within(cells, ranges, theirs.ranges.as_slice()))
+    let mut assigned = Vec::new(alloc);
+    covers_by(&mut assigned, mine, theirs)
 }

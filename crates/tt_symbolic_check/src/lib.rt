@@ -6,13 +6,14 @@ mod copying;
 mod covering;
 pub mod laws;
 mod place_index;
+mod pool;
 mod refusal;
 mod splits;
 mod start;
 mod walk;
 
 pub use checking::check;
-pub use copying::{Split, copied, lower, raise};
+pub use copying::{Split, copied, copy_into, lower, raise};
 pub use covering::{covers, has_functions};
 pub use refusal::{CheckRefusal, Place};
 pub use splits::wanted;

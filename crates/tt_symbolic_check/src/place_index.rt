@@ -14,8 +14,8 @@ const NONE: usize = usize::MAX;
 /// By how many numbers the states of one place are told apart at most.
 const MOST_TOLD: usize = 8;
 
-/// How many marks tell at which offsets states are listed: a power of 2.
-const MARKS: usize = 4096;
+/// How many words have the marks that tell at which offsets states are listed: a power of 2.
+const MARK_WORDS: usize = 64;
 
 /// An odd number without a pattern, by which hashes are multiplied.
 const MULTIPLIER: u64 = 0x517c_c1b7_2722_0a95;
@@ -54,8 +54,8 @@ struct Group {
 
 /// Which listed states are at a place, as chains of their numbers.
 pub struct PlaceIndex {
-    /// Whether states are listed at offsets, modulo the number of marks.
-    marks: Vec<bool>,
+    /// Whether states are listed at offsets, modulo the number of marks, a bit each.
+    marks: Vec<u64>,
     /// The states of each place.
     groups: HashMap<u64, Group>,
     /// The first number of the chain of each place with its numbers.
@@ -78,6 +78,16 @@ impl Drop for PlaceIndex {
         drop(heads);
         drop(next);
     }
+}
+
+/// Returns the number of the word that has the mark of an offset.
+fn mark_word(offset: u32) -> usize {
+    offset as usize / 64 % MARK_WORDS
+}
+
+/// Returns the bit of its word that is the mark of an offset.
+fn mark_bit(offset: u32) -> u64 {
+    1u64.rotate_left(offset % 64)
 }
 
 /// Returns a hash of a number after others.
@@ -193,7 +203,7 @@ impl PlaceIndex {
     /// If memory runs out.
     pub fn new(alloc: Global, listed: &[State]) -> Result<PlaceIndex, AllocError> {
         let mut index = PlaceIndex {
-            marks: vec![in alloc; false; MARKS]?,
+            marks: vec![in alloc; 0; MARK_WORDS]?,
             groups: HashMap::new(alloc),
             heads: HashMap::new(alloc),
             next: vec![in alloc; NONE; listed.len()]?,
@@ -211,14 +221,17 @@ impl PlaceIndex {
 
     /// Notes that states are listed at an offset.
     fn mark(&mut self, offset: u32) {
-        if let Some(mark) = self.marks.get_mut(offset as usize % MARKS) {
-            *mark = true;
+        if let Some(word) = self.marks.get_mut(mark_word(offset)) {
+            *word |= mark_bit(offset);
         }
     }
 
     /// Whether states may be listed at an offset.
     fn is_marked(&self, offset: u32) -> bool {
-        self.marks.get(offset as usize % MARKS) == Some(&true)
+        match self.marks.get(mark_word(offset)) {
+            Some(word) => word & mark_bit(offset) != 0,
+            None => false,
+        }
     }
 
     /// Puts the number of a state in the group of its place, before the others.

@@ -3,9 +3,10 @@
 ghost use Rattle.std.specs.Prelude.{◌≡◌, ◌<◌, ℕ, [], ◌∷◌, ◌++◌, IfOk, IfSome, None, OnOk, Some, false, length, slice_get, slice_set, true};
 ghost use Rattle.tt_symbolic_check.specs.Walking.{Begins, EndsAs, Finishes, IsCoveredBy, NothingPending, PutsEnd, PutsPending, Reaches, TakesPending, Walks};
 
-use crate::copying::{Split, copied, lower, raise};
-use crate::covering::covers;
+use crate::copying::{Split, lower, raise};
+use crate::covering::covers_by;
 use crate::place_index::PlaceIndex;
+use crate::pool::Pool;
 use crate::refusal::{CheckRefusal, Place};
 use crate::splits::wanted;
 use crate::start::{Start, start_state};
@@ -14,6 +15,7 @@ use tt_abs::{Point, Setting};
 use tt_symbolic::kept::{Kept, step_keeping};
 use tt_symbolic::step::code_at;
 use tt_symbolic_state::StepRefusal;
+use tt_symbolic_state::cell::Cell;
 use tt_symbolic_state::state::State;
 
 /// How many listed states at one offset are looked at.
@@ -121,7 +123,7 @@ pub fn is_at_end(setting: &Setting<'_>, state: &State) -> bool
 
 /// Finds a listed state that covers the state, and returns its number.
 fn find(
-    alloc: Global,
+    assigned: &mut Vec<Option<Cell>>,
     listed: &[State],
     index: &PlaceIndex,
     state: &State,
@@ -133,7 +135,7 @@ fn find(
         let Some(there) = listed.get(place) else {
             return Ok(None);
         };
-        let covered = covers(alloc, state, there)?;
+        let covered = covers_by(assigned, state, there)?;
         if covered {
             return Ok(Some(place));
         }
@@ -144,7 +146,7 @@ fn find(
 
 /// Stops at a listed state, which is walked in its turn where it isn't yet.
 fn stop_at(
-    alloc: Global,
+    pool: &mut Pool,
     setting: &Setting<'_>,
     kept: &Kept<'_>,
     listed: &[State],
@@ -163,8 +165,7 @@ fn stop_at(
     if place >= walk.walked.len() {
         return Err(AllocError);
     }
-    let state = copied(alloc, there)?;
-    let copy = boxed(alloc, state)?;
+    let copy = pool.copied(there)?;
     mark(&mut walk.walked, place);
     put_pending(walk, copy, false)?;
     Ok(())
@@ -172,7 +173,7 @@ fn stop_at(
 
 /// Lets both parts of a state wait.
 fn split_up(
-    alloc: Global,
+    pool: &mut Pool,
     setting: &Setting<'_>,
     kept: &Kept<'_>,
     listed: &[State],
@@ -183,8 +184,7 @@ fn split_up(
     ensures { OnOk result (Reaches setting.now kept.now listed.now walk.old walk.new
         (λ final. Walks setting.now kept.now listed.now final false state.value)) }
 {
-    let copy = copied(alloc, &state)?;
-    let mut low = boxed(alloc, copy)?;
+    let mut low = pool.copied(&state)?;
     lower(&mut low, split);
     let mut high = state;
     raise(&mut high, split);
@@ -213,7 +213,7 @@ fn step_on(
 
 /// Carries on a state that isn't at the main program's end: by its parts, or by a step.
 fn split_or_step(
-    alloc: Global,
+    pool: &mut Pool,
     setting: &Setting<'_>,
     kept: &Kept<'_>,
     listed: &[State],
@@ -231,7 +231,7 @@ fn split_or_step(
     };
     match split {
         Some(split) => {
-            split_up(alloc, setting, kept, listed, walk, state, split)?;
+            split_up(pool, setting, kept, listed, walk, state, split)?;
             Ok(())
         }
         None => step_on(setting, kept, listed, walk, state),
@@ -240,7 +240,7 @@ fn split_or_step(
 
 /// Carries a state on: to the ends, by its parts, or by a step.
 fn carry_on(
-    alloc: Global,
+    pool: &mut Pool,
     setting: &Setting<'_>,
     kept: &Kept<'_>,
     listed: &[State],
@@ -255,12 +255,12 @@ fn carry_on(
         put_end(walk, Box::into_inner(state))?;
         return Ok(());
     }
-    split_or_step(alloc, setting, kept, listed, walk, state, widest)
+    split_or_step(pool, setting, kept, listed, walk, state, widest)
 }
 
 /// Returns the number of a listed state at which the state that waited may stop, if there is one.
 fn met(
-    alloc: Global,
+    pool: &mut Pool,
     listed: &[State],
     index: &PlaceIndex,
     entry: &Pending,
@@ -271,12 +271,12 @@ fn met(
     if !entry.may_stop {
         return Ok(None);
     }
-    find(alloc, listed, index, &entry.state)
+    find(&mut pool.assigned, listed, index, &entry.state)
 }
 
 /// Carries on what was taken, or stops it at a listed state.
 fn go_on(
-    alloc: Global,
+    pool: &mut Pool,
     setting: &Setting<'_>,
     kept: &Kept<'_>,
     listed: &[State],
@@ -288,19 +288,20 @@ fn go_on(
     ensures { OnOk result (Reaches setting.now kept.now listed.now walk.old walk.new
         (λ final. Walks setting.now kept.now listed.now final entry.may_stop entry.state.value)) }
 {
-    let found = met(alloc, listed, index, &entry)?;
+    let found = met(pool, listed, index, &entry)?;
     match found {
         Some(place) => {
-            stop_at(alloc, setting, kept, listed, place, walk)?;
+            pool.keep(entry.state)?;
+            stop_at(pool, setting, kept, listed, place, walk)?;
             Ok(())
         }
-        None => carry_on(alloc, setting, kept, listed, walk, entry.state, widest),
+        None => carry_on(pool, setting, kept, listed, walk, entry.state, widest),
     }
 }
 
 /// Carries on what was taken, or stops it at a listed state, and tells where it is refused.
 fn advance(
-    alloc: Global,
+    pool: &mut Pool,
     setting: &Setting<'_>,
     kept: &Kept<'_>,
     listed: &[State],
@@ -313,7 +314,7 @@ fn advance(
         (λ final. Walks setting.now kept.now listed.now final entry.may_stop entry.state.value)) }
 {
     let place = Place::of(&entry.state);
-    match go_on(alloc, setting, kept, listed, index, walk, entry, widest) {
+    match go_on(pool, setting, kept, listed, index, walk, entry, widest) {
         Ok(()) => Ok(()),
         Err(refusal) => Err(place.refused(refusal)),
     }
@@ -383,7 +384,7 @@ pub fn begin(
 /// `BudgetMet`, where something waits after so many steps; otherwise where an instruction is
 /// refused and why, or that memory ran out.
 pub fn walk_on(
-    alloc: Global,
+    pool: &mut Pool,
     setting: &Setting<'_>,
     kept: &Kept<'_>,
     listed: &[State],
@@ -396,7 +397,7 @@ pub fn walk_on(
     for step in 0..effort.steps {
         match take_pending(walk) {
             Some(entry) => advance(
-                alloc,
+                pool,
                 setting,
                 kept,
                 listed,

@@ -116,16 +116,21 @@ fn copy_into(
 }
 
 impl Arrivals {
-    /// Makes the lists of no states.
-    pub(crate) fn new(alloc: Global, functions: Functions) -> Arrivals {
+    /// Makes the lists of no states, which use the memory of these tracks.
+    pub(crate) fn new(alloc: Global, functions: Functions, spare: Vec<Box<Track>>) -> Arrivals {
         Arrivals {
             items: Slab::new(alloc),
             by_signature: HashMap::new(alloc),
             waiting: Waiting::new(alloc),
             cells: 0,
-            spare: Vec::new(alloc),
+            spare,
             functions,
         }
+    }
+
+    /// Takes the tracks whose memory may be used again.
+    pub(crate) fn take_spare(&mut self, alloc: Global) -> Vec<Box<Track>> {
+        mem::replace(&mut self.spare, Vec::new(alloc))
     }
 
     /// Makes a copy of a track, in memory that is no longer needed, where there is some.
@@ -198,7 +203,7 @@ impl Arrivals {
 
     /// Lets a part of a split state, or a start, wait.
     pub(crate) fn put_part(&mut self, alloc: Global, track: Box<Track>) -> Result<(), AllocError> {
-        let place = track.place(alloc)?;
+        let place = self.waiting.place_of(alloc, &track)?;
         let number = self.add(Item {
             track,
             standing: Standing::Part,
@@ -212,7 +217,7 @@ impl Arrivals {
 
     /// Takes out the first that waits; of a listed one a copy.
     pub(crate) fn take(&mut self, alloc: Global) -> Result<Option<Box<Track>>, AllocError> {
-        let Some(number) = self.waiting.take() else {
+        let Some(number) = self.waiting.take()? else {
             return Ok(None);
         };
         if self.is_part(number) {
@@ -247,7 +252,7 @@ impl Arrivals {
         let place = if is_end {
             None
         } else {
-            Some(track.place(alloc)?)
+            Some(self.waiting.place_of(alloc, &track)?)
         };
         let number = self.add(Item {
             track,
@@ -332,14 +337,16 @@ impl Arrivals {
         self.list(alloc, track, signature, arrival, (0, 0))
     }
 
-    /// Returns the states that are listed, and worth it: states have come to them from behind, or
-    /// from several sides, or they are ends.
-    pub(crate) fn into_listed(self, alloc: Global) -> Result<Vec<State>, AllocError> {
+    /// Takes out the states that are listed, and worth it: states have come to them from behind, or
+    /// from several sides, or they are ends. Keeps the memory of others.
+    pub(crate) fn take_listed(&mut self, alloc: Global) -> Result<Vec<State>, AllocError> {
         let mut listed = Vec::new(alloc);
-        for (_, item) in self.items {
+        for (_, item) in mem::replace(&mut self.items, Slab::new(alloc)) {
             if item.standing == Standing::Walked && (item.is_back || item.arrivals > 1) {
                 let Track { state, .. } = Box::into_inner(item.track);
                 listed.push(state)?;
+            } else {
+                self.spare(item.track)?;
             }
         }
         Ok(listed)

@@ -157,11 +157,12 @@ fn start_track(alloc: Global, start: &Start) -> Result<Box<Track>, AllocError> {
 }
 
 impl Run {
-    /// Makes a run that has done nothing, and in which nothing waits.
-    fn empty(task: &Task<'_>) -> Result<Run, AllocError> {
+    /// Makes a run that has done nothing, in which nothing waits, and which uses the memory of these
+    /// tracks.
+    fn empty(task: &Task<'_>, spare: Vec<Box<Track>>) -> Result<Run, AllocError> {
         let alloc = task.alloc;
         Ok(Run {
-            arrivals: Arrivals::new(alloc, task.functions),
+            arrivals: Arrivals::new(alloc, task.functions, spare),
             marks: Marks::new(alloc, task.setting)?,
             way: None,
             before: Before::new(alloc),
@@ -174,9 +175,14 @@ impl Run {
         })
     }
 
-    /// Makes a run that has done nothing, in which the starts wait.
-    pub(crate) fn begin(task: &Task<'_>, starts: &[Start]) -> Result<Run, AllocError> {
-        let mut run = Run::empty(task)?;
+    /// Makes a run that has done nothing, in which the starts wait, and which uses the memory of
+    /// these tracks.
+    pub(crate) fn begin(
+        task: &Task<'_>,
+        starts: &[Start],
+        spare: Vec<Box<Track>>,
+    ) -> Result<Run, AllocError> {
+        let mut run = Run::empty(task, spare)?;
         for start in starts {
             let track = start_track(task.alloc, start)?;
             run.arrivals.put_part(task.alloc, track)?;

@@ -7,9 +7,11 @@ use crate::origins::Origins;
 use crate::run::{Run, Stop, Task, make_stop, out_of_memory, told_functions};
 use crate::starts;
 use crate::thresholds::thresholds;
+use crate::track::Track;
 use crate::writes::Writes;
 use std::alloc::{AllocError, Global};
 use std::collections::HashMap;
+use std::mem;
 use tt_abs::Setting;
 use tt_code::Reason;
 use tt_symbolic::kept::Kept;
@@ -70,6 +72,8 @@ pub struct Search {
     question: Option<Question>,
     /// What is told of the last trial to explain its answer.
     insight: Option<Insight>,
+    /// Tracks of earlier runs that are no longer needed, whose memory is used again.
+    spare: Vec<Box<Track>>,
 }
 
 // Written out, so that who holds a search proves in one step that its memory is given back.
@@ -84,6 +88,7 @@ impl Drop for Search {
             steps: _,
             question,
             insight,
+            spare,
         } = self;
         drop(alloc);
         drop(merges);
@@ -91,6 +96,7 @@ impl Drop for Search {
         drop(writes);
         drop(question);
         drop(insight);
+        drop(spare);
     }
 }
 
@@ -121,6 +127,7 @@ impl Search {
             steps: 0,
             question: None,
             insight: None,
+            spare: Vec::new(alloc),
         }
     }
 
@@ -226,6 +233,22 @@ impl Search {
         }
     }
 
+    /// Takes what was found out of a run that came to its end, and keeps its memory for the next one.
+    fn take_found(&mut self, trial: &Trial<'_>, run: &mut Run) -> Result<Found, AllocError> {
+        let listed = run.arrivals.take_listed(self.alloc)?;
+        self.spare = run.arrivals.take_spare(self.alloc);
+        Ok(Found {
+            listed,
+            effort: Effort {
+                steps: run
+                    .steps
+                    .saturating_mul(CHECKED_AGAIN)
+                    .saturating_add(MORE_CHECKED),
+                ..trial.effort
+            },
+        })
+    }
+
     /// Searches once. Returns what was found; nothing, where more was learnt.
     fn try_once(
         &mut self,
@@ -243,16 +266,7 @@ impl Search {
         }
         match stop {
             None => {
-                let found = Found {
-                    effort: Effort {
-                        steps: run
-                            .steps
-                            .saturating_mul(CHECKED_AGAIN)
-                            .saturating_add(MORE_CHECKED),
-                        ..trial.effort
-                    },
-                    listed: run.arrivals.into_listed(self.alloc)?,
-                };
+                let found = self.take_found(trial, &mut run)?;
                 self.note_found(&found);
                 Ok(Some(found))
             }
@@ -269,6 +283,7 @@ impl Search {
     /// `BudgetMet`, also where kept entries were written before; `OutOfMemory`.
     fn run(&mut self, trial: &Trial<'_>, before: u64) -> Result<(Run, Option<Stop>), CheckRefusal> {
         let used = self.steps.saturating_sub(before);
+        let spare = mem::replace(&mut self.spare, Vec::new(self.alloc));
         let task = Task {
             alloc: self.alloc,
             setting: trial.setting,
@@ -279,7 +294,7 @@ impl Search {
             functions: told_functions(trial.setting, trial.starts),
             question: self.question,
         };
-        let mut run = Run::begin(&task, trial.starts)?;
+        let mut run = Run::begin(&task, trial.starts, spare)?;
         let stop = run_on(&mut run, &task, &mut self.merges, &mut self.writes);
         self.steps = self.steps.saturating_add(run.steps);
         match &stop {

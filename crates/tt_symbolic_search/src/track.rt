@@ -4,12 +4,10 @@ use crate::cell_names::{CellName, Part};
 use crate::origins::{NOWHERE, OriginNumber, origin_in};
 use crate::signature::mix;
 use std::alloc::{AllocError, Global};
-use std::mem;
 use std::rc::Rc;
-use tt_symbolic_check::copied;
+use tt_symbolic_check::{copied, copy_into};
 use tt_symbolic_state::State;
 use tt_symbolic_state::cell::Cell;
-use tt_symbolic_state::stack::Stack;
 
 /// How many splits a state remembers.
 const MOST_REMEMBERED: usize = 24;
@@ -50,21 +48,6 @@ fn copy_list<T: Copy>(list: &mut Vec<T>, other: &[T]) -> Result<(), AllocError> 
     list.extend_from_slice(other)
 }
 
-/// Makes a state the same as another one, in the memory that it has, where that is enough.
-fn copy_state(alloc: Global, state: &mut State, other: &State) -> Result<(), AllocError> {
-    let mut cells = mem::replace(&mut state.stack, Stack::new(alloc)).into_cells();
-    copy_list(&mut cells, other.stack.as_slice())?;
-    state.stack = Stack::from_cells(cells);
-    copy_list(&mut state.calls, other.calls.as_slice())?;
-    copy_list(&mut state.ranges, other.ranges.as_slice())?;
-    state.storage.copy_from(&other.storage)?;
-    state.controls.copy_from(&other.controls)?;
-    state.functions.copy_from(&other.functions)?;
-    state.offset = other.offset;
-    state.graphics = other.graphics;
-    Ok(())
-}
-
 impl Track {
     /// Makes the track of a state in which a program starts.
     pub(crate) fn start(alloc: Global, state: State) -> Result<Track, AllocError> {
@@ -94,7 +77,7 @@ impl Track {
 
     /// Becomes a copy of another one, in the memory that it has, where that is enough.
     pub(crate) fn copy_from(&mut self, alloc: Global, other: &Track) -> Result<(), AllocError> {
-        copy_state(alloc, &mut self.state, &other.state)?;
+        copy_into(alloc, &other.state, &mut self.state)?;
         copy_list(&mut self.origins, other.origins.as_slice())?;
         copy_list(&mut self.levels, other.levels.as_slice())?;
         copy_list(&mut self.splits, other.splits.as_slice())?;
@@ -112,15 +95,15 @@ impl Track {
         }
     }
 
-    /// Returns where it is.
-    pub(crate) fn place(&self, alloc: Global) -> Result<Place, AllocError> {
-        let mut place = Vec::new(alloc);
+    /// Makes a place the one where it is, in the memory that the place has, where that is enough.
+    pub(crate) fn put_place(&self, place: &mut Place) -> Result<(), AllocError> {
+        place.clear();
         for level in 0..self.levels.len() {
             if let Some(step) = self.place_at(level) {
                 place.push(step)?;
             }
         }
-        Ok(place)
+        Ok(())
     }
 
     /// Whether a place comes before the one where it is, or is the same.

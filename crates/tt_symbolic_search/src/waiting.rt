@@ -4,6 +4,9 @@ use crate::track::{Place, Track};
 use std::alloc::{AllocError, Global};
 use std::collections::BTreeSet;
 
+/// How many places are kept at most whose memory is used again.
+const MOST_SPARE: usize = 32;
+
 /// An item that waits: its place, and its number.
 #[derive(PartialEq, Eq, PartialOrd, Ord, Drop)]
 struct Waiter {
@@ -15,14 +18,17 @@ struct Waiter {
 pub(crate) struct Waiting {
     first: Option<Waiter>,
     rest: BTreeSet<Waiter>,
+    /// Places that are no longer needed, whose memory is used again.
+    spare: Vec<Place>,
 }
 
 // Written out, so that who holds what waits proves in one step that its memory is given back.
 impl Drop for Waiting {
     fn drop(self) {
-        let Waiting { first, rest } = self;
+        let Waiting { first, rest, spare } = self;
         drop(first);
         drop(rest);
+        drop(spare);
     }
 }
 
@@ -32,6 +38,7 @@ impl Waiting {
         Waiting {
             first: None,
             rest: BTreeSet::new(alloc),
+            spare: Vec::new(alloc),
         }
     }
 
@@ -46,6 +53,13 @@ impl Waiting {
             Some(waiter) => track.is_at_or_after(waiter.place.as_slice()),
             None => false,
         }
+    }
+
+    /// Returns where a track is, in memory that is no longer needed, where there is some.
+    pub(crate) fn place_of(&mut self, alloc: Global, track: &Track) -> Result<Place, AllocError> {
+        let mut place = self.spare.pop().unwrap_or(Vec::new(alloc));
+        track.put_place(&mut place)?;
+        Ok(place)
     }
 
     /// Lets an item wait.
@@ -66,9 +80,14 @@ impl Waiting {
     }
 
     /// Takes the number of the item whose place is the first, if one waits.
-    pub(crate) fn take(&mut self) -> Option<usize> {
-        let waiter = self.first.take()?;
+    pub(crate) fn take(&mut self) -> Result<Option<usize>, AllocError> {
+        let Some(Waiter { place, item }) = self.first.take() else {
+            return Ok(None);
+        };
         self.first = self.rest.pop_first();
-        Some(waiter.item)
+        if self.spare.len() < MOST_SPARE {
+            self.spare.push(place)?;
+        }
+        Ok(Some(item))
     }
 }

@@ -2,7 +2,7 @@ use Rattle.std.proofs.Common.{List, subst}
 use Rattle.tt_symbolic_state.specs.declared.cell.Range.{Range}
 use Rattle.tt_symbolic_check.specs.Covering.{AgreeStates, RangesWithin}
 use Rattle.tt_symbolic_check.proofs.Coverings.{covers_is}
-use Rattle.tt_symbolic_check.proofs.covering.covers.Goals as goal
+use Rattle.tt_symbolic_check.proofs.covering.covers_by.Goals as goal
 
 pub returns : goal.returns
 returns c = λ e. covers_is _ c.args.mine.now c.args.theirs.now
