@@ -4,11 +4,11 @@ use std::alloc::{AllocError, Global};
 use tt_abs::{Setting, Spot};
 use tt_symbolic_check::Place;
 
-/// For each offset of the three programs whether states are listed there.
+/// For each offset of the three programs whether states are listed there: a bit each.
 pub(crate) struct Marks {
-    main: Vec<bool>,
-    font: Vec<bool>,
-    prep: Vec<bool>,
+    main: Vec<u64>,
+    font: Vec<u64>,
+    prep: Vec<u64>,
 }
 
 // Written out, so that who holds marks proves in one step that its memory is given back.
@@ -21,15 +21,20 @@ impl Drop for Marks {
     }
 }
 
-/// Makes a list of no marks.
-fn none(alloc: Global, length: u32) -> Result<Vec<bool>, AllocError> {
-    vec![in alloc; false; (length as usize).saturating_add(1)]
+/// Makes the words of no marks.
+fn none(alloc: Global, length: u32) -> Result<Vec<u64>, AllocError> {
+    vec![in alloc; 0; (length as usize / 64).saturating_add(1)]
+}
+
+/// Returns the bit of its word that is the mark of an offset.
+fn mark_bit(offset: u32) -> u64 {
+    1u64.rotate_left(offset % 64)
 }
 
 /// Sets the mark of an offset.
-fn set_mark(marks: &mut Vec<bool>, offset: u32) {
-    if let Some(mark) = marks.get_mut(offset as usize) {
-        *mark = true;
+fn set_mark(marks: &mut Vec<u64>, offset: u32) {
+    if let Some(word) = marks.get_mut(offset as usize / 64) {
+        *word |= mark_bit(offset);
     }
 }
 
@@ -50,7 +55,10 @@ impl Marks {
             Spot::Font => &self.font,
             Spot::Prep => &self.prep,
         };
-        list.get(place.offset as usize).copied().unwrap_or(false)
+        match list.get(place.offset as usize / 64) {
+            Some(word) => word & mark_bit(place.offset) != 0,
+            None => false,
+        }
     }
 
     /// Notes that states are listed at a place.
