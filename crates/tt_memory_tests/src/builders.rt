@@ -30,10 +30,10 @@ struct OnBuilder {
 /// certificate.
 fn filled(alloc: Global, size: u32) -> Option<Builder> {
     let mut builder = Builder::new(alloc);
-    let state = state_of(alloc, &[(0, 3)], &[1, 2]).ok()?;
     for less in 0..size {
         let call = 90u32.saturating_sub(less);
         add(&mut builder, 0, Frame { call, ..CALL }).ok()?;
+        let state = state_of(alloc, &[(0, 3)], &[1, 2]).ok()?;
         join(&mut builder, 0, call, &state).ok()?;
     }
     Some(builder)
@@ -41,10 +41,10 @@ fn filled(alloc: Global, size: u32) -> Option<Builder> {
 
 impl Trial for OnBuilder {
     fn told(&self, heap: &mut Heap) -> Told {
-        let (Some(mut builder), Ok(state)) = (
-            filled(heap.alloc, self.size),
-            state_of(heap.alloc, &[(0, 3)], &[5]),
-        ) else {
+        let Some(mut builder) = filled(heap.alloc, self.size) else {
+            return Told::Wrong;
+        };
+        let Ok(state) = state_of(heap.alloc, &[(0, 3)], &[5]) else {
             return Told::Wrong;
         };
         heap.take_room();

@@ -55,8 +55,6 @@ struct OnProgram<'a> {
 /// What the calls on a program are made on.
 #[derive(Drop)]
 struct Inputs {
-    /// The state before the first instruction.
-    state: State,
     /// A state each of whose parts has memory of its own: more cells than fit without, a function,
     /// and a storage cell.
     large: State,
@@ -80,7 +78,6 @@ fn inputs_of(alloc: Global, setting: &Setting<'_>) -> Option<Inputs>
     let mut sink = Counted::new(Vec::new(alloc));
     encode(alloc, Name::Glyph(0), &found.certificate, &mut sink).ok()?;
     Some(Inputs {
-        state: state_of(alloc, &[(0, 3)], &[1, 2]).ok()?,
         large,
         found,
         full: explore(alloc, setting).ok()?,
@@ -97,29 +94,26 @@ fn told_in(heap: &mut Heap, trial: &OnProgram<'_>, setting: &Setting<'_>) -> Tol
     let Some(inputs) = inputs_of(alloc, setting) else {
         return Told::Wrong;
     };
+    let Ok(state) = state_of(alloc, &[(0, 3)], &[1, 2]) else {
+        return Told::Wrong;
+    };
     let point = Point {
         frames: &[],
         offset: 0,
     };
+    let family = &inputs.found.certificate;
     let mut source = Bytes::new(&inputs.section);
     let mut sink = Counted::new(io::sink());
     heap.take_room();
     let told = match trial.call {
         Call::Cut if trial.glyph.len() < 100 => told_of(Program::cut(alloc, trial.glyph)),
         Call::Copy => told_of(inputs.large.copy()),
-        Call::Transfer if setting.starts(&point, 0) => {
-            told_of(transfer(setting, &point, &inputs.state))
-        }
-        Call::Check => told_of(check(alloc, setting, &inputs.found.certificate)),
+        Call::Transfer if setting.starts(&point, 0) => told_of(transfer(setting, &point, &state)),
+        Call::Check => told_of(check(alloc, setting, family)),
         Call::CheckFull => told_of(check_full(alloc, setting, &inputs.full.found.certificate)),
         Call::Find => told_of(find(alloc, setting)),
         Call::Decode => told_of(decode(alloc, &mut source, 0, NEWEST_FORM)),
-        Call::Encode => told_of(encode(
-            alloc,
-            Name::Glyph(0),
-            &inputs.found.certificate,
-            &mut sink,
-        )),
+        Call::Encode => told_of(encode(alloc, Name::Glyph(0), family, &mut sink)),
         _ => Told::Wrong,
     };
     heap.give_back();
