@@ -35,23 +35,34 @@ fn tells_failed_writes_of<R: Files + AllocGlobal>(rt: &R, words: &[&str]) -> boo
     status < 2 && err.is_empty()
 }
 
+/// Commands that print without a file.
+const WITHOUT_FILES: &[&[&str]] = &[
+    &["hintcheck", "bare", MAXP_WORD, "10", "4", "1"],
+    &["hintcheck", "--help"],
+];
+
 #[test]
-fn tells_failed_writes(rt: HostRuntime) -> Result<(), Fail> {
-    // A list of 34 bytes, and a refusal of as many.
-    let listed = square(rt.alloc(), &[0xB1, 0, 9, 0x3E])?;
-    let refused = square(rt.alloc(), &[0x40, 3, 1, 2])?;
-    let bytes = font_of(rt.alloc(), &[], &[], &[&listed, &refused])?;
-    let path = path_of(&rt, "list.ttf").ok_or("a path")?;
-    let font = path.as_str();
-    fs::write(&rt, font, &bytes)?;
-    for words in [
-        ["hintcheck", "bare", MAXP_WORD, "10", "4", "1"].as_slice(),
-        &["hintcheck", "--help"],
-        &["hintcheck", "list", font, "g0"],
-        &["hintcheck", "list", font, "g1"],
-    ] {
+fn tells_failed_writes(rt: HostRuntime) {
+    for words in WITHOUT_FILES {
         assert!(rt; tells_failed_writes_of(&rt, words), "{words:?}");
     }
-    fs::remove_file(&rt, font)?;
+}
+
+/// Whether that is so of the list of a program.
+fn tells_failed_writes_of_list<R: Files + AllocGlobal>(rt: &R, font: &str, program: &str) -> bool {
+    tells_failed_writes_of(rt, &["hintcheck", "list", font, program])
+}
+
+/// A list of 34 bytes, and a refusal of as many.
+#[test]
+fn tells_failed_writes_of_a_list(rt: HostRuntime) -> Result<(), Fail> {
+    let listed = square(rt.alloc(), &[0xB1, 0, 9, 0x3E])?;
+    let refused = square(rt.alloc(), &[0x40, 3, 1, 2])?;
+    let font = font_of(rt.alloc(), &[], &[], &[&listed, &refused])?;
+    let path = path_of(&rt, "list.ttf").ok_or("a path")?;
+    fs::write(&rt, path.as_str(), &font)?;
+    assert!(rt; tells_failed_writes_of_list(&rt, path.as_str(), "g0"));
+    assert!(rt; tells_failed_writes_of_list(&rt, path.as_str(), "g1"));
+    fs::remove_file(&rt, path.as_str())?;
     Ok(())
 }

@@ -110,27 +110,53 @@ fn fault_of(alloc: Global, file: &str, is_json: bool) -> Result<String, AllocErr
     format!(in alloc; "{{\"version\":1,\"file\":\"{file}\",\"profile\":\"strict\",{fault}}}\n")
 }
 
-/// Asserts that these commands are refused memory. FONT, CERT, BAD and NEW stand for files.
+/// Returns the name of the file that a word stands for, if it stands for one, or else the word.
+fn name_of<'a>(word: &'a str, paths: &'a [PathBuf; 4]) -> &'a str {
+    match word {
+        "FONT" => paths[0].as_str(),
+        "CERT" => paths[1].as_str(),
+        "BAD" => paths[2].as_str(),
+        "NEW" => paths[3].as_str(),
+        word => word,
+    }
+}
+
+/// Returns the words of a command after its name, with names of files.
+fn named(alloc: Global, command: &[&str], paths: &[PathBuf; 4]) -> Result<Vec<String>, AllocError> {
+    let mut names = Vec::new(alloc);
+    for word in command {
+        names.push(String::from_str(alloc, name_of(word, paths))?)?;
+    }
+    Ok(names)
+}
+
+/// Asserts that a command is refused memory, where FONT, CERT, BAD and NEW stand for files.
+fn assert_command_refused(
+    rt: &impl Print,
+    host: &HostRuntime,
+    command: &[&str],
+    paths: &[PathBuf; 4],
+) -> Result<(), Fail> {
+    let mut heap = Heap::new(host.alloc());
+    let names = named(host.alloc(), command, paths)?;
+    let mut words = Vec::new(host.alloc());
+    words.push("hintcheck")?;
+    for name in &names {
+        words.push(name.as_str())?;
+    }
+    let fault = fault_of(host.alloc(), paths[0].as_str(), command.contains(&"--json"))?;
+    assert_order_refused(rt, host, &mut heap, &words, &fault)
+}
+
+/// Asserts that these commands are refused memory.
 fn assert_commands_refused(
     rt: &impl Print,
     host: &HostRuntime,
     commands: &[&[&str]],
 ) -> Result<(), Fail> {
-    let mut heap = Heap::new(host.alloc());
     let paths = write_files(host)?;
     for command in commands {
-        let mut words = ["hintcheck"].to_vec(host.alloc())?;
-        for word in *command {
-            words.push(match *word {
-                "FONT" => paths[0].as_str(),
-                "CERT" => paths[1].as_str(),
-                "BAD" => paths[2].as_str(),
-                "NEW" => paths[3].as_str(),
-                word => word,
-            })?;
-        }
-        let fault = fault_of(host.alloc(), paths[0].as_str(), words.contains(&"--json"))?;
-        assert_order_refused(rt, host, &mut heap, &words, &fault)?;
+        assert_command_refused(rt, host, command, &paths)?;
     }
     for path in &paths {
         if fs::exists(host, path.as_str())? {
