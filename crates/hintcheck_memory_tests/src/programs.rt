@@ -96,8 +96,8 @@ fn told_of_transfer(heap: &mut Heap, setting: &Setting<'_>) -> Told {
 fn told_of_fault(fault: &Refusal) -> Told {
     match fault {
         Refusal::OutOfMemory(_) => Told::OutOfMemory,
-        Refusal::Refused { offset, reason, .. } => {
-            Told::Answer(u64::from(*offset) * 100 + u64::from(reason.number()))
+        Refusal::Refused { offset, failed, .. } => {
+            Told::Answer(u64::from(*offset) * 100 + u64::from(failed.reason().number()))
         }
     }
 }

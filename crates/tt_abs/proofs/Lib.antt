@@ -9,6 +9,7 @@ pub mod EntryEdits
 pub mod Choosing
 pub mod Bests
 pub mod Machines
+pub mod Zones
 pub mod Takes
 pub mod Rows
 pub mod PlainLemmas

@@ -50,10 +50,10 @@ pub(crate) fn print_refusal(rt: &HostRuntime, refusal: &Refusal) -> Answer<()> {
         Refusal::Refused {
             spot,
             offset,
-            reason,
+            failed,
         } => {
             let spot: Spot = *spot;
-            println!(rt; "refused at {spot:?} {offset}: {reason}")?;
+            println!(rt; "refused at {spot:?} {offset}: {failed}")?;
         }
         Refusal::OutOfMemory(_) => println!(rt; "out of memory")?,
     }

@@ -25,8 +25,8 @@ fn refused(refusal: &Refusal) -> Option<Answer> {
         Refusal::Refused {
             spot,
             offset,
-            reason,
-        } => Some(Err((*spot, *offset, *reason))),
+            failed,
+        } => Some(Err((*spot, *offset, failed.reason()))),
         Refusal::OutOfMemory(_) => None,
     }
 }

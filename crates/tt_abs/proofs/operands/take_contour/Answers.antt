@@ -7,6 +7,6 @@ use Rattle.tt_abs.proofs.operands.take_contour.Goals as goal
 
 pub returns-then-is_contour-clause-ok : goal.returns-then-is_contour-clause-ok
 returns-then-is_contour-clause-ok c =
-    let fits : FitsSigned w32 c.in_ok-z.z = search rules in
-    let w = c.in_ok-z.ensures.ok in
-    tested_takes _ _ c.args.stack.now w.0 c.args.taken c.in_ok-z.after c.in_ok-z.z w.1 w.2 (simp to_z-of_z at (sym c.is_contour.ensures ∙ c.if-is_contour.true))
+    let fits : FitsSigned w32 c.in_ok-number.number = search rules in
+    let w = c.in_ok-number.ensures.ok in
+    tested_takes _ _ c.args.stack.now w.0 c.args.taken c.in_ok-number.after c.in_ok-number.number w.1 w.2 (simp to_z-of_z at (sym c.is_contour.ensures ∙ c.if-is_contour.true))
