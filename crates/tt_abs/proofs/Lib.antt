@@ -4,6 +4,7 @@ pub mod CodedCells
 pub mod StackOrders
 pub mod CoverageLemmas
 pub mod Fronts
+pub mod Told
 pub mod StackSteps
 pub mod EntryEdits
 pub mod Choosing

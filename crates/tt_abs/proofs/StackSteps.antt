@@ -1,7 +1,7 @@
 -- What is done on the stack in place, against the outcome on cells.
 use Rattle.std.specs.Prelude.{ℤ, pos, Result, OnOk, IfErr, remove}
 use Rattle.std.specs.Result.{IsErrAnd}
-use Rattle.std.proofs.Common.{◌≡◌, ℕ, zero, suc, ◌+◌, List, [], ◌∷◌, None, Some, Ok, Err, true, false, refl, sym, ◌∙◌, ap, subst, arith, drop}
+use Rattle.std.proofs.Common.{◌≡◌, ℕ, zero, suc, ◌+◌, List, [], ◌∷◌, Some, Ok, Err, true, false, refl, sym, ◌∙◌, ap, subst, arith, drop}
 use Rattle.tt_code.specs.Refusals.{Tested}
 use Rattle.tt_code.specs.Computing.{element}
 use Rattle.tt_code.specs.declared.reason.Reason.{Reason}
@@ -88,10 +88,6 @@ drop_next n k below = ap (λ i. drop i (k ∷ below)) (moved n)
     moved : (n : ℕ) → n + 1 ≡ suc n
     moved n = omega arith
 
-none_first : (xs : List Cell) → None ≡ first xs → xs ≡ []
-none_first [] e = refl
-none_first (x ∷ xs) e = absurd (cc)
-
 -- an index that names no element
 pub index_past : (stack : List Cell) (k : Cell) (n : ℕ) → stack ≡ k ∷ drop 1 stack → known k ≡ Ok (pos (suc n)) → drop (n + 1) stack ≡ []
     → RefusesStack (shuffled_cells op.CopyIndexed) stack reason.Underflow × RefusesStack (shuffled_cells op.MoveIndexed) stack reason.Underflow
@@ -113,16 +109,16 @@ moves_index stack new below k c n e f g h a =
     let found : element (pos (suc n)) below ≡ Ok c = element_at n below (drop (n + 1) below) c g in
     rw (h, e, f, found) refl
 
--- the same, where nothing is found at its place
-pub index_missed : (stack below : List Cell) (index : ℤ) (n : ℕ) → drop 0 stack ≡ Known index ∷ below → index ≡ pos (suc n) → None ≡ first (drop (n + 1) stack)
+-- the same of the number of a cell
+pub index_missed : (stack : List Cell) (k : Cell) (index : ℤ) (n : ℕ) → drop 0 stack ≡ k ∷ drop 1 stack → k ≡ Known index → index ≡ pos (suc n) → drop (n + 1) stack ≡ []
     → RefusesStack (shuffled_cells op.CopyIndexed) stack reason.Underflow × RefusesStack (shuffled_cells op.MoveIndexed) stack reason.Underflow
-index_missed stack below index n e f g =
-    index_past stack (Known index) n (e ∙ ap (λ l. Known index ∷ l) (sym (left_after 0 stack below (Known index) e))) (ap Ok f) (none_first (drop (n + 1) stack) g)
+index_missed stack k index n e f g h =
+    let known_is : known k ≡ Ok (pos (suc n)) = rw (f, g) refl in index_past stack k n e known_is h
 
 -- and so the index is told to name none
-pub index_told : (stack below : List Cell) (index : ℤ) (n : ℕ) → drop 0 stack ≡ Known index ∷ below → index ≡ pos (suc n) → None ≡ first (drop (n + 1) stack)
-    → element index below ≡ Err reason.Underflow
-index_told [] below index n e f g = absurd (cc)
-index_told (x ∷ xs) below index n e f g =
-    let same : xs ≡ below = cc in
-    rw (f, ← same) (element_past n xs (sym (drop_next n x xs) ∙ none_first (drop (n + 1) (x ∷ xs)) g))
+pub index_told : (stack : List Cell) (k : Cell) (index : ℤ) (n : ℕ) → drop 0 stack ≡ k ∷ drop 1 stack → k ≡ Known index → index ≡ pos (suc n) → drop (n + 1) stack ≡ []
+    → (below : List Cell) × (stack ≡ Known index ∷ below) × (element index below ≡ Err reason.Underflow)
+index_told [] k index n e f g h = absurd (cc)
+index_told (x ∷ xs) k index n e f g h =
+    let top : x ≡ Known index = cc in
+    (xs, ap (λ c. c ∷ xs) top, rw g (element_past n xs (sym (drop_next n x xs) ∙ h)))

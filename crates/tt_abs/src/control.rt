@@ -1,18 +1,22 @@
 //! The instructions that lead elsewhere than to the next instruction, or define a function.
 
-ghost use Rattle.std.specs.Prelude.{◌≡◌, ◌+◌, ◌<◌, ◌≤◌, ◌^◌, IfErr, IfOk, OnOk, length, reverse, ℕ};
+ghost use Rattle.std.specs.Prelude.{◌≡◌, ◌+◌, ◌<◌, ◌≤◌, ◌^◌, Err, IfErr, IfOk, Ok, OnOk, Some, length, reverse, ℕ};
+ghost use Rattle.tt_code.specs.Changes.{natural};
+ghost use Rattle.tt_code.specs.Control.{body_named};
 ghost use Rattle.tt_code.specs.declared.kinds.Control.TheVariants as control;
 ghost use Rattle.tt_code.specs.declared.reason.Reason.TheVariants as reason;
+ghost use Rattle.tt_abs.specs.declared.cells.Cell.TheVariants.{Known};
 ghost use Rattle.tt_abs.specs.declared.failed.Failed.TheVariants.{Only, TooDeep};
+ghost use Rattle.tt_abs.specs.Failures.{reason_of};
 ghost use Rattle.tt_abs.specs.Moves.{ControlsTo, IsControlRefusedFor, IsRefusedFor, LeadsBy, TellsWhatFails};
-ghost use Rattle.tt_abs.specs.Representation.Steps.{CallsNone, IsCalled, JumpsNowhere, JumpsTo, Leads, LeadsNowhere, TellsOfEntry, TellsOfJump, TellsOfState, enter_at, if_at, jump_at, jump_if_at, loop_at};
+ghost use Rattle.tt_abs.specs.Representation.Steps.{JumpsNowhere, JumpsTo, Leads, LeadsNowhere, TellsOfCall, TellsOfEntry, TellsOfJump, called_at, enter_at, if_at, jump_at, jump_if_at, loop_at};
 ghost use Rattle.tt_abs.specs.Transfers.{is_running as runs_already};
 
 use crate::arithmetic::is_true;
 use crate::cells::Cell;
 use crate::moves::{Move, Moves};
 use crate::failed::{Failed, Role};
-use crate::operands::next_number;
+use crate::operands::number;
 use crate::setting::{Point, Setting, is_index};
 use crate::shuffle::cell_under;
 use crate::state::State;
@@ -229,15 +233,17 @@ fn define(setting: &Setting<'_>, point: &Point<'_>, state: &mut State) -> Result
     if !setting.may_define() {
         return Err(StepFault::Refused(Failed::Only(Reason::Definition)));
     }
-    let (number, _) = next_number(&state.stack, 0, Role::Function)?;
-    if !is_index(number, u32::from(setting.limits.functions)) {
-        return Err(StepFault::Refused(Failed::NoFunction { number }));
+    let top = cell_under(&state.stack, 0)?;
+    let function = number(top, Role::Function, 0)?;
+    if !is_index(function, u32::from(setting.limits.functions)) {
+        let failed = Failed::NoFunction { number: function };
+        return Err(StepFault::Refused(failed));
     }
     let Some(after) = setting.program(point).after_fdef(point.offset) else {
         return Err(StepFault::Refused(NO_END));
     };
     state.stack.cut(1);
-    state.define(number as u16, setting.body_name(next_offset(point)))?;
+    state.define(function as u16, setting.body_name(next_offset(point)))?;
     Ok(Moves::One(Move::To(after)))
 }
 
@@ -248,20 +254,27 @@ struct Callee {
     body: u32,
 }
 
-/// Returns the function whose number is on top, if that is below maxFunctionDefs and the function
-/// is known.
-fn called(setting: &Setting<'_>, state: &State) -> Result<Callee, Failed>
-    ensures ok { IfOk result (IsCalled setting.now state.now) }
-    ensures refused { IfErr result (CallsNone setting.now state.now) }
-    ensures told { IfErr result (TellsOfState setting.now state.now) }
+/// Returns the function whose number a cell on top of the stack holds, if that number is below
+/// maxFunctionDefs and the function is known.
+fn called(setting: &Setting<'_>, state: &State, cell: Cell) -> Result<Callee, Failed>
+    ensures ok { IfOk result (λ c. called_at setting.now state.now cell ≡ Ok c.body) }
+    ensures number { IfOk result (λ c. cell ≡ Known c.number) }
+    ensures named { IfOk result (λ c.
+        body_named state.now.functions (natural c.number) ≡ Some c.body) }
+    ensures refused { IfErr result (λ f.
+        called_at setting.now state.now cell ≡ Err (reason_of f)) }
+    ensures told { IfErr result (TellsOfCall setting.now state.now cell) }
 {
-    let (number, _) = next_number(&state.stack, 0, Role::Function)?;
-    if !is_index(number, u32::from(setting.limits.functions)) {
-        return Err(Failed::NoFunction { number });
+    let function = number(cell, Role::Function, 0)?;
+    if !is_index(function, u32::from(setting.limits.functions)) {
+        return Err(Failed::NoFunction { number: function });
     }
-    match state.functions.get(number as u16) {
-        Some(body) => Ok(Callee { number, body }),
-        None => Err(Failed::Undefined { number }),
+    match state.functions.get(function as u16) {
+        Some(body) => Ok(Callee {
+            number: function,
+            body,
+        }),
+        None => Err(Failed::Undefined { number: function }),
     }
 }
 
@@ -283,24 +296,24 @@ fn is_running(frames: &[Frame], body: u32) -> bool
 fn enter(
     setting: &Setting<'_>,
     point: &Point<'_>,
-    called: Callee,
+    callee: Callee,
     turns: u32,
     depth: usize,
 ) -> Result<Moves, Failed>
     requires { depth < 2 ^ 31 }
     ensures ok { IfOk result
-        (Leads (enter_at setting.now point.now called.body turns) point.now depth) }
+        (Leads (enter_at setting.now point.now callee.body turns) point.now depth) }
     ensures refused { IfErr result
-        (LeadsNowhere (enter_at setting.now point.now called.body turns) depth) }
-    ensures told { IfErr result (TellsOfEntry setting.now point.now called depth) }
+        (LeadsNowhere (enter_at setting.now point.now callee.body turns) depth) }
+    ensures told { IfErr result (TellsOfEntry setting.now point.now callee depth) }
 {
     test_depth(setting, depth)?;
-    if is_running(point.frames, called.body) {
-        let number = called.number;
+    if is_running(point.frames, callee.body) {
+        let number = callee.number;
         return Err(Failed::Running { number });
     }
     Ok(Moves::One(Move::Enter(Frame {
-        body: called.body,
+        body: callee.body,
         call: point.offset,
         turn: 1,
         count: turns,
@@ -315,9 +328,10 @@ fn call(setting: &Setting<'_>, point: &Point<'_>, state: &mut State) -> Result<M
     ensures told { IfErr result
         (TellsWhatFails setting.now point.now state.old (length state.new.stack)) }
 {
-    let called = called(setting, state)?;
+    let top = cell_under(&state.stack, 0)?;
+    let callee = called(setting, state, top)?;
     state.stack.cut(1);
-    let moves = enter(setting, point, called, 1, state.stack.len())?;
+    let moves = enter(setting, point, callee, 1, state.stack.len())?;
     Ok(moves)
 }
 
@@ -326,20 +340,20 @@ fn call(setting: &Setting<'_>, point: &Point<'_>, state: &mut State) -> Result<M
 fn repeat(
     setting: &Setting<'_>,
     point: &Point<'_>,
-    called: Callee,
+    callee: Callee,
     count: i32,
     depth: usize,
 ) -> Result<Moves, Failed>
     requires start { point.now.offset < 2 ^ 31 }
     requires few { depth < 2 ^ 31 }
     ensures ok { IfOk result
-        (Leads (loop_at setting.now point.now called.body count) point.now depth) }
+        (Leads (loop_at setting.now point.now callee.body count) point.now depth) }
     ensures refused { IfErr result
-        (LeadsNowhere (loop_at setting.now point.now called.body count) depth) }
-    ensures told { IfErr result (TellsOfEntry setting.now point.now called depth) }
+        (LeadsNowhere (loop_at setting.now point.now callee.body count) depth) }
+    ensures told { IfErr result (TellsOfEntry setting.now point.now callee depth) }
 {
     if count > 0 {
-        enter(setting, point, called, count as u32, depth)
+        enter(setting, point, callee, count as u32, depth)
     } else {
         Ok(Moves::One(Move::To(next_offset(point))))
     }
@@ -359,10 +373,12 @@ fn loop_call(
     ensures told { IfErr result
         (TellsWhatFails setting.now point.now state.old (length state.new.stack)) }
 {
-    let called = called(setting, state)?;
-    let (count, _) = next_number(&state.stack, 1, Role::Turns)?;
+    let top = cell_under(&state.stack, 0)?;
+    let callee = called(setting, state, top)?;
+    let second = cell_under(&state.stack, 1)?;
+    let count = number(second, Role::Turns, 1)?;
     state.stack.cut(2);
-    let moves = repeat(setting, point, called, count, state.stack.len())?;
+    let moves = repeat(setting, point, callee, count, state.stack.len())?;
     Ok(moves)
 }
 

@@ -3,12 +3,12 @@
 
 ghost use Rattle.std.specs.Prelude.{◌≡◌, Err, IfErr, IfOk, Ok, OnOk, length};
 ghost use Rattle.tt_code.specs.Operands.{pair, take_one, times};
-ghost use Rattle.tt_abs.specs.declared.cells.Cell.TheVariants.{Known};
-ghost use Rattle.tt_abs.specs.declared.failed.Failed.TheVariants.{TooFew};
+ghost use Rattle.tt_abs.specs.declared.cells.Cell.TheVariants.{Known, Unknown};
+ghost use Rattle.tt_abs.specs.declared.failed.Failed.TheVariants as failed;
 ghost use Rattle.tt_abs.specs.Failures.{reason_of};
 ghost use Rattle.tt_abs.specs.Settings.{setting_of};
 ghost use Rattle.tt_abs.specs.Representation.Taken.{IsCountUnder, IsNumberUnder, IsTakingRefused, NoCountUnder, NoNumberUnder, TakesFrom, TakesTo, FailsUse, PassesUse, TellsOfGraphics, TellsOfGraphicsIn, TellsOfOperands, TellsOfStack, TellsOfStackIn, cvt_pairs, loop_points, one_contour, one_cvt, one_operand, one_point, one_storage, one_zone, point_pairs};
-ghost use Rattle.tt_abs.specs.Transfers.{known_count, take_cells, test_cell_uses};
+ghost use Rattle.tt_abs.specs.Transfers.{known, known_count, take_cells, test_cell_uses};
 
 use crate::cells::{Cell, ZoneCell};
 use crate::failed::{Failed, Register, Role};
@@ -20,26 +20,41 @@ use tt_code::kinds::{Operand, Use, Within};
 
 /// Returns the failed test of a stack that has too few cells.
 pub fn too_few(stack: &Stack) -> Failed
-    ensures { result ≡ TooFew (length stack.now) }
+    ensures { result ≡ failed.TooFew (length stack.now) }
 {
     let depth = stack.len() as u32;
     Failed::TooFew { depth }
+}
+
+/// Returns the number of a cell that is under this many others, and is taken as this.
+///
+/// # Errors
+/// `Unknown` where it isn't known.
+pub fn number(cell: Cell, role: Role, under: u32) -> Result<i32, Failed>
+    ensures ok { IfOk result (λ z. cell ≡ Known z) }
+    ensures refused { IfErr result (λ f. known cell ≡ Err (reason_of f)) }
+    ensures unknown { IfErr result (λ f. cell ≡ Unknown) }
+    ensures told { IfErr result (λ f. f ≡ failed.Unknown role under) }
+{
+    match cell {
+        Cell::Known(z) => Ok(z),
+        Cell::Unknown => Err(Failed::Unknown { role, under }),
+    }
 }
 
 /// Returns the number under the `taken` cells, and how many cells are taken with it.
 ///
 /// # Errors
 /// `TooFew` where there is none, `Unknown` where it isn't known.
-pub fn next_number(stack: &Stack, taken: usize, role: Role) -> Result<(i32, usize), Failed>
+fn next_number(stack: &Stack, taken: usize, role: Role) -> Result<(i32, usize), Failed>
     ensures ok { IfOk result (IsNumberUnder stack.now taken) }
     ensures refused { IfErr result (NoNumberUnder stack.now taken) }
     ensures told { IfErr result (TellsOfStack stack.now) }
 {
     match stack.under(taken) {
-        Some(Cell::Known(z)) => Ok((z, taken + 1)),
-        Some(Cell::Unknown) => {
-            let under = taken as u32;
-            Err(Failed::Unknown { role, under })
+        Some(cell) => {
+            let z = number(cell, role, taken as u32)?;
+            Ok((z, taken + 1))
         }
         None => Err(too_few(stack)),
     }

@@ -13,7 +13,7 @@ ghost use Rattle.tt_abs.specs.declared.failed.Failed.TheVariants as failed;
 
 use crate::cells::Cell;
 use crate::failed::{Failed, Role};
-use crate::operands::{next_number, too_few};
+use crate::operands::{number, too_few};
 use crate::stack::Stack;
 use crate::step_fault::StepFault;
 use tt_code::kinds::StackOp;
@@ -100,11 +100,12 @@ fn indexed(stack: &Stack) -> Result<(usize, Cell), Failed>
     ensures refused { IfErr result (NamesNoCell stack.now) }
     ensures told { IfErr result (TellsOfStack stack.now) }
 {
-    let (index, _) = next_number(stack, 0, Role::StackIndex)?;
+    let top = cell_under(stack, 0)?;
+    let index = number(top, Role::StackIndex, 0)?;
     let above = place(index)?;
-    match stack.under(above + 1) {
-        Some(cell) => Ok((above, cell)),
-        None => Err(Failed::NoElement { index }),
+    match cell_under(stack, above + 1) {
+        Ok(cell) => Ok((above, cell)),
+        Err(_) => Err(Failed::NoElement { index }),
     }
 }
 

@@ -4,8 +4,7 @@ use Rattle.std.specs.Prelude.{◌≡◌, ℕ, ℤ, ◌+◌, List, ◌∷◌, Ok,
 use Rattle.tt_code.specs.Changes.{all_updated, natural, updated}
 use Rattle.tt_code.specs.Control.{body_named}
 use Rattle.tt_code.specs.declared.machine.Frame.{Frame}
-use Rattle.tt_code.specs.Operands.{top}
-use Rattle.tt_code.specs.Refusals.{Tested, ◌>>=◌}
+use Rattle.tt_code.specs.Refusals.{Tested}
 use Rattle.tt_code.specs.States.{is_true}
 use Rattle.tt_code.specs.Table.{Lists, effect_of}
 use Rattle.tt_code.specs.declared.kinds.Arithmetic.{Arithmetic}
@@ -167,16 +166,10 @@ abbrev pub IsNamed : List Cell → List (ℕ × ℕ) → ℤ → ℕ → Type 0
 IsNamed stack functions number body =
     IsOnTop stack number × (body_named functions (natural number) ≡ Some body)
 
--- the function that the top names
-abbrev pub IsCalled : Setting → State → Callee → Type 0
-IsCalled setting state called =
-    IsNamed state.stack state.functions called.number called.body
-    × ((c : Cell) (below : List Cell) → state.stack ≡ c ∷ below
-    → called_cell (setting_of setting) state.functions c ≡ Ok called.body)
-
--- the top names none, or there is none
-abbrev pub CallsNone : Setting → State → Failed → Type 0
-CallsNone setting state f = (top state.stack >>= (λ t. called_cell (setting_of setting) state.functions t.0)) ≡ Err (reason_of f)
+-- what is told of a call by this cell is so, where the cell is on top
+abbrev pub TellsOfCall : Setting → State → Cell → Failed → Type 0
+TellsOfCall setting state top f = (fs : List Frame) (at : ℕ) (below : List Cell) (left : ℕ)
+    → state.stack ≡ top ∷ below → Tells (setting_of setting) fs at (abstract_of state) left f
 
 -- what is told of a test of this state is so, wherever it is and whatever depth is left
 abbrev pub TellsOfState : Setting → State → Failed → Type 0
@@ -186,9 +179,13 @@ TellsOfState setting state f = (fs : List Frame) (at left : ℕ)
 -- what is told of entering a function is so, wherever the top names it and the call leaves a stack
 -- of this depth
 abbrev pub TellsOfEntry : Setting → Point → Callee → ℕ → Failed → Type 0
-TellsOfEntry setting point called depth f = (a : Abstract)
-    → IsNamed a.stack a.functions called.number called.body
+TellsOfEntry setting point callee depth f = (a : Abstract)
+    → IsNamed a.stack a.functions callee.number callee.body
     → Tells (setting_of setting) (frames_of point) point.offset a depth f
+
+-- the body that the cell names, where it is called
+abbrev pub called_at : Setting → State → Cell → Tested ℕ
+called_at setting state cell = called_cell (setting_of setting) state.functions cell
 
 -- a call of the body at the point, for this many turns, with this stack left
 abbrev pub enter_at : Setting → Point → ℕ → ℕ → List Cell → Abstract → Tested (List Next)
