@@ -26,12 +26,12 @@ returns-in-None-clause-refused c =
 pub returns-in-Some-clause-named : goal.returns-in-Some-clause-named
 returns-in-Some-clause-named c =
     let fits : FitsSigned w32 c.in_ok-function.function = search rules in
-    named_is c.args.state.now.functions c.in_ok-function.function c.from.result (Some c.in-Some.body)
-    (simp to_z-of_z at (sym c.is_index.ensures ∙ c.if-not-is_index.false)) (simp to_z-of_z at c.in-Some.ensures)
+    simp to_z-of_z (named_is c.args.state.now.functions c.in_ok-function.function c.from.result (Some c.in-Some.body)
+    (simp to_z-of_z at (sym c.is_index.ensures ∙ c.if-not-is_index.false)) (simp to_z-of_z at c.in-Some.ensures))
 
 pub returns-in-None-clause-told : goal.returns-in-None-clause-told
 returns-in-None-clause-told c = λ fs at below left e.
-    let fits : FitsSigned w32 c.in_ok-function.function = search rules in (
+    let fits : FitsSigned w32 c.in_ok-function.function = search rules in simp to_z-of_z (
       (below, e ∙ ap (λ x. x ∷ below) c.in_ok-function.ensures.ok),
       rw c.from.ensures at (simp to_z-of_z at (sym c.is_index.ensures ∙ c.if-not-is_index.false)),
       named_is c.args.state.now.functions c.in_ok-function.function c.from.result None
@@ -50,8 +50,7 @@ returns-in_err-function-clause-told c =
 pub returns-then-not-is_index-clause-told : goal.returns-then-not-is_index-clause-told
 returns-then-not-is_index-clause-told c =
     λ fs at below left e.
-    let fits : FitsSigned w32 c.in_ok-function.function = search rules in
-    (
+    let fits : FitsSigned w32 c.in_ok-function.function = search rules in simp to_z-of_z (
       (below, e ∙ ap (λ x. x ∷ below) c.in_ok-function.ensures.ok),
       rw c.from.ensures at (simp to_z-of_z at (sym c.is_index.ensures ∙ c.if-not-is_index.true)),
     )

@@ -36,7 +36,7 @@ returns-in_err-function-clause-told c =
 pub returns-then-not-is_index-clause-told : goal.returns-then-not-is_index-clause-told
 returns-then-not-is_index-clause-told c =
     let fits : FitsSigned w32 c.in_ok-function.function = search rules in
-    let below = drop 1 c.args.state.now.stack in (
+    let below = drop 1 c.args.state.now.stack in simp to_z-of_z (
       (below, c.in_ok-top.ensures.ok ∙ ap (λ x. x ∷ below) c.in_ok-function.ensures.ok),
       rw c.from.ensures at (simp to_z-of_z at (sym c.is_index.ensures ∙ c.if-not-is_index.true)),
     )

@@ -1,4 +1,7 @@
-use Rattle.std.proofs.Common.{◌∙◌, sym}
+use Rattle.std.proofs.Common.{◌∙◌, rules, sym}
+use Rattle.std.specs.Prelude.{FitsSigned}
+use Rattle.std.specs.Int.{w32}
+use Rattle.std.proofs.lemmas.Int.{to_z-of_z}
 use Rattle.tt_abs.specs.Settings.{frames_of, setting_of}
 use Rattle.tt_abs.specs.Representation.Steps.{TellsOfEntry}
 use Rattle.tt_abs.proofs.Fronts.{told_by}
@@ -14,4 +17,5 @@ returns-in_err-test_depth-clause-told c =
 
 pub returns-then-is_running-clause-told : goal.returns-then-is_running-clause-told
 returns-then-is_running-clause-told c =
-    λ a named. (named.0, (c.args.callee.body, named.1, sym c.is_running.ensures ∙ c.if-is_running.true))
+    λ a named.
+    let fits : FitsSigned w32 c.args.callee.number = search rules in simp to_z-of_z (named.0, (c.args.callee.body, named.1, sym c.is_running.ensures ∙ c.if-is_running.true))

@@ -18,7 +18,7 @@ returns-in-Err-clause-refused c =
 pub returns-in-Err-clause-told : goal.returns-in-Err-clause-told
 returns-in-Err-clause-told c = λ s fs at a left.
     let fits : FitsSigned w32 c.in_ok-index.index = search rules in
-    index_told c.args.stack.now c.in_ok-top.top c.in_ok-index.index c.in_ok-above.above c.in_ok-top.ensures.ok c.in_ok-index.ensures.ok (simp to_z-of_z at c.in_ok-above.ensures.ok) c.in-Err.ensures.refused
+    simp to_z-of_z (index_told c.args.stack.now c.in_ok-top.top c.in_ok-index.index c.in_ok-above.above c.in_ok-top.ensures.ok c.in_ok-index.ensures.ok (simp to_z-of_z at c.in_ok-above.ensures.ok) c.in-Err.ensures.refused)
 
 pub returns-in_err-top-clause-told : goal.returns-in_err-top-clause-told
 returns-in_err-top-clause-told c =

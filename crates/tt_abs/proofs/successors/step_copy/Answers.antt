@@ -1,4 +1,4 @@
-use Rattle.std.proofs.Common.{◌≡◌, ◌<◌, ◌≤◌, ◌^◌, ◌∙◌, ap, subst, sym, arith}
+use Rattle.std.proofs.Common.{◌≡◌, ◌<◌, ◌≤◌, ◌^◌, ◌∙◌, ap, length, subst, sym, arith}
 use Rattle.tt_code.specs.Cut.{size}
 use Rattle.tt_code.specs.Settings.{program_of}
 use Rattle.tt_abs.specs.Transfers.{outcome_on_cells}
@@ -46,5 +46,7 @@ returns-in_err-moves-clause-told c =
     let at = c.args.point.now.offset in
     passed_on c.from_residual-in_err-moves.result c.in_err-moves.field-0.0 _
     (for_failed c.in_err-moves.field-0.0 _ _
-    (λ f h. let P : State → Type 0 = λ s. Tells S fs at (abstract_of s) _ f in (_, subst P c.in_ok-next.ensures h)) c.in_err-moves.ensures.told)
+    (λ f h.
+    let left = length c.step.new.state.stack in
+    let P : State → Type 0 = λ s. Tells S fs at (abstract_of s) left f in (left, subst P c.in_ok-next.ensures h)) c.in_err-moves.ensures.told)
     c.from_residual-in_err-moves.ensures.1
