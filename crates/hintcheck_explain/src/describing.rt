@@ -293,10 +293,7 @@ impl fmt::Display for NumberText<'_> {
                 )
             }
             Failed::UnknownIn(Register::Loop) => {
-                write!(
-                    f,
-                    "{name} uses the loop number, and it isn't known here."
-                )
+                write!(f, "{name} uses the loop number, and it isn't known here.")
             }
             Failed::UnknownIn(register) => {
                 let element = Element::of_register(register);

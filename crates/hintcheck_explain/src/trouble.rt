@@ -32,7 +32,10 @@ pub(crate) enum Trouble {
         bound: u32,
     },
     /// Two ways that meet bring stacks of different depths.
-    Depths { one: Arrival, other: Arrival },
+    Depths {
+        one: Arrival,
+        other: Arrival,
+    },
     /// The program has this many bytes, which are too many.
     Length(u32),
     /// All that is to be said is in the reason.

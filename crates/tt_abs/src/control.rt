@@ -14,8 +14,8 @@ ghost use Rattle.tt_abs.specs.Transfers.{is_running as runs_already};
 
 use crate::arithmetic::is_true;
 use crate::cells::Cell;
-use crate::moves::{Move, Moves};
 use crate::failed::{Failed, Role};
+use crate::moves::{Move, Moves};
 use crate::operands::number;
 use crate::setting::{Point, Setting, is_index};
 use crate::shuffle::cell_under;
@@ -215,7 +215,14 @@ fn jump_if(
     let cell = cell_under(&state.stack, 1)?;
     state.stack.cut(2);
     let distance = Distance { cell, under: 1 };
-    let moves = ways_of_jump(setting, point, asked, condition, distance, state.stack.len())?;
+    let moves = ways_of_jump(
+        setting,
+        point,
+        asked,
+        condition,
+        distance,
+        state.stack.len(),
+    )?;
     Ok(moves)
 }
 

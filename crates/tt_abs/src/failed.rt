@@ -67,17 +67,29 @@ pub enum Failed {
     /// The reason says all.
     Only(Reason),
     /// The stack has only this many elements, and the instruction takes another one.
-    TooFew { depth: u32 },
+    TooFew {
+        depth: u32,
+    },
     /// The stack has no element with the index that is on top, which counts from 1 under it.
-    NoElement { index: i32 },
+    NoElement {
+        index: i32,
+    },
     /// The stack would be this deep, which is more than maxStackElements.
-    TooDeep { depth: u32 },
+    TooDeep {
+        depth: u32,
+    },
     /// The element under this many others isn't known.
-    Unknown { role: Role, under: u32 },
+    Unknown {
+        role: Role,
+        under: u32,
+    },
     /// A number of the graphics state isn't known.
     UnknownIn(Register),
     /// The zone has no such point, or one of the two that it may be hasn't.
-    NoPoint { zone: ZoneCell, number: i32 },
+    NoPoint {
+        zone: ZoneCell,
+        number: i32,
+    },
     /// The zone has no point with the number of a reference point, or one of the two that it may be
     /// hasn't.
     NoReferencePoint {
@@ -86,29 +98,54 @@ pub enum Failed {
         number: i32,
     },
     /// The font has no control value with this index.
-    NoControlValue { index: i32 },
+    NoControlValue {
+        index: i32,
+    },
     /// The storage area has no cell with this index.
-    NoStorageCell { index: i32 },
+    NoStorageCell {
+        index: i32,
+    },
     /// The font has no zone with this number.
-    NoZone { number: i32 },
+    NoZone {
+        number: i32,
+    },
     /// The zone of zp2 has no such contour, or one of the two that it may be hasn't.
-    NoContour { zone: ZoneCell, number: i32 },
+    NoContour {
+        zone: ZoneCell,
+        number: i32,
+    },
     /// The count is below 0.
-    NegativeCount { count: i32 },
+    NegativeCount {
+        count: i32,
+    },
     /// The loop number is below 0.
-    NegativeLoop { count: i32 },
+    NegativeLoop {
+        count: i32,
+    },
     /// The index of an element of the stack is below 1.
-    LowIndex { index: i32 },
+    LowIndex {
+        index: i32,
+    },
     /// A jump by this many bytes leads to no instruction of the same body.
-    NoTarget { by: i32 },
+    NoTarget {
+        by: i32,
+    },
     /// The number of a function isn't below maxFunctionDefs.
-    NoFunction { number: i32 },
+    NoFunction {
+        number: i32,
+    },
     /// The function with this number isn't known to be defined.
-    Undefined { number: i32 },
+    Undefined {
+        number: i32,
+    },
     /// The function with this number is running already.
-    Running { number: i32 },
+    Running {
+        number: i32,
+    },
     /// A state comes with a stack of this depth to a place where the stack has another depth.
-    OtherDepth { depth: u32 },
+    OtherDepth {
+        depth: u32,
+    },
 }
 
 const _: () = prove!(size_of::<Failed>() == 8);
@@ -128,9 +165,8 @@ impl Failed {
             Failed::NoStorageCell { .. } => Reason::Storage,
             Failed::NoZone { .. } => Reason::Zone,
             Failed::NoContour { .. } => Reason::Contour,
-            Failed::NegativeCount { .. }
-            | Failed::NegativeLoop { .. }
-            | Failed::LowIndex { .. } => Reason::Count,
+            Failed::NegativeCount { .. } | Failed::NegativeLoop { .. } | Failed::LowIndex { .. } =>
+                Reason::Count,
             Failed::NoTarget { .. } => Reason::Target,
             Failed::NoFunction { .. } | Failed::Undefined { .. } => Reason::Function,
             Failed::Running { .. } => Reason::Recursion,

@@ -35,7 +35,7 @@ returns-in-None-clause-told c = λ fs at below left e.
       (below, e ∙ ap (λ x. x ∷ below) c.in_ok-function.ensures.ok),
       rw c.from.ensures at (simp to_z-of_z at (sym c.is_index.ensures ∙ c.if-not-is_index.false)),
       named_is c.args.state.now.functions c.in_ok-function.function c.from.result None
-      (simp to_z-of_z at (sym c.is_index.ensures ∙ c.if-not-is_index.false)) (simp to_z-of_z at c.in-None.ensures),
+          (simp to_z-of_z at (sym c.is_index.ensures ∙ c.if-not-is_index.false)) (simp to_z-of_z at c.in-None.ensures),
     )
 
 pub returns-in_err-function-clause-told : goal.returns-in_err-function-clause-told
