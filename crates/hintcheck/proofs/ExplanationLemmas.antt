@@ -13,6 +13,7 @@ use Rattle.hintcheck.specs.Commands.{TellsFailure, fault_of_explain}
 use Rattle.hintcheck.specs.CommandFaults.{IsFaultOfLines}
 use Rattle.hintcheck.specs.Explanations.{IsAnswered, Refuses, TellsProgram, cvt_accepted, cvt_refused, font_accepted, font_refused, glyph_accepted, glyph_refused}
 use Rattle.hintcheck_fonts.specs.FontPrograms.{cvt_subject, font_of, font_subject, glyph_subject}
+use Rattle.tt_abs.specs.Failures.{reason_of}
 use Rattle.tt_abs.specs.declared.refusal.Refusal.{Refusal}
 use Rattle.tt_abs.specs.declared.refusal.Refusal.TheVariants as fault
 use Rattle.tt_abs.specs.declared.setting.Setting.{Setting as AnySetting}
@@ -55,12 +56,12 @@ answered x s r explained.Accepted subject h is accepted refused =
 answered x s r explained.Refused subject h is accepted refused =
     let why = refused is in (
       reported_at x.name why.spot why.offset why.reason,
-      found_refusal x s.main.now (setting_of s) s.start.now (fault.Refused why.spot why.offset why.reason) subject.cut subject.setting subject.functions h why.justified why.none_good,
+      found_refusal x s.main.now (setting_of s) s.start.now (fault.Refused why.spot why.offset why.failed) subject.cut subject.setting subject.functions h why.justified why.none_good,
     )
 
 -- a program that can't be cut is refused
 pub uncut_answered : (x : Subject) (f : Refusal) → Refuses f → IfRefused x.name f (IsRefusedFor x) → IsAnswered x explained.Refused
-uncut_answered x (fault.Refused spot offset r) refuses refused = (reported_at x.name spot offset r, refused.refusal)
+uncut_answered x (fault.Refused spot offset failed) refuses refused = (reported_at x.name spot offset (reason_of failed), refused.refusal)
 uncut_answered x (fault.OutOfMemory e) refuses refused = absurd refuses
 
 -- what the exit status of a program tells that was explained

@@ -109,5 +109,5 @@ IsAnswered x explained.Refused = (r : Refused) × IsRefusal x r
 
 -- the fault refuses a program
 abbrev pub Refuses : Refusal → Type 0
-Refuses (fault.Refused spot offset r) = Unit {0}
+Refuses (fault.Refused spot offset failed) = Unit {0}
 Refuses (fault.OutOfMemory e) = ⊥

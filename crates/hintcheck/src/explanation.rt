@@ -64,8 +64,8 @@ pub(crate) fn explain_uncut<O: Sink>(
     ensures faults { IfErr result IsFaultOfLines }
 {
     match fault {
-        Refusal::Refused { offset, reason, .. } => {
-            explain_unread(asked, bytes, offset, reason, out)?;
+        Refusal::Refused { offset, failed, .. } => {
+            explain_unread(asked, bytes, offset, failed.reason(), out)?;
             Ok(())
         }
         Refusal::OutOfMemory(AllocError) => Err(CommandFault::OutOfMemory),

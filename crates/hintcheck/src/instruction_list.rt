@@ -194,8 +194,8 @@ fn list_named<O: Sink>(alloc: Global, named: Named<'_>, out: &mut O) -> Result<u
             print_program(out, &program)?;
             Ok(LISTED)
         }
-        Err(Refusal::Refused { offset, reason, .. }) => {
-            let refused = refused_at(named.name, offset, reason);
+        Err(Refusal::Refused { offset, failed, .. }) => {
+            let refused = refused_at(named.name, offset, failed.reason());
             writeln!(out, "{refused}")?;
             Ok(UNLISTED)
         }

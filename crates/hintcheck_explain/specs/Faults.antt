@@ -3,7 +3,7 @@
 use Rattle.std.specs.Prelude.{◌≡◌, ◌≢◌, ℕ, IfSome, None, Result, Ok, Err}
 use Rattle.tt_abs.specs.declared.setting.Setting.{Setting as Subject}
 use Rattle.tt_code.specs.Cut.{instruction_at}
-use Rattle.tt_code.specs.declared.reason.Reason.{Reason}
+use Rattle.tt_abs.specs.declared.failed.Failed.{Failed}
 use Rattle.tt_abs.specs.declared.spot.Spot.{Spot}
 use Rattle.tt_abs.specs.declared.refusal.Refusal.TheVariants as program
 use Rattle.tt_find.specs.FoundSubjects.{IsJustifiedFor, IsLeastFor, TellsNoneIsGood}
@@ -23,14 +23,15 @@ TellsFailure (Err other) old new = new ≡ old
 abbrev pub HasLeast : Subject → Type 0
 HasLeast x = (found : Found) × IsLeastFor x found
 
--- a place, by spot and offset, at which it is right to refuse the program, and the reason: no family
+-- a place, by spot and offset, at which it is right to refuse the program, and the test that fails,
+-- which gives the reason: no family
 -- is good for it, unless its end alone isn't reached
 pub record HasRefusal (x : Subject) : Type 0 where
   pub spot : Spot
   pub offset : ℕ
-  pub reason : Reason
-  pub justified : IsJustifiedFor x (program.Refused spot offset reason)
-  pub none_good : TellsNoneIsGood x (program.Refused spot offset reason)
+  pub failed : Failed
+  pub justified : IsJustifiedFor x (program.Refused spot offset failed)
+  pub none_good : TellsNoneIsGood x (program.Refused spot offset failed)
 
 -- where an offset is asked for, an instruction of the program begins there
 abbrev pub AsksForInstruction : Subject → Asked → Type 0

@@ -103,36 +103,35 @@ const BEGINNING: Arrival = Arrival {
     depth: 0,
 };
 
-/// Returns an arrival that brings a stack of this depth to a point, or, where `same` is false, one
-/// that brings a stack of another depth.
+/// Returns an arrival that brings a stack of this depth to a point.
 fn way_with(
     subject: &ExploredProgram<'_>,
     edges: &[Edge],
     point: PointKey,
     depth: usize,
-    same: bool,
 ) -> Option<Arrival> {
-    if point == START && (depth == 0) == same {
+    if point == START && depth == 0 {
         return Some(BEGINNING);
     }
     for edge in edges {
-        if edge.to == point && (edge.depth == depth) == same {
+        if edge.to == point && edge.depth == depth {
             return Some(arrival_of(subject, edge));
         }
     }
     None
 }
 
-/// Returns the trouble at a point to which one way brings a stack of this depth, and another way a
-/// stack of another depth, if there are two such ways.
+/// Returns the trouble at a point to which one way brings a stack of the one depth, and another way
+/// a stack of the other depth, if there are two such ways.
 pub(crate) fn depths_at(
     subject: &ExploredProgram<'_>,
     edges: &[Edge],
     point: PointKey,
     depth: usize,
+    other_depth: usize,
 ) -> Option<Trouble> {
-    let other = way_with(subject, edges, point, depth, false)?;
-    let one = way_with(subject, edges, point, depth, true)?;
+    let one = way_with(subject, edges, point, depth)?;
+    let other = way_with(subject, edges, point, other_depth)?;
     Some(Trouble::Depths { one, other })
 }
 

@@ -2,7 +2,7 @@
 
 ghost use Rattle.tt_stream.specs.Streams.{CountsPrintFailure};
 
-use crate::describing::{Bounds, Why};
+use crate::describing::{Scene, Why};
 use crate::meaning::{ADVICE_ON_RANGE, advice_of, class_of, class_text};
 use crate::trouble::Trouble;
 use tt_abs::Setting;
@@ -17,11 +17,9 @@ pub(crate) fn trouble_of_program(setting: &Setting<'_>, reason: Reason) -> Troub
     }
 }
 
-/// Prints why a program is refused at an instruction of this name, the class of the reason, and what
-/// to do.
+/// Prints why a program is refused at an instruction, the class of the reason, and what to do.
 pub(crate) fn tell_cause<O: Sink>(
-    setting: &Setting<'_>,
-    name: &'static str,
+    scene: Scene<'_>,
     reason: Reason,
     trouble: Trouble,
     out: &mut O,
@@ -29,12 +27,11 @@ pub(crate) fn tell_cause<O: Sink>(
     ensures failures { CountsPrintFailure result (O.failures out.old) (O.failures out.new) }
 {
     let class = class_of(reason, trouble);
-    let bounds = Bounds::of(setting);
+    let name = scene.name;
     let why = Why {
-        name,
+        scene,
         reason,
         trouble,
-        bounds,
     };
     let kind = class_text(reason, class);
     let advice = match trouble {

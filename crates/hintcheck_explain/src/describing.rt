@@ -1,11 +1,13 @@
 //! The sentence that says why a program is refused, with the numbers of the case.
 
 use crate::element::Element;
-use crate::points::glyph_points;
-use crate::trouble::{Role, Trouble};
+use crate::exchange::{Exchange, exchange_of};
+use crate::instruction_text::name_of;
+use crate::trouble::{Arrival, Trouble};
+use crate::view::View;
 use std::fmt;
-use tt_abs::Setting;
-use tt_code::{Limits, Reason};
+use tt_abs::{Failed, Register, Role, Setting, ZoneCell};
+use tt_code::{Instr, Reason};
 
 /// How many numbers of the stack there are, as it is printed.
 #[derive(Clone, Copy)]
@@ -30,7 +32,6 @@ fn role_text(role: Role) -> &'static str {
         Role::Zone => "the number of a zone",
         Role::Contour => "the number of a contour",
         Role::Count => "a count",
-        Role::Loop => "the loop number",
         Role::StackIndex => "the index of a number on the stack",
         Role::Distance => "the distance of a jump",
         Role::Function => "the number of a function",
@@ -38,128 +39,114 @@ fn role_text(role: Role) -> &'static str {
     }
 }
 
-/// What the numbers of a case are compared with.
+/// The instruction at which a program is refused, and how deep the stack is there.
 #[derive(Clone, Copy)]
-pub(crate) struct Bounds {
-    limits: Limits,
-    cvt: u32,
-    glyph_points: u32,
+pub(crate) struct Scene<'a> {
+    setting: &'a Setting<'a>,
+    /// The instruction's name: words for the program's end where there is none.
+    pub name: &'static str,
+    code: u8,
+    offset: u32,
+    depth: usize,
+    exchange: Exchange,
 }
 
-impl Bounds {
-    /// Makes the bounds of a setting.
-    pub(crate) fn of(setting: &Setting<'_>) -> Bounds {
-        Bounds {
-            limits: setting.limits,
-            cvt: setting.cvt,
-            glyph_points: glyph_points(setting),
+impl<'a> Scene<'a> {
+    /// Makes the scene of the instruction at an offset, where this is known.
+    pub(crate) fn at(
+        setting: &'a Setting<'a>,
+        instruction: Option<&Instr<'_>>,
+        offset: u32,
+        view: View<'_>,
+    ) -> Scene<'a> {
+        let scene = Scene {
+            name: "the program's end",
+            offset,
+            depth: view.depth(),
+            ..Scene::nowhere(setting)
+        };
+        match instruction {
+            Some(instruction) => Scene {
+                name: name_of(instruction.code()),
+                code: instruction.code(),
+                exchange: exchange_of(view, instruction),
+                ..scene
+            },
+            None => scene,
+        }
+    }
+
+    /// Makes the scene of a program of which nothing is known where it is refused.
+    pub(crate) fn nowhere(setting: &'a Setting<'a>) -> Scene<'a> {
+        Scene {
+            setting,
+            name: "",
+            code: 0,
+            offset: 0,
+            depth: 0,
+            exchange: Exchange {
+                takes: 0,
+                pushes: 0,
+            },
         }
     }
 }
 
 /// Where the bound of an index comes from.
 #[derive(Clone, Copy)]
-struct BoundText {
+struct BoundText<'a> {
+    setting: &'a Setting<'a>,
     role: Role,
-    bounds: Bounds,
 }
 
-impl fmt::Display for BoundText {
+impl fmt::Display for BoundText<'_> {
     fn fmt<W: fmt::Write>(&self, f: &mut fmt::Formatter<W>) -> fmt::Result {
-        let glyph = self.bounds.glyph_points;
-        let twilight = self.bounds.limits.twilight;
-        let cvt = self.bounds.cvt;
-        let storage = self.bounds.limits.storage;
-        let functions = self.bounds.limits.functions;
+        let limits = self.setting.limits;
         match self.role {
             Role::Point => {
+                let glyph = self.setting.points_in(ZoneCell::One);
+                let twilight = limits.twilight;
                 write!(
                     f,
                     "the glyph zone has {glyph} points, phantom points included, "
                 )?;
                 write!(f, "and the twilight zone {twilight}")
             }
-            Role::ControlValue => write!(f, "the font has {cvt} control values"),
-            Role::StorageCell => write!(f, "maxStorage is {storage}"),
-            Role::Function => write!(f, "maxFunctionDefs is {functions}"),
+            Role::ControlValue => {
+                let cvt = self.setting.cvt;
+                write!(f, "the font has {cvt} control values")
+            }
+            Role::StorageCell => {
+                let storage = limits.storage;
+                write!(f, "maxStorage is {storage}")
+            }
+            Role::Function => {
+                let functions = limits.functions;
+                write!(f, "maxFunctionDefs is {functions}")
+            }
             _ => write!(f, "the zone has no other one"),
-        }
-    }
-}
-
-/// Why an instruction is refused.
-#[derive(Clone, Copy)]
-pub(crate) struct Why {
-    /// The instruction's name.
-    pub name: &'static str,
-    pub reason: Reason,
-    pub trouble: Trouble,
-    pub bounds: Bounds,
-}
-
-/// Why the depth of the stack is wrong: too small, too great, or not the same on two ways.
-#[derive(Clone, Copy)]
-struct DepthText {
-    name: &'static str,
-    trouble: Trouble,
-    most: u16,
-}
-
-impl fmt::Display for DepthText {
-    fn fmt<W: fmt::Write>(&self, f: &mut fmt::Formatter<W>) -> fmt::Result {
-        let name = self.name;
-        let most = self.most;
-        match self.trouble {
-            Trouble::Underflow { depth, takes } => {
-                let takes = Numbers(takes);
-                let depth = Numbers(depth);
-                write!(
-                    f,
-                    "{name} takes {takes} from the stack, which holds {depth} here."
-                )
-            }
-            Trouble::Overflow {
-                depth,
-                takes,
-                pushes,
-            } => {
-                let after = depth.saturating_sub(takes).saturating_add(pushes);
-                let takes = Numbers(takes);
-                write!(
-                    f,
-                    "The stack is {depth} deep before {name}, which takes {takes} and "
-                )?;
-                write!(f, "pushes {pushes}: it would be {after} deep, ")?;
-                write!(f, "and maxStackElements is {most}.")
-            }
-            Trouble::Depths { one, other } => {
-                write!(f, "Ways that meet here bring stacks of different depths: ")?;
-                write!(f, "one comes {one}; another one {other}.")
-            }
-            _ => Ok(()),
         }
     }
 }
 
 /// Why a number isn't an index that the instruction can take.
 #[derive(Clone, Copy)]
-struct IndexText {
-    name: &'static str,
+struct IndexText<'a> {
+    scene: Scene<'a>,
     role: Role,
     number: i32,
     bound: u32,
-    bounds: Bounds,
 }
 
-impl fmt::Display for IndexText {
+impl fmt::Display for IndexText<'_> {
     fn fmt<W: fmt::Write>(&self, f: &mut fmt::Formatter<W>) -> fmt::Result {
-        let name = self.name;
+        let name = self.scene.name;
         let number = self.number;
         let bound = self.bound;
         let text = role_text(self.role);
         let reason = BoundText {
+            setting: self.scene.setting,
             role: self.role,
-            bounds: self.bounds,
         };
         write!(
             f,
@@ -169,29 +156,64 @@ impl fmt::Display for IndexText {
     }
 }
 
+/// An index that is out of range.
+#[derive(Clone, Copy)]
+pub(crate) struct Beyond {
+    role: Role,
+    pub number: i32,
+    /// What it has to be below.
+    pub bound: u32,
+}
+
+impl Beyond {
+    /// Returns the index that is out of range, if that is why this test fails.
+    pub(crate) fn of(setting: &Setting<'_>, failed: Failed) -> Option<Beyond> {
+        let limits = setting.limits;
+        let (role, number, bound) = match failed {
+            Failed::NoPoint { zone, number } => (Role::Point, number, setting.points_in(zone)),
+            Failed::NoReferencePoint { zone, number, .. } => {
+                (Role::Point, number, setting.points_in(zone))
+            }
+            Failed::NoControlValue { index } => (Role::ControlValue, index, setting.cvt),
+            Failed::NoStorageCell { index } => {
+                (Role::StorageCell, index, u32::from(limits.storage))
+            }
+            Failed::NoContour { zone, number } => {
+                (Role::Contour, number, setting.contours_in(zone))
+            }
+            Failed::NoFunction { number } => (Role::Function, number, u32::from(limits.functions)),
+            _ => return None,
+        };
+        Some(Beyond {
+            role,
+            number,
+            bound,
+        })
+    }
+}
+
 /// Why a number of a range may be no index that the instruction can take.
 #[derive(Clone, Copy)]
-struct RangeText {
-    name: &'static str,
+struct RangeText<'a> {
+    scene: Scene<'a>,
     element: Element,
     role: Role,
     low: i64,
     high: i64,
     bound: u32,
-    bounds: Bounds,
 }
 
-impl fmt::Display for RangeText {
+impl fmt::Display for RangeText<'_> {
     fn fmt<W: fmt::Write>(&self, f: &mut fmt::Formatter<W>) -> fmt::Result {
-        let name = self.name;
+        let name = self.scene.name;
         let element = self.element;
         let text = role_text(self.role);
         let low = self.low;
         let high = self.high;
         let bound = self.bound;
         let reason = BoundText {
+            setting: self.scene.setting,
             role: self.role,
-            bounds: self.bounds,
         };
         write!(
             f,
@@ -205,101 +227,108 @@ impl fmt::Display for RangeText {
     }
 }
 
-/// Why a number names no zone that the font has.
+/// Why the depth of the stack is wrong: too small, or too great.
 #[derive(Clone, Copy)]
-struct ZoneText {
-    name: &'static str,
-    number: i32,
-    zones: u16,
+struct DepthText<'a> {
+    scene: Scene<'a>,
+    failed: Failed,
 }
 
-impl fmt::Display for ZoneText {
+impl DepthText<'_> {
+    /// Returns how many cells the instruction takes, of which the stack hasn't enough.
+    fn wanted(&self) -> usize {
+        let takes = self.scene.exchange.takes;
+        let least = match self.failed {
+            Failed::NoElement { index } => usize::try_from(index).unwrap_or(0),
+            _ => self.scene.depth,
+        };
+        takes.max(least.saturating_add(1))
+    }
+}
+
+impl fmt::Display for DepthText<'_> {
     fn fmt<W: fmt::Write>(&self, f: &mut fmt::Formatter<W>) -> fmt::Result {
-        let name = self.name;
-        let number = self.number;
-        let zones = self.zones;
-        write!(
-            f,
-            "{name} uses {number} as the number of a zone: zone 1 is the glyph's, and 0, "
-        )?;
-        write!(f, "the twilight zone, needs maxZones 2. It is {zones}.")
+        let name = self.scene.name;
+        let depth = self.scene.depth;
+        match self.failed {
+            Failed::TooDeep { depth: after } => {
+                let most = self.scene.setting.limits.stack;
+                let takes = Numbers(self.scene.exchange.takes);
+                let pushes = self.scene.exchange.pushes;
+                write!(
+                    f,
+                    "The stack is {depth} deep before {name}, which takes {takes} and "
+                )?;
+                write!(f, "pushes {pushes}: it would be {after} deep, ")?;
+                write!(f, "and maxStackElements is {most}.")
+            }
+            _ => {
+                let takes = Numbers(self.wanted());
+                let depth = Numbers(depth);
+                write!(
+                    f,
+                    "{name} takes {takes} from the stack, which holds {depth} here."
+                )
+            }
+        }
     }
 }
 
 /// Why a number isn't one that the instruction can take.
 #[derive(Clone, Copy)]
-struct NumberText {
-    name: &'static str,
-    trouble: Trouble,
-    bounds: Bounds,
+struct NumberText<'a> {
+    scene: Scene<'a>,
+    failed: Failed,
 }
 
-impl fmt::Display for NumberText {
+impl fmt::Display for NumberText<'_> {
     fn fmt<W: fmt::Write>(&self, f: &mut fmt::Formatter<W>) -> fmt::Result {
-        let name = self.name;
-        match self.trouble {
-            Trouble::Unknown {
-                element,
-                role: Role::Loop,
-            } => write!(f, "{name} uses {element}, and it isn't known here."),
-            Trouble::Unknown { element, role } => {
+        let name = self.scene.name;
+        match self.failed {
+            Failed::Unknown { role, .. } => {
                 let role = role_text(role);
+                write!(
+                    f,
+                    "{name} uses the number on the stack as {role}, and it isn't known here."
+                )
+            }
+            Failed::UnknownIn(Register::Loop) => {
+                write!(f, "{name} uses the loop number, and it isn't known here.")
+            }
+            Failed::UnknownIn(register) => {
+                let element = Element::of_register(register);
+                let role = role_text(Role::Point);
                 write!(
                     f,
                     "{name} uses {element} as {role}, and it isn't known here."
                 )
             }
-            Trouble::Index {
-                role,
-                number,
-                bound,
-            } => {
-                let text = IndexText {
-                    name,
-                    role,
-                    number,
-                    bound,
-                    bounds: self.bounds,
-                };
-                write!(f, "{text}")
-            }
-            Trouble::Range {
-                element,
-                role,
-                low,
-                high,
-                bound,
-            } => {
-                let text = RangeText {
-                    name,
-                    element,
-                    role,
-                    low,
-                    high,
-                    bound,
-                    bounds: self.bounds,
-                };
-                write!(f, "{text}")
-            }
-            Trouble::Small {
-                role,
-                number,
-                least,
-            } => {
-                let text = role_text(role);
+            Failed::NegativeCount { count } => {
                 write!(
                     f,
-                    "{name} uses {number} as {text}, and it has to be at least {least}."
+                    "{name} uses {count} as a count, and it has to be at least 0."
                 )
             }
-            Trouble::Zone { number } => {
-                let zones = self.bounds.limits.zones;
-                let text = ZoneText {
-                    name,
-                    number,
-                    zones,
-                };
-                write!(f, "{text}")
+            Failed::NegativeLoop { count } => {
+                write!(
+                    f,
+                    "{name} uses {count} as the loop number, and it has to be at least 0."
+                )
+            }
+            Failed::LowIndex { index } => {
+                let role = role_text(Role::StackIndex);
+                write!(
+                    f,
+                    "{name} uses {index} as {role}, and it has to be at least 1."
+                )
+            }
+            Failed::NoZone { number } => {
+                let zones = self.scene.setting.limits.zones;
+                write!(
+                    f,
+                    "{name} uses {number} as the number of a zone: zone 1 is the glyph's, and 0, "
+                )?;
+                write!(f, "the twilight zone, needs maxZones 2. It is {zones}.")
             }
             _ => Ok(()),
         }
@@ -308,18 +337,17 @@ impl fmt::Display for NumberText {
 
 /// Why an instruction can't go where it leads, or why its code isn't followed.
 #[derive(Clone, Copy)]
-struct WayText {
-    name: &'static str,
-    trouble: Trouble,
-    functions: u16,
+struct WayText<'a> {
+    scene: Scene<'a>,
+    failed: Failed,
 }
 
-impl fmt::Display for WayText {
+impl fmt::Display for WayText<'_> {
     fn fmt<W: fmt::Write>(&self, f: &mut fmt::Formatter<W>) -> fmt::Result {
-        let name = self.name;
-        let functions = self.functions;
-        match self.trouble {
-            Trouble::Undefined { number } => {
+        let name = self.scene.name;
+        match self.failed {
+            Failed::Undefined { number } => {
+                let functions = self.scene.setting.limits.functions;
                 write!(
                     f,
                     "{name} calls function {number}. Its number is below maxFunctionDefs, "
@@ -329,20 +357,22 @@ impl fmt::Display for WayText {
                     "{functions}, but no definition of it is known to have run before."
                 )
             }
-            Trouble::Target { by, target } => {
+            Failed::NoTarget { by } => {
+                let target = i64::from(self.scene.offset).saturating_add(i64::from(by));
                 write!(
                     f,
                     "{name} jumps by {by} bytes to offset {target}, and there no "
                 )?;
                 write!(f, "instruction of the same program or function begins.")
             }
-            Trouble::Running { number } => {
+            Failed::Running { number } => {
                 write!(
                     f,
                     "{name} calls function {number}, which is running already."
                 )
             }
-            Trouble::Code(code) => {
+            Failed::Only(Reason::Opcode) => {
+                let code = self.scene.code;
                 write!(
                     f,
                     "The byte {code:02x} is the code of no instruction that is followed."
@@ -351,6 +381,61 @@ impl fmt::Display for WayText {
             _ => Ok(()),
         }
     }
+}
+
+/// Why a test of an instruction fails.
+#[derive(Clone, Copy)]
+struct FailedText<'a> {
+    scene: Scene<'a>,
+    failed: Failed,
+}
+
+impl fmt::Display for FailedText<'_> {
+    fn fmt<W: fmt::Write>(&self, f: &mut fmt::Formatter<W>) -> fmt::Result {
+        let scene = self.scene;
+        let failed = self.failed;
+        if let Some(beyond) = Beyond::of(scene.setting, failed) {
+            let Beyond {
+                role,
+                number,
+                bound,
+            } = beyond;
+            let text = IndexText {
+                scene,
+                role,
+                number,
+                bound,
+            };
+            return write!(f, "{text}");
+        }
+        match failed {
+            Failed::TooFew { .. } | Failed::NoElement { .. } | Failed::TooDeep { .. } => {
+                let text = DepthText { scene, failed };
+                write!(f, "{text}")
+            }
+            Failed::Only(Reason::Opcode)
+            | Failed::Undefined { .. }
+            | Failed::NoTarget { .. }
+            | Failed::Running { .. } => {
+                let text = WayText { scene, failed };
+                write!(f, "{text}")
+            }
+            Failed::Only(reason) => f.write_str(reason_text(reason)),
+            Failed::OtherDepth { .. } => f.write_str(reason_text(Reason::DepthMismatch)),
+            _ => {
+                let text = NumberText { scene, failed };
+                write!(f, "{text}")
+            }
+        }
+    }
+}
+
+/// Why a program is refused.
+#[derive(Clone, Copy)]
+pub(crate) struct Why<'a> {
+    pub scene: Scene<'a>,
+    pub reason: Reason,
+    pub trouble: Trouble,
 }
 
 /// Returns why a program is refused where the reason says all.
@@ -373,62 +458,59 @@ fn reason_text(reason: Reason) -> &'static str {
     }
 }
 
-impl Why {
-    /// Returns the part that tells of the depth of the stack.
-    fn depths(&self) -> DepthText {
-        DepthText {
-            name: self.name,
-            trouble: self.trouble,
-            most: self.bounds.limits.stack,
-        }
-    }
+/// From where stacks of different depths come.
+#[derive(Clone, Copy)]
+struct DepthsText {
+    one: Arrival,
+    other: Arrival,
+}
 
-    /// Returns the part that tells of a number.
-    fn number(&self) -> NumberText {
-        NumberText {
-            name: self.name,
-            trouble: self.trouble,
-            bounds: self.bounds,
-        }
-    }
-
-    /// Returns the part that tells of where the instruction leads, or of its code.
-    fn way(&self) -> WayText {
-        WayText {
-            name: self.name,
-            trouble: self.trouble,
-            functions: self.bounds.limits.functions,
-        }
+impl fmt::Display for DepthsText {
+    fn fmt<W: fmt::Write>(&self, f: &mut fmt::Formatter<W>) -> fmt::Result {
+        let one = self.one;
+        let other = self.other;
+        write!(f, "Ways that meet here bring stacks of different depths: ")?;
+        write!(f, "one comes {one}; another one {other}.")
     }
 }
 
-impl fmt::Display for Why {
+impl fmt::Display for Why<'_> {
     fn fmt<W: fmt::Write>(&self, f: &mut fmt::Formatter<W>) -> fmt::Result {
+        let scene = self.scene;
         match self.trouble {
-            Trouble::Underflow { .. } | Trouble::Overflow { .. } | Trouble::Depths { .. } => {
-                let text = self.depths();
+            Trouble::Failed(failed) => {
+                let text = FailedText { scene, failed };
                 write!(f, "{text}")
             }
-            Trouble::Unknown { .. }
-            | Trouble::Range { .. }
-            | Trouble::Index { .. }
-            | Trouble::Small { .. }
-            | Trouble::Zone { .. } => {
-                let text = self.number();
+            Trouble::Range {
+                element,
+                role,
+                low,
+                high,
+                bound,
+            } => {
+                let text = RangeText {
+                    scene,
+                    element,
+                    role,
+                    low,
+                    high,
+                    bound,
+                };
+                write!(f, "{text}")
+            }
+            Trouble::Depths { one, other } => {
+                let text = DepthsText { one, other };
                 write!(f, "{text}")
             }
             Trouble::Length(length) => {
-                let limit = self.bounds.limits.program_size;
+                let limit = scene.setting.limits.program_size;
                 write!(
                     f,
                     "The program has {length} bytes, and maxSizeOfInstructions is {limit}."
                 )
             }
             Trouble::Other => f.write_str(reason_text(self.reason)),
-            _ => {
-                let text = self.way();
-                write!(f, "{text}")
-            }
         }
     }
 }

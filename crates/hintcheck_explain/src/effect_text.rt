@@ -3,7 +3,7 @@
 ghost use Rattle.tt_stream.specs.Streams.{CountsPrintFailure};
 
 use crate::describing::Numbers;
-use crate::diagnosis::{Exchange, exchange_of};
+use crate::exchange::{Exchange, exchange_of};
 use crate::instruction_text::name_of;
 use crate::view::View;
 use std::fmt;

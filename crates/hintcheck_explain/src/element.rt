@@ -1,7 +1,8 @@
 //! The numbers that an instruction's tests read, by where they are kept.
 
+use crate::exchange::place_under;
 use std::fmt;
-use tt_abs::{Cell, State};
+use tt_abs::{Cell, Failed, Register, State};
 use tt_code::kinds::Reference;
 
 /// Where a number is kept that a test of an instruction reads: on the stack, in the graphics state
@@ -27,6 +28,29 @@ impl Element {
             Reference::Rp0 => Element::Rp0,
             Reference::Rp1 => Element::Rp1,
             Reference::Rp2 => Element::Rp2,
+        }
+    }
+
+    /// Returns where a number of the graphics state is kept.
+    pub(crate) fn of_register(register: Register) -> Element {
+        match register {
+            Register::Rp0 => Element::Rp0,
+            Register::Rp1 => Element::Rp1,
+            Register::Rp2 => Element::Rp2,
+            Register::Loop => Element::Loop,
+        }
+    }
+
+    /// Returns where the number is kept that has to be known where this test fails, if that is why
+    /// it fails. The stack has this depth.
+    pub(crate) fn unknown(failed: Failed, depth: usize) -> Option<Element> {
+        match failed {
+            Failed::Unknown { under, .. } => {
+                let taken = usize::try_from(under).ok()?;
+                Some(Element::Stack(place_under(depth, taken)?))
+            }
+            Failed::UnknownIn(register) => Some(Element::of_register(register)),
+            _ => None,
         }
     }
 

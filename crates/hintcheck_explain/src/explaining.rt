@@ -15,8 +15,7 @@ use crate::reached::tell_contexts;
 use crate::refusal::tell_refusal;
 use hintcheck_report::{Place, Refused};
 use std::alloc::Global;
-use tt_abs::{Refusal, Setting, Spot};
-use tt_code::Reason;
+use tt_abs::{Failed, Refusal, Setting, Spot};
 use tt_find::explore;
 use tt_stream::Sink;
 
@@ -63,16 +62,16 @@ fn explain_refused<O: Sink>(
     asked: Asked,
     spot: Spot,
     offset: u32,
-    reason: Reason,
+    failed: Failed,
     out: &mut O,
 ) -> Result<(), ExplainFault>
     ensures failures { TellsFailure result (O.failures out.old) (O.failures out.new) }
 {
-    let refused = Refused::at(subject.name, spot, offset, reason);
+    let refused = Refused::at(subject.name, spot, offset, failed.reason());
     writeln!(out, "{refused}")?;
     match asked.offset {
         Some(offset) => tell_place(alloc, subject, offset, out),
-        None => tell_refusal(alloc, subject, spot, offset, reason, out),
+        None => tell_refusal(alloc, subject, spot, offset, failed, out),
     }
 }
 
@@ -110,11 +109,11 @@ pub fn explain<O: Sink>(
             Refusal::Refused {
                 spot,
                 offset,
-                reason,
+                failed,
             },
         ) => {
-            explain_refused(alloc, &subject, asked, spot, offset, reason, out)?;
-            tell_needs(alloc, setting, asked, reason, out)?;
+            explain_refused(alloc, &subject, asked, spot, offset, failed, out)?;
+            tell_needs(alloc, setting, asked, failed.reason(), out)?;
             Ok(Explained::Refused)
         }
         Some(Refusal::OutOfMemory(error)) => Err(ExplainFault::OutOfMemory(error)),

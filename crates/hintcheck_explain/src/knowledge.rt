@@ -1,7 +1,7 @@
 //! What is known at a place: the stack, the graphics state and the storage area.
 
 use crate::element::Shown;
-use crate::taking::place_under;
+use crate::exchange::place_under;
 use std::fmt;
 use tt_abs::{Setting, State, ZoneCell};
 use tt_code::Limits;

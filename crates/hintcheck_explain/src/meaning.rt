@@ -1,6 +1,7 @@
 //! What a reason tells the font's maker: its class, and what to do.
 
-use crate::trouble::{Role, Trouble};
+use crate::trouble::Trouble;
+use tt_abs::Failed;
 use tt_code::{Reason, ReasonClass};
 
 /// What to do about a number of which the symbolic profile knows a range that is too wide.
@@ -12,13 +13,9 @@ pub(crate) const ADVICE_ON_RANGE: &str = "where the program is right, bring the 
 /// out of range, which is a possible fault, or the function isn't known to be defined.
 pub(crate) fn class_of(reason: Reason, trouble: Trouble) -> ReasonClass {
     match (reason, trouble) {
-        (
-            Reason::Function,
-            Trouble::Index {
-                role: Role::Function,
-                ..
-            },
-        ) => ReasonClass::PossibleFault,
+        (Reason::Function, Trouble::Failed(Failed::NoFunction { .. })) => {
+            ReasonClass::PossibleFault
+        }
         _ => reason.class(),
     }
 }

@@ -146,10 +146,11 @@ pub(crate) fn tell_needs<O: Sink>(
             Refusal::Refused {
                 spot,
                 offset,
-                reason,
+                failed,
             },
         ) => {
             let place = Place::at(asked.program, spot, offset);
+            let reason = failed.reason();
             let number = reason.number();
             writeln!(
                 out,

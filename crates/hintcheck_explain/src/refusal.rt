@@ -7,7 +7,7 @@ use crate::arrivals::{Edge, Ways, depths_at, edges_of};
 use crate::asked::ExplainFault;
 use crate::calls::Calls;
 use crate::cause::{tell_cause, trouble_of_program};
-use crate::diagnosis::trouble_at;
+use crate::describing::Scene;
 use crate::effect_text::tell_effect;
 use crate::excerpt::{Code, Excerpt};
 use crate::explored_program::ExploredProgram;
@@ -20,7 +20,7 @@ use crate::trouble::Trouble;
 use crate::view::View;
 use hintcheck_report::Place;
 use std::alloc::{AllocError, Global};
-use tt_abs::{Point, Spot, State};
+use tt_abs::{Failed, Spot, State};
 use tt_code::{Frame, Reason};
 use tt_family::PointKey;
 use tt_stream::{PrintFailed, Sink};
@@ -34,43 +34,36 @@ struct Case<'a> {
     trouble: Trouble,
 }
 
-/// Returns which test fails at a point with this reason, if one does.
+/// Returns the trouble at a point, if it is there that this test fails.
 fn trouble_of(
     subject: &ExploredProgram<'_>,
     edges: &[Edge],
     point: PointKey,
     frames: &[Frame],
     state: &State,
-    reason: Reason,
+    failed: Failed,
 ) -> Result<Option<Trouble>, AllocError> {
-    if let Reason::DepthMismatch = reason {
-        return Ok(depths_at(subject, edges, point, state.depth()));
+    if let Failed::OtherDepth { depth } = failed {
+        let other = usize::try_from(depth).unwrap_or(usize::MAX);
+        return Ok(depths_at(subject, edges, point, state.depth(), other));
     }
-    let Some(instruction) = subject.instruction_at(point) else {
-        return Ok(None);
-    };
     match outcome_at(subject.setting, frames, point.1, state)? {
-        StepOutcome::Refused(found) if found == reason => {
-            let at = Point {
-                frames,
-                offset: point.1,
-            };
-            let view = View::Strict(state);
-            Ok(Some(trouble_at(subject.setting, &at, view, &instruction)))
+        StepOutcome::Refused(found) if found == failed => Ok(Some(Trouble::Failed(failed))),
+        StepOutcome::Goes { .. } if failed.reason() == Reason::TooManyContexts => {
+            Ok(Some(Trouble::Other))
         }
-        StepOutcome::Goes { .. } if reason == Reason::TooManyContexts => Ok(Some(Trouble::Other)),
         _ => Ok(None),
     }
 }
 
-/// Returns the point where a program is refused for a reason, with what is known there.
+/// Returns the point where this test fails, with what is known there.
 fn case_of<'a>(
     alloc: Global,
     subject: &ExploredProgram<'a>,
     edges: &[Edge],
     spot: Spot,
     offset: u32,
-    reason: Reason,
+    failed: Failed,
 ) -> Result<Option<Case<'a>>, AllocError> {
     for context in 0..subject.certificate.contexts() {
         if subject.spot(context) != spot {
@@ -87,7 +80,7 @@ fn case_of<'a>(
             point,
             frames.as_slice(),
             state,
-            reason,
+            failed,
         )? {
             return Ok(Some(Case {
                 point,
@@ -110,7 +103,7 @@ fn tell_origin<O: Sink>(
 ) -> Result<(), ExplainFault>
     ensures failures { TellsFailure result (O.failures out.old) (O.failures out.new) }
 {
-    if let Trouble::Unknown { element, role: _ } = case.trouble {
+    if let Some(element) = case.trouble.element(case.state.depth()) {
         let origin = origin_of(alloc, subject, edges, case.point, element)?;
         let text = OriginText { subject, origin };
         writeln!(out, "Where the number comes from: {text}")?;
@@ -189,24 +182,26 @@ fn tell_case<O: Sink>(
     subject: &ExploredProgram<'_>,
     edges: &[Edge],
     case: Option<&Case<'_>>,
-    reason: Reason,
+    failed: Failed,
     out: &mut O,
 ) -> Result<(), ExplainFault>
     ensures failures { TellsFailure result (O.failures out.old) (O.failures out.new) }
 {
+    let reason = failed.reason();
     match case {
         Some(case) => {
-            let name = subject.name_at(case.point);
-            tell_cause(subject.setting, name, reason, case.trouble, out)?;
             let view = View::Strict(case.state);
-            tell_effect(subject.instruction_at(case.point), view, out)?;
+            let instruction = subject.instruction_at(case.point);
+            let scene = Scene::at(subject.setting, instruction.as_ref(), case.point.1, view);
+            tell_cause(scene, reason, case.trouble, out)?;
+            tell_effect(instruction, view, out)?;
             tell_origin(alloc, subject, edges, case, out)?;
             tell_knowledge(subject, edges, case, out)?;
             tell_routes(alloc, subject, edges, case, out)
         }
         None => {
             let trouble = trouble_of_program(subject.setting, reason);
-            tell_cause(subject.setting, "", reason, trouble, out)?;
+            tell_cause(Scene::nowhere(subject.setting), reason, trouble, out)?;
             Ok(())
         }
     }
@@ -221,15 +216,15 @@ pub(crate) fn tell_refusal<O: Sink>(
     subject: &ExploredProgram<'_>,
     spot: Spot,
     offset: u32,
-    reason: Reason,
+    failed: Failed,
     out: &mut O,
 ) -> Result<(), ExplainFault>
     ensures failures { TellsFailure result (O.failures out.old) (O.failures out.new) }
 {
     let edges = edges_of(alloc, subject)?;
     let edges = edges.as_slice();
-    let case = case_of(alloc, subject, edges, spot, offset, reason)?;
-    tell_case(alloc, subject, edges, case.as_ref(), reason, out)?;
+    let case = case_of(alloc, subject, edges, spot, offset, failed)?;
+    tell_case(alloc, subject, edges, case.as_ref(), failed, out)?;
     let place = Place::at(subject.name, spot, offset);
     let listing = Excerpt::around(Code::Cut(subject.code(spot)), place);
     writeln!(out, "{listing}")?;

@@ -1,8 +1,7 @@
 //! Where a number was kept before an instruction.
 
-use crate::diagnosis::{exchange_of, is_of_one};
 use crate::element::Element;
-use crate::taking::place_under;
+use crate::exchange::{exchange_of, is_of_one, place_under};
 use crate::view::View;
 use tt_abs::{Cell, State};
 use tt_code::kinds::{Arithmetic, Effect, Pushed, Row, Source as Register, StackOp, Update};

@@ -1,8 +1,8 @@
 //! What an instruction makes of what is known at its place.
 
 use std::alloc::AllocError;
-use tt_abs::{Moves, Point, Setting, State, StepFault, step_at};
-use tt_code::{Frame, Reason};
+use tt_abs::{Failed, Moves, Point, Setting, State, StepFault, step_at};
+use tt_code::Frame;
 
 /// What comes of the instruction at a point.
 #[derive(Drop)]
@@ -12,7 +12,7 @@ pub(crate) enum StepOutcome {
     /// The program goes on, and this is known then.
     Goes { moves: Moves, state: State },
     /// The instruction is refused.
-    Refused(Reason),
+    Refused(Failed),
 }
 
 /// Returns what comes of the instruction at a point, carried out on a copy of the state there.
@@ -35,7 +35,7 @@ pub(crate) fn outcome_at(
             moves: step.moves,
             state: next,
         }),
-        Err(StepFault::Refused(reason)) => Ok(StepOutcome::Refused(reason)),
+        Err(StepFault::Refused(failed)) => Ok(StepOutcome::Refused(failed)),
         Err(StepFault::OutOfMemory(error)) => Err(error),
     }
 }

@@ -6,9 +6,9 @@ ghost use Rattle.hintcheck_explain.specs.Faults.{TellsFailure};
 use crate::accepted::count_instructions;
 use crate::asked::{Asked, ExplainFault};
 use crate::cause::{tell_cause, trouble_of_program};
+use crate::describing::Scene;
 use crate::effect_text::tell_effect;
 use crate::excerpt::{Code, Excerpt};
-use crate::instruction_text::name_of;
 use crate::legend::Legend;
 use crate::symbolic_calls::SymbolicCalls;
 use crate::symbolic_case::{instruction_at, trouble_of};
@@ -174,10 +174,8 @@ fn tell_origin<O: Sink>(
 ) -> Result<(), PrintFailed>
     ensures failures { CountsPrintFailure result (O.failures out.old) (O.failures out.new) }
 {
-    let element = match trouble {
-        Trouble::Unknown { element, role: _ } => element,
-        Trouble::Range { element, .. } => element,
-        _ => return Ok(()),
+    let Some(element) = trouble.element(known.state.stack.len()) else {
+        return Ok(());
     };
     let Some(cell) = symbolic_cell(&known.state, element) else {
         return Ok(());
@@ -205,18 +203,16 @@ fn tell_case<O: Sink>(
 {
     let Some(known) = searched.refused() else {
         let trouble = trouble_of_program(searched.setting, reason);
-        tell_cause(searched.setting, "", reason, trouble, out)?;
+        tell_cause(Scene::nowhere(searched.setting), reason, trouble, out)?;
         return Ok(());
     };
     let state = &known.state;
     let instruction = instruction_at(searched.setting, state);
-    let name = match &instruction {
-        Some(instruction) => name_of(instruction.code()),
-        None => "the program's end",
-    };
+    let view = View::Symbolic(state);
+    let scene = Scene::at(searched.setting, instruction.as_ref(), state.offset, view);
     let trouble = trouble_of(alloc, searched.setting, state, reason)?;
-    tell_cause(searched.setting, name, reason, trouble, out)?;
-    tell_effect(instruction, View::Symbolic(state), out)?;
+    tell_cause(scene, reason, trouble, out)?;
+    tell_effect(instruction, view, out)?;
     tell_origin(searched, known, trouble, out)?;
     tell_state(alloc, searched, known, out)
 }

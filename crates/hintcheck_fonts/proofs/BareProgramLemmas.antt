@@ -3,6 +3,7 @@ use Rattle.std.proofs.Common.{◌≡◌, ℕ, List, [], ◌∷◌, Result, Ok, E
 use Rattle.std.specs.declared.alloc.AllocError.{AllocError}
 use Rattle.tt_code.specs.Cut.{Instruction}
 use Rattle.tt_code.specs.Settings.{GlyphProgram}
+use Rattle.tt_abs.specs.Failures.{reason_of}
 use Rattle.tt_abs.specs.declared.refusal.Refusal.{Refusal}
 use Rattle.tt_abs.specs.declared.refusal.Refusal.TheVariants as fault
 use Rattle.hintcheck_fonts.specs.BarePrograms.{IsJudged}
@@ -24,14 +25,14 @@ if_ok (Err e) P Q f h = tt
 
 -- a program that can't be cut
 pub uncut_refusal : (x : Subject) (f : Refusal) → IfRefused x.name f (IsUncut x.name x.bytes) → IfRefused x.name f (IsRefusedFor x)
-uncut_refusal x (fault.Refused spot offset r) is = uncut_is_refused x (reported_at x.name spot offset r) is
+uncut_refusal x (fault.Refused spot offset failed) is = uncut_is_refused x (reported_at x.name spot offset (reason_of failed)) is
 uncut_refusal x (fault.OutOfMemory e) is = tt
 
 -- the fault refuses the program, a glyph's, which is listed
 pub judged_refused : (x : Subject) (points contours : ℕ) (f : Refusal) (o : Outcome) (old rs : List Refused) → ((is : List Instruction) → (x.setting is).kind ≡ GlyphProgram points contours)
     → IfRefused x.name f (IsRefusedFor x) → TellsOutcome x.name f (Ok o) → old ≡ [] → ListsOutcome old o.refused rs → IsJudged x rs
-judged_refused x points contours (fault.Refused spot offset r) o old rs glyph is told none listed =
-    let q = reported_at x.name spot offset r in
+judged_refused x points contours (fault.Refused spot offset failed) o old rs glyph is told none listed =
+    let q = reported_at x.name spot offset (reason_of failed) in
     let same : refused_as x.name q ≡ o = cc in
     let L : Outcome → Type 0 = λ p. ListsOutcome old p.refused rs in
     let O : List Refused → Type 0 = λ l. ListsOutcome l (refused_as x.name q).refused rs in

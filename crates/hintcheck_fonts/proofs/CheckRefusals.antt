@@ -1,6 +1,7 @@
 -- Why a program that is checked by its section is refused.
 use Rattle.std.proofs.Common.{◌≡◌, ◌⊎◌, inl, inr, ℕ, List, [], Option, Some, Bor, refl, sym, ap, subst, ◌∙◌}
 use Rattle.std.specs.Prelude.{Result, Ok, Err, IfErr, IfSome}
+use Rattle.tt_abs.specs.Failures.{reason_of}
 use Rattle.tt_abs.specs.declared.state.State.{State}
 use Rattle.tt_code.specs.Cut.{CannotBeCut, Instruction, IsCut, size}
 use Rattle.tt_code.specs.Grammar.{IsFault}
@@ -51,7 +52,8 @@ pub broken_listing : (form : Form) (x : Subject) (s : Setting) (family : Content
     → Names (IsListingBrokenFirst form (setting_of s) s.start.now family) f
     → (IsGoodListing form (setting_of s) s.start.now family → IsOutOfMemory f) → IsRefusedBy form x family f
 broken_listing form x s family (fault.OutOfMemory e) subject names exact = tt
-broken_listing form x s family (fault.Refused spot offset r) subject (at, es, eo, first) exact =
+broken_listing form x s family (fault.Refused spot offset failed) subject (at, es, eo, first) exact =
+    let r = reason_of failed in
     let is = s.main.now in
     let B : MachineSetting → List (ℕ × ℕ) → Type 0 = λ t fs. IsListingBrokenFirst form t fs family at r in
     let broken = of_subject B x is (setting_of s) s.start.now subject.setting subject.functions first in

@@ -7,6 +7,7 @@ use Rattle.std.proofs.lemmas.Option.{slice_get-get_or, slice_get_within}
 use Rattle.tt_code.specs.Cut.{Instruction, IsCut}
 use Rattle.tt_code.specs.Grammar.{IsStructured}
 use Rattle.tt_code.specs.Settings.{Kind as MachineKind}
+use Rattle.tt_abs.specs.Failures.{reason_of}
 use Rattle.tt_abs.specs.Settings.{kind_of}
 use Rattle.tt_abs.specs.declared.setting.Setting.{Setting}
 use Rattle.tt_abs.specs.declared.refusal.Refusal.{Refusal}
@@ -60,7 +61,7 @@ uncut_next d stage x n f Refuses next (y, is_next, told) uncut refuses =
     go f (subst (λ (b : List ℕ). IfRefused x.name f (IsUncut x.name b)) (sym bytes) (uncut x.name))
   where
     go : (g : Refusal) → IfRefused x.name g (IsUncut x.name x.bytes) → IfRefused x.name g Refuses
-    go (fault.Refused spot offset r) is = refuses (reported_at x.name spot offset r) is
+    go (fault.Refused spot offset failed) is = refuses (reported_at x.name spot offset (reason_of failed)) is
     go (fault.OutOfMemory e) is = tt
 
 -- a program that has no end to come to is a glyph's
@@ -127,10 +128,10 @@ module _ {K : Type 0} (d : FontData) (Accepts : Subject → List K → List Inst
 
   pub refused_next : (s : StageOf K) (x : Subject) (f : Refusal) (o : Outcome) → next_program d s ≡ Some x → IfRefused x.name f (Refuses x (start_at s)) → TellsOutcome x.name f (Ok o)
       → IsOutcomeBy d Accepts Ends Refuses s o (stage_after s None)
-  refused_next s x (fault.Refused spot offset r) o next is told =
+  refused_next s x (fault.Refused spot offset failed) o next is told =
       let P : Outcome → Type 0 = λ q. IsOutcomeBy d Accepts Ends Refuses s q (stage_after s None) in
-      let same : refused_as x.name (reported_at x.name spot offset r) ≡ o = cc in
-      subst P same (refused_stage s x (reported_at x.name spot offset r) next is)
+      let same : refused_as x.name (reported_at x.name spot offset (reason_of failed)) ≡ o = cc in
+      subst P same (refused_stage s x (reported_at x.name spot offset (reason_of failed)) next is)
   refused_next s x (fault.OutOfMemory e) o next is told = absurd (no o e told)
     where
       no : (a : Outcome) (f : AllocError) → ◌≡◌ {A = Result Outcome AllocError} (Ok a) (Err f) → ⊥

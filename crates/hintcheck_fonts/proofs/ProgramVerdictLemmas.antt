@@ -10,6 +10,9 @@ use Rattle.tt_code.specs.declared.reason.Reason.{Reason}
 use Rattle.tt_code.specs.declared.reason.Reason.TheVariants as reason
 use Rattle.tt_code.proofs.CutLemmas.{one_cut}
 use Rattle.tt_code.proofs.ProgramLemmas.{no_fault}
+use Rattle.tt_abs.specs.Failures.{reason_of}
+use Rattle.tt_abs.specs.declared.failed.Failed.{Failed}
+use Rattle.tt_abs.specs.declared.failed.Failed.TheVariants.{Only}
 use Rattle.tt_abs.specs.declared.setting.Setting.{Setting as AnySetting}
 use Rattle.tt_abs.specs.declared.state.State.{State}
 use Rattle.tt_abs.specs.Contexts.{FramesFit}
@@ -233,7 +236,7 @@ lent_filled (Some found) lent s least is_lent =
 pub only_memory : {T : Type 0} (r : Result T Refusal) (called : Name) (Is : AnyRefused → Type 0) → IfErr r IsOutOfMemory → IfErr r (λ f. IfRefused called f Is)
 only_memory (Ok x) called Is h = tt
 only_memory (Err (fault.OutOfMemory e)) called Is h = tt
-only_memory (Err (fault.Refused spot offset r)) called Is h = absurd h
+only_memory (Err (fault.Refused spot offset failed)) called Is h = absurd h
 
 -- what holds of the finder holds whatever the check says
 pub holds_anyway : {T E P : Type 0} (r : Result T E) → P → OnOk r P
@@ -241,7 +244,7 @@ holds_anyway (Ok x) h = h
 holds_anyway (Err e) h = tt
 
 -- a refusal that is reported
-pub reported : (called : Name) (f : Refusal) (spot : Spot) (offset : ℕ) (r : Reason) (Is : AnyRefused → Type 0) → f ≡ fault.Refused spot offset r → Is (reported_at called spot offset r)
+pub reported : (called : Name) (f : Refusal) (spot : Spot) (offset : ℕ) (r : Reason) (Is : AnyRefused → Type 0) → f ≡ fault.Refused spot offset (Only r) → Is (reported_at called spot offset r)
     → IfRefused called f Is
 reported called f spot offset r Is e h = let P : Refusal → Type 0 = λ t. IfRefused called t Is in subst P (sym e) h
 
@@ -255,25 +258,27 @@ passed_on (Err x) f P is h = subst P (sym is) h
 abbrev pub IsUnfound : Setting → List (ℕ × ℕ) → Refusal → Type 0
 IsUnfound s fs f = IsOutOfMemory f ⊎ (IsNeverEnding f ⊎ NoneIsGood s fs)
 
-no_family_at : (s : Setting) (fs : List (ℕ × ℕ)) (spot : Spot) (offset : ℕ) (r : Reason) → IsUnfound s fs (fault.Refused spot offset r) → IsNoFamily s fs r
-no_family_at s fs spot offset r (inl h) = absurd h
-no_family_at s fs spot offset r (inr none) = none
+no_family_at : (s : Setting) (fs : List (ℕ × ℕ)) (spot : Spot) (offset : ℕ) (failed : Failed) → IsUnfound s fs (fault.Refused spot offset failed) → IsNoFamily s fs (reason_of failed)
+no_family_at s fs spot offset failed (inl h) = absurd h
+no_family_at s fs spot offset failed (inr none) = none
 
 pub found_refusal : (x : Subject) (is : List Instruction) (s : Setting) (fs : List (ℕ × ℕ)) (f : Refusal) → IsCutInto x is → x.setting is ≡ s → x.functions ≡ fs → HasFlow s fs
     → NamesPlace (IsJustified s fs) f → IsUnfound s fs f → IfRefused x.name f (IsRefusal x)
 found_refusal x is s fs (fault.OutOfMemory e) c es ef h names unfound = tt
-found_refusal x is s fs (fault.Refused spot offset r) c es ef h (p, at_spot, at_offset, justified) unfound =
+found_refusal x is s fs (fault.Refused spot offset failed) c es ef h (p, at_spot, at_offset, justified) unfound =
+    let r = reason_of failed in
     let h' = of_subject HasFlow x is s fs es ef h in
     let justified' = of_subject (λ t f. IsJustified t f p r) x is s fs es ef justified in
-    let none' = of_subject (λ t f. IsNoFamily t f r) x is s fs es ef (no_family_at s fs spot offset r unfound) in
+    let none' = of_subject (λ t f. IsNoFamily t f r) x is s fs es ef (no_family_at s fs spot offset failed unfound) in
     is_refusal x p spot offset r at_spot at_offset (no_family is p r c justified') (found_no_least x is c h' p r justified' none') (found_no_good x is c r none')
 
 pub glyph_without_good : (x : Subject) (is : List Instruction) (s : Setting) (fs : List (ℕ × ℕ)) (points contours : ℕ) (f : Refusal) → IsCutInto x is → x.setting is ≡ s
     → x.functions ≡ fs → s.kind ≡ GlyphProgram points contours → HasFlow s fs → NamesPlace (IsJustified s fs) f → IsUnfound s fs f → IfRefused x.name f (λ _. HasGoodFamily x → ⊥)
 glyph_without_good x is s fs points contours (fault.OutOfMemory e) c es ef k h names unfound = tt
-glyph_without_good x is s fs points contours (fault.Refused spot offset r) c es ef k h (p, at_spot, at_offset, justified) unfound =
+glyph_without_good x is s fs points contours (fault.Refused spot offset failed) c es ef k h (p, at_spot, at_offset, justified) unfound =
+    let r = reason_of failed in
     glyph_no_good x is points contours (ap (λ (t : Setting). t.kind) es ∙ k) c (of_subject HasFlow x is s fs es ef h) p r
-    (of_subject (λ t f. IsJustified t f p r) x is s fs es ef justified) (of_subject (λ t f. IsNoFamily t f r) x is s fs es ef (no_family_at s fs spot offset r unfound))
+    (of_subject (λ t f. IsJustified t f p r) x is s fs es ef justified) (of_subject (λ t f. IsNoFamily t f r) x is s fs es ef (no_family_at s fs spot offset failed unfound))
 
 -- a program is that of the setting which it has with its instructions
 pub is_subject : (x : Subject) (s : AnySetting) (is : List Instruction) → IsCutInto x is → s.main.now ≡ is → setting_of s ≡ x.setting is → s.start.now ≡ x.functions → IsSubjectOf x s

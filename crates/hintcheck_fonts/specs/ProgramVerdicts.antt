@@ -1,6 +1,7 @@
 -- What the verdict on one program is, and what is reported of it.
 use Rattle.std.specs.Prelude.{◌≡◌, List, [], ◌∷◌, ◌++◌, Option, Some}
 use Rattle.tt_code.specs.Cut.{Instruction}
+use Rattle.tt_abs.specs.Failures.{reason_of}
 use Rattle.tt_abs.specs.declared.setting.Setting.{Setting}
 use Rattle.tt_abs.specs.declared.state.State.{State}
 use Rattle.tt_abs.specs.Settings.{setting_of}
@@ -42,7 +43,8 @@ pub record IsAccepted (x : Subject) (instructions : List Instruction)
 -- what holds of what is reported of a program by this name, where the fault refuses it; out of
 -- memory is unspecified
 abbrev pub IfRefused : Name → Refusal → (AnyRefused → Type 0) → Type 0
-IfRefused called (Refused spot offset r) Is = Is (reported_at called spot offset r)
+IfRefused called (Refused spot offset failed) Is =
+    Is (reported_at called spot offset (reason_of failed))
 IfRefused called (OutOfMemory e) Is = Unit {0}
 
 -- the fault names why the program is refused; out of memory is unspecified
@@ -63,8 +65,8 @@ IsListedIn form s family = IsGoodListing form (setting_of s) s.start.now family
 
 -- the fault refuses a program by this name, and what is reported of it is appended to the list
 abbrev pub IsAppendedRefusal : Name → Refusal → List AnyRefused → List AnyRefused → Type 0
-IsAppendedRefusal called (Refused spot offset r) old new =
-    new ≡ old ++ reported_at called spot offset r ∷ []
+IsAppendedRefusal called (Refused spot offset failed) old new =
+    new ≡ old ++ reported_at called spot offset (reason_of failed) ∷ []
 IsAppendedRefusal called (OutOfMemory e) old new = ⊥
 
 -- the search is for the family that a certificate lists

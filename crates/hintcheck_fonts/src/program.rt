@@ -20,19 +20,19 @@ ghost use Rattle.hintcheck_fonts.specs.Representation.Judges.{IsFoundHere};
 ghost use Rattle.hintcheck_fonts.specs.Representation.ProgramOrder.{IsUncut};
 
 use std::alloc::Global;
-use tt_abs::{Refusal, Setting, Spot};
+use tt_abs::{Failed, Refusal, Setting, Spot};
 use tt_code::{CodeFault, Program, Reason};
 use tt_family::{Budget, Certificate, check_within};
 use tt_find::Finder;
 
 /// Returns the fault of a program that is refused at this offset of its own bytes.
 fn refused_at(offset: u32, reason: Reason) -> Refusal
-    ensures { result ≡ Refusal.Refused Spot.Main offset reason }
+    ensures { result ≡ Refusal.Refused Spot.Main offset (Failed.Only reason) }
 {
     Refusal::Refused {
         spot: Spot::Main,
         offset,
-        reason,
+        failed: Failed::Only(reason),
     }
 }
 

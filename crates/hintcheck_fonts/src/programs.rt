@@ -95,10 +95,10 @@ pub(crate) fn refused(program: Name, fault: Refusal) -> Result<Outcome, AllocErr
         Refusal::Refused {
             spot,
             offset,
-            reason,
+            failed,
         } => Ok(Outcome {
             program,
-            refused: Some(Refused::at(program, spot, offset, reason)),
+            refused: Some(Refused::at(program, spot, offset, failed.reason())),
         }),
         Refusal::OutOfMemory(error) => Err(error),
     }

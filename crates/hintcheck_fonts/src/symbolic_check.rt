@@ -11,7 +11,7 @@ use crate::judge::Judge;
 use crate::report::Name;
 use std::alloc::{AllocError, Global};
 use std::mem;
-use tt_abs::{Kind, Refusal, Setting, SortedMap, Spot};
+use tt_abs::{Failed, Kind, Refusal, Setting, SortedMap, Spot};
 use tt_code::Reason;
 use tt_family::{Budget, is_short};
 use tt_symbolic::{Kept, NOTHING_KEPT};
@@ -198,17 +198,17 @@ pub(crate) fn refusal_of(refusal: CheckRefusal) -> Refusal
         } => Refusal::Refused {
             spot,
             offset,
-            reason,
+            failed: Failed::Only(reason),
         },
         CheckRefusal::KeptEntry { spot, offset } => Refusal::Refused {
             spot,
             offset,
-            reason: Reason::KeptEntry,
+            failed: Failed::Only(Reason::KeptEntry),
         },
         CheckRefusal::BudgetMet => Refusal::Refused {
             spot: Spot::Main,
             offset: 0,
-            reason: Reason::TooManySteps,
+            failed: Failed::Only(Reason::TooManySteps),
         },
         CheckRefusal::OutOfMemory(error) => Refusal::OutOfMemory(error),
     }

@@ -1,6 +1,8 @@
 -- The body of a called function, as the code finds it.
 use Rattle.std.specs.Prelude.{ℤ, pos, negsuc, nat_abs, Option}
-use Rattle.std.proofs.Common.{◌≡◌, ℕ, List, refl, true}
+use Rattle.std.proofs.Common.{◌≡◌, ◌∙◌, ℕ, List, refl, sym, true}
+use Rattle.tt_code.specs.Changes.{natural}
+use Rattle.tt_code.specs.Control.{body_named}
 use Rattle.tt_code.specs.Refusals.{some_or}
 use Rattle.tt_code.specs.Settings.{Setting}
 use Rattle.tt_code.specs.States.{is_below}
@@ -18,3 +20,7 @@ called_is s functions c (pos n) bound found e f g h =
     let named : found ≡ listed functions n = h in
     rw (e, below, named, listed-named functions n) refl
 called_is s functions c (negsuc n) bound found e f g h = absurd (cc)
+
+pub named_is : (functions : List (ℕ × ℕ)) (z : ℤ) (bound : ℕ) (found : Option ℕ) → is_below z bound ≡ true → found ≡ listed functions (nat_abs z) → body_named functions (natural z) ≡ found
+named_is functions (pos n) bound found g h = sym (h ∙ listed-named functions n)
+named_is functions (negsuc n) bound found g h = absurd (cc)

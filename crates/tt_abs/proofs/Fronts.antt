@@ -9,6 +9,8 @@ use Rattle.tt_code.specs.declared.reason.Reason.{Reason}
 use Rattle.std.specs.Result.{IsErrAnd}
 use Rattle.std.proofs.Math.Seq.{drop-cons}
 use Rattle.tt_code.specs.declared.kinds.Operand.{Operand}
+use Rattle.tt_abs.specs.declared.failed.Failed.{Failed}
+use Rattle.tt_abs.specs.Failures.{reason_of}
 use Rattle.tt_abs.specs.Cells.{Cells}
 use Rattle.tt_abs.specs.Stacks.{first}
 use Rattle.tt_abs.specs.Representation.Taken.{TakesTo, GoesOn}
@@ -126,12 +128,17 @@ times_start one count below =
     let same : count - 0 ≡ count = omega arith in rw same (goes_on_start below (times count one))
 
 -- one tested cell, and then any cell
-pub pair_takes : (one : List Cell → Tested (Taking Cell)) (stack : List Cell) (taken middle : ℕ) (r : Result ℕ Reason) → TakesTo stack middle (one (drop taken stack))
+pub pair_takes : (one : List Cell → Tested (Taking Cell)) (stack : List Cell) (taken middle : ℕ) (r : Result ℕ Failed) → TakesTo stack middle (one (drop taken stack))
     → IfOk r (λ n. TakesTo stack n (take_one (drop middle stack))) → IfOk r (λ n. TakesTo stack n (pair one (drop taken stack)))
 pair_takes one stack taken middle (Ok n) h k = takes_both one take_one stack taken middle n h k
 pair_takes one stack taken middle (Err e) h k = tt
 
 -- a refusal that is passed on
-pub refused_by : {A B : Type 0} (r : Result A Reason) (e : Reason) (result : Tested B) → result ≡ Err e → IsErrAnd r (λ x. x ≡ e) → IfErr r (λ x. result ≡ Err x)
+pub refused_by : {A B : Type 0} (r : Result A Failed) (e : Failed) (result : Tested B) → result ≡ Err (reason_of e) → IsErrAnd r (λ x. x ≡ e) → IfErr r (λ x. result ≡ Err (reason_of x))
 refused_by (Ok a) e result h k = tt
-refused_by {A} {B} (Err x) e result h k = let E : Reason → Type 0 = λ y. ◌≡◌ {A = Tested B} result (Err y) in subst E (sym k) h
+refused_by {A} {B} (Err x) e result h k = let E : Failed → Type 0 = λ y. ◌≡◌ {A = Tested B} result (Err (reason_of y)) in subst E (sym k) h
+
+-- what is told of it
+pub told_by : {A : Type 0} (r : Result A Failed) (e : Failed) (P : Failed → Type 0) → P e → IsErrAnd r (λ x. x ≡ e) → IfErr r P
+told_by (Ok a) e P h k = tt
+told_by (Err x) e P h k = subst P (sym k) h

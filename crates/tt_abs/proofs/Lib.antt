@@ -4,11 +4,13 @@ pub mod CodedCells
 pub mod StackOrders
 pub mod CoverageLemmas
 pub mod Fronts
+pub mod Told
 pub mod StackSteps
 pub mod EntryEdits
 pub mod Choosing
 pub mod Bests
 pub mod Machines
+pub mod Zones
 pub mod Takes
 pub mod Rows
 pub mod PlainLemmas

@@ -109,13 +109,16 @@ moves_index stack new below k c n e f g h a =
     let found : element (pos (suc n)) below ≡ Ok c = element_at n below (drop (n + 1) below) c g in
     rw (h, e, f, found) refl
 
--- a refusal that is passed on
-pub index_refused : {A : Type 0} (r : Result A Reason) (e : Reason) (stack : List Cell) (k : Cell) (index : ℤ) (n : ℕ) → drop 0 stack ≡ k ∷ drop 1 stack → k ≡ Known index → index ≡ pos (suc n)
-    → (drop (n + 1) stack ≡ []) × (e ≡ reason.Underflow) → IsErrAnd r (λ x. x ≡ e)
-    → IfErr r (λ x. RefusesStack (shuffled_cells op.CopyIndexed) stack x × RefusesStack (shuffled_cells op.MoveIndexed) stack x)
-index_refused (Ok a) e stack k index n f g h i j = tt
-index_refused (Err x) e stack k index n f g h i j =
-    let same : x ≡ reason.Underflow = j ∙ i.1 in
-    let known_is : known k ≡ Ok (pos (suc n)) = rw (g, h) refl in
-    subst (λ (y : Reason). RefusesStack (shuffled_cells op.CopyIndexed) stack y × RefusesStack (shuffled_cells op.MoveIndexed) stack y) (sym same)
-    (index_past stack k n f known_is i.0)
+-- the same of the number of a cell
+pub index_missed : (stack : List Cell) (k : Cell) (index : ℤ) (n : ℕ) → drop 0 stack ≡ k ∷ drop 1 stack → k ≡ Known index → index ≡ pos (suc n) → drop (n + 1) stack ≡ []
+    → RefusesStack (shuffled_cells op.CopyIndexed) stack reason.Underflow × RefusesStack (shuffled_cells op.MoveIndexed) stack reason.Underflow
+index_missed stack k index n e f g h =
+    let known_is : known k ≡ Ok (pos (suc n)) = rw (f, g) refl in index_past stack k n e known_is h
+
+-- and so the index is told to name none
+pub index_told : (stack : List Cell) (k : Cell) (index : ℤ) (n : ℕ) → drop 0 stack ≡ k ∷ drop 1 stack → k ≡ Known index → index ≡ pos (suc n) → drop (n + 1) stack ≡ []
+    → (below : List Cell) × (stack ≡ Known index ∷ below) × (element index below ≡ Err reason.Underflow)
+index_told [] k index n e f g h = absurd (cc)
+index_told (x ∷ xs) k index n e f g h =
+    let top : x ≡ Known index = cc in
+    (xs, ap (λ c. c ∷ xs) top, rw g (element_past n xs (sym (drop_next n x xs) ∙ h)))

@@ -22,6 +22,7 @@ use Rattle.tt_abs.specs.declared.cells.Cell.TheVariants.{Known}
 use Rattle.tt_abs.specs.declared.state.State.{State}
 use Rattle.tt_abs.specs.declared.moves.Moves.{Moves}
 use Rattle.tt_abs.specs.declared.moves.Moves.TheVariants as moves
+use Rattle.tt_abs.specs.Failures.{reason_of}
 use Rattle.tt_abs.specs.Moves.{ForReason, nexts_of}
 use Rattle.tt_abs.specs.States.{abstract_of, state_order}
 use Rattle.tt_abs.specs.Entries.{Ascends}
@@ -37,7 +38,7 @@ passed_on (Ok a) e P h k = tt
 passed_on (Err x) e P h k = subst P (sym k) h
 
 pub for_reason : (e : StepFault) (P Q : Reason → Type 0) → ((r : Reason) → P r → Q r) → ForReason e P → ForReason e Q
-for_reason (Refused r) P Q f h = f r h
+for_reason (Refused r) P Q f h = f (reason_of r) h
 for_reason (OutOfMemory m) P Q f h = tt
 
 pub first_code : (i : Instruction) (c code : ℕ) (rest : List ℕ) → code_of i ≡ Some c → i ≡ code ∷ rest → code ≡ c

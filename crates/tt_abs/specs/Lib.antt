@@ -8,6 +8,7 @@ pub mod Settings
 pub mod Spots
 pub mod Successors
 pub mod Stacks
+pub mod Failures
 pub mod Moves
 pub mod CellOrders
 pub mod CellLaws

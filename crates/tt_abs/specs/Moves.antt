@@ -11,6 +11,7 @@ use Rattle.tt_abs.specs.declared.moves.Moves.{Moves}
 use Rattle.tt_abs.specs.declared.moves.Moves.TheVariants as moves
 use Rattle.tt_code.specs.declared.kinds.Control.{Control}
 use Rattle.tt_code.specs.declared.reason.Reason.{Reason}
+use Rattle.tt_abs.specs.declared.failed.Failed.{Failed}
 use Rattle.tt_abs.specs.declared.step_fault.StepFault.{StepFault}
 use Rattle.tt_abs.specs.declared.step_fault.StepFault.TheVariants.{Refused, OutOfMemory}
 use Rattle.tt_abs.specs.declared.setting.Setting.{Setting}
@@ -18,6 +19,7 @@ use Rattle.tt_abs.specs.declared.setting.Point.{Point}
 use Rattle.tt_abs.specs.declared.state.State.{State}
 use Rattle.tt_abs.specs.Cells.{Abstract}
 use Rattle.tt_abs.specs.Covers.{Gives, IsRefused}
+use Rattle.tt_abs.specs.Failures.{Tells, reason_of}
 use Rattle.tt_abs.specs.Settings.{setting_of, frames_of}
 use Rattle.tt_abs.specs.States.{abstract_of}
 use Rattle.tt_abs.specs.Transfers.{Next, controlled_cells, instruction_of, outcome_on_cells}
@@ -80,9 +82,14 @@ control_at setting point state op =
 abbrev pub LeadsBy : Point → Tested (List Next) → Moves → State → Type 0
 LeadsBy point outcome moves new = outcome ≡ Ok (nexts_of (frames_of point) moves (abstract_of new))
 
--- what holds of a refusal's reason; where memory ran out, nothing has to hold
+-- what holds of the test that fails; where memory ran out, nothing has to hold
+abbrev pub ForFailed : StepFault → (Failed → Type 0) → Type 0
+ForFailed (Refused f) P = P f
+ForFailed (OutOfMemory e) P = Unit {0}
+
+-- what holds of its reason
 abbrev pub ForReason : StepFault → (Reason → Type 0) → Type 0
-ForReason (Refused r) P = P r
+ForReason (Refused f) P = P (reason_of f)
 ForReason (OutOfMemory e) P = Unit {0}
 
 -- the outcome is refused for this reason
@@ -96,6 +103,11 @@ StepsTo setting point old new moves = LeadsBy point (outcome_at setting point ol
 -- the instruction at the point is refused for this reason
 abbrev pub IsStepRefusedFor : Setting → Point → State → StepFault → Type 0
 IsStepRefusedFor setting point old e = IsRefusedFor (outcome_at setting point old) e
+
+-- what is told of the test that fails there is so; the instruction leaves a stack of this depth
+abbrev pub TellsWhatFails : Setting → Point → State → ℕ → StepFault → Type 0
+TellsWhatFails setting point old left e = ForFailed e
+    (Tells (setting_of setting) (frames_of point) point.offset (abstract_of old) left)
 
 -- a control instruction at the point turns the old state into the new one and leads by these moves
 abbrev pub ControlsTo : Setting → Point → Control → State → State → Moves → Type 0

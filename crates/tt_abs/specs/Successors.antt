@@ -12,6 +12,7 @@ use Rattle.tt_abs.specs.declared.successors.Successor.{Successor}
 use Rattle.tt_abs.specs.declared.successors.Successors.{Successors}
 use Rattle.tt_abs.specs.declared.successors.Successors.TheVariants.{One, Two}
 use Rattle.tt_abs.specs.Covers.{Gives, IsRefused}
+use Rattle.tt_abs.specs.Failures.{IsTold, reason_of}
 use Rattle.tt_abs.specs.Moves.{next_by, outcome_at}
 use Rattle.tt_abs.specs.Settings.{setting_of, frames_of}
 use Rattle.tt_abs.specs.Spots.{spot_of}
@@ -47,9 +48,15 @@ AreInRange (Two s t) = state_order.InRange s.state × state_order.InRange t.stat
 -- the refusal names the point's place, and this holds of its reason; where memory ran out, nothing
 -- has to hold
 abbrev pub IsRefusalAt : Point → (Reason → Type 0) → Refusal → Type 0
-IsRefusalAt point P (Refused spot offset r) =
-    (spot ≡ spot_of (frames_of point)) × (offset ≡ point.offset) × P r
+IsRefusalAt point P (Refused spot offset f) =
+    (spot ≡ spot_of (frames_of point)) × (offset ≡ point.offset) × P (reason_of f)
 IsRefusalAt point P (OutOfMemory e) = Unit {0}
+
+-- what the refusal tells of the test that fails is so
+abbrev pub TellsRefusal : Setting → Point → State → Refusal → Type 0
+TellsRefusal setting point old (Refused spot offset f) =
+    IsTold (setting_of setting) (frames_of point) point.offset (abstract_of old) f
+TellsRefusal setting point old (OutOfMemory e) = Unit {0}
 
 -- the refusal names the point's place, and the first test of the instruction there that fails
 abbrev pub IsRefusalBy : Setting → Point → State → Refusal → Type 0

@@ -2,6 +2,8 @@
 
 ghost use Rattle.std.specs.Prelude.{◌≡◌, IfErr, OnOk};
 ghost use Rattle.tt_abs.specs.Representation.Computes.{one_computed, two_computed, one_result, two_results};
+ghost use Rattle.tt_abs.specs.Moves.{ForFailed};
+ghost use Rattle.tt_abs.specs.Representation.Taken.{TellsOfStack};
 ghost use Rattle.tt_abs.specs.Representation.Steps.{IsStackRefusedFor, Restacks, takes_one};
 ghost use Rattle.tt_abs.specs.Transfers.{computed_cells};
 
@@ -58,6 +60,7 @@ fn result_of_two(operation: Arithmetic, second: Cell, top: Cell) -> Cell
 fn compute_of_one(stack: &mut Stack, operation: Arithmetic) -> Result<(), StepFault>
     ensures ok { OnOk result (Restacks (one_computed operation) stack.old stack.new) }
     ensures refused { IfErr result (IsStackRefusedFor (one_computed operation) stack.old) }
+    ensures told { IfErr result (λ e. ForFailed e (TellsOfStack stack.old)) }
 {
     let top = cell_under(stack, 0)?;
     stack.cut(1);
@@ -69,6 +72,7 @@ fn compute_of_one(stack: &mut Stack, operation: Arithmetic) -> Result<(), StepFa
 fn compute_of_two(stack: &mut Stack, operation: Arithmetic) -> Result<(), StepFault>
     ensures ok { OnOk result (Restacks (two_computed operation) stack.old stack.new) }
     ensures refused { IfErr result (IsStackRefusedFor (two_computed operation) stack.old) }
+    ensures told { IfErr result (λ e. ForFailed e (TellsOfStack stack.old)) }
 {
     let top = cell_under(stack, 0)?;
     let second = cell_under(stack, 1)?;
@@ -85,6 +89,7 @@ fn compute_of_two(stack: &mut Stack, operation: Arithmetic) -> Result<(), StepFa
 pub fn compute(stack: &mut Stack, operation: Arithmetic) -> Result<(), StepFault>
     ensures ok { OnOk result (Restacks (computed_cells operation) stack.old stack.new) }
     ensures refused { IfErr result (IsStackRefusedFor (computed_cells operation) stack.old) }
+    ensures told { IfErr result (λ e. ForFailed e (TellsOfStack stack.old)) }
 {
     if is_of_one(operation) {
         compute_of_one(stack, operation)

@@ -1,7 +1,7 @@
 //! What an instruction makes of an abstract state.
 
 ghost use Rattle.std.specs.Prelude.{◌≡◌, ◌+◌, ◌<◌, ◌^◌, IfErr, IfOk, Some, length};
-ghost use Rattle.tt_abs.specs.Moves.{IsStepRefusedFor, StartsAt, StepsTo, point_instruction};
+ghost use Rattle.tt_abs.specs.Moves.{IsStepRefusedFor, StartsAt, StepsTo, TellsWhatFails, point_instruction};
 ghost use Rattle.tt_abs.specs.Lines.{EndsAt};
 ghost use Rattle.tt_abs.specs.Settings.{frames_of, setting_of};
 ghost use Rattle.tt_abs.specs.States.{state_order};
@@ -9,6 +9,7 @@ ghost use Rattle.tt_abs.specs.Representation.Steps.{DoesTo, IsDoingRefusedFor};
 
 use crate::compute::compute;
 use crate::control::execute_control;
+use crate::failed::Failed;
 use crate::moves::{Move, Moves};
 use crate::plain::execute_plain;
 use crate::push::push_data;
@@ -18,6 +19,9 @@ use crate::state::State;
 use crate::step_fault::StepFault;
 use tt_code::kinds::Effect;
 use tt_code::{Instr, Reason, entry};
+
+/// What is told where no instruction of the body starts.
+const NO_INSTRUCTION: Failed = Failed::Only(Reason::Target);
 
 /// Carries out an instruction by the kind of its effect, and returns where the program goes on. The
 /// depth afterwards is tested by `execute`.
@@ -30,9 +34,11 @@ fn dispatch(
     requires { point.now.offset + length instr.now < 2 ^ 31 }
     ensures ok { IfOk result (DoesTo setting.now point.now instr.now state.old state.new) }
     ensures refused { IfErr result (IsDoingRefusedFor setting.now point.now instr.now state.old) }
+    ensures told { IfErr result
+        (TellsWhatFails setting.now point.now state.old (length state.new.stack)) }
 {
     match entry(instr.code()) {
-        Effect::NoEntry => return Err(StepFault::Refused(Reason::Opcode)),
+        Effect::NoEntry => return Err(StepFault::Refused(Failed::Only(Reason::Opcode))),
         Effect::Plain(line) => execute_plain(setting, state, line)?,
         Effect::Push(push) => push_data(&mut state.stack, *push, instr.data())?,
         Effect::Stack(operation) => shuffle(&mut state.stack, *operation)?,
@@ -54,6 +60,8 @@ fn execute(
     requires found { point_instruction setting.now point.now ≡ Some instr.now }
     ensures ok { IfOk result (StepsTo setting.now point.now state.old state.new) }
     ensures refused { IfErr result (IsStepRefusedFor setting.now point.now state.old) }
+    ensures told { IfErr result
+        (TellsWhatFails setting.now point.now state.old (length state.new.stack)) }
     ensures in_range { state_order.InRange state.old
         → IfOk result (λ _. state_order.InRange state.new) }
 {
@@ -61,27 +69,31 @@ fn execute(
     prove!(u32::from(instr.code()) < 256);
     let moves = dispatch(setting, point, state, instr)?;
     if state.stack.len() > usize::from(setting.limits.stack) {
-        return Err(StepFault::Refused(Reason::Overflow));
+        let depth = state.stack.len() as u32;
+        return Err(StepFault::Refused(Failed::TooDeep { depth }));
     }
     state.order_facts();
     Ok(moves)
 }
 
 /// Carries out the instruction at a point on a state that the caller owns, and returns where the
-/// program goes on. After a refusal the state's content is unspecified.
+/// program goes on. After a refusal the state's content is unspecified, except that a stack which
+/// would be too deep is as deep as is told.
 ///
 /// # Errors
-/// `Refused` with the reason of the first test of the instruction that fails; `OutOfMemory`.
+/// `Refused` with the first test of the instruction that fails; `OutOfMemory`.
 pub fn step(setting: &Setting<'_>, point: &Point<'_>, state: &mut State) -> Result<Moves, StepFault>
     requires { StartsAt setting.now point.now }
     ensures ok { IfOk result (StepsTo setting.now point.now state.old state.new) }
     ensures refused { IfErr result (IsStepRefusedFor setting.now point.now state.old) }
+    ensures told { IfErr result
+        (TellsWhatFails setting.now point.now state.old (length state.new.stack)) }
     ensures in_range { state_order.InRange state.old
         → IfOk result (λ _. state_order.InRange state.new) }
 {
     let program = setting.program(point);
     let Some(instr) = program.at(point.offset) else {
-        return Err(StepFault::Refused(Reason::Target));
+        return Err(StepFault::Refused(NO_INSTRUCTION));
     };
     prove!(point.offset < program.len());
     execute(setting, point, state, &instr)
@@ -100,7 +112,7 @@ pub struct Stepped {
 /// starts there. After a refusal the state's content is unspecified.
 ///
 /// # Errors
-/// `Refused` with `Target` where none starts there, and otherwise as `step` refuses; `OutOfMemory`.
+/// `Refused` for `Target` where none starts there, and otherwise as `step` refuses; `OutOfMemory`.
 pub fn step_at(
     setting: &Setting<'_>,
     point: &Point<'_>,
@@ -111,15 +123,17 @@ pub fn step_at(
     ensures end { IfOk result
         (λ step. EndsAt (setting_of setting.now) (frames_of point.now, point.now.offset) step.end) }
     ensures refused { IfErr result (IsStepRefusedFor setting.now point.now state.old) }
+    ensures told { IfErr result
+        (TellsWhatFails setting.now point.now state.old (length state.new.stack)) }
     ensures in_range { state_order.InRange state.old
         → IfOk result (λ _. state_order.InRange state.new) }
 {
     let program = setting.program(point);
     let Some((instr, body)) = program.found_at(point.offset) else {
-        return Err(StepFault::Refused(Reason::Target));
+        return Err(StepFault::Refused(NO_INSTRUCTION));
     };
     if !is_same_body(body_of(point), body) {
-        return Err(StepFault::Refused(Reason::Target));
+        return Err(StepFault::Refused(NO_INSTRUCTION));
     }
     prove!(point.offset < program.len());
     prove!(instr.len() > 0);

@@ -8,6 +8,7 @@ pub mod cells;
 mod changes;
 mod compute;
 mod control;
+pub mod failed;
 pub mod graphics;
 mod instruction;
 pub mod laws;
@@ -28,6 +29,7 @@ pub mod step_fault;
 mod successors;
 
 pub use cells::{Cell, ZoneCell};
+pub use failed::{Failed, Register, Role};
 pub use instruction::{Stepped, step, step_at};
 pub use moves::{Move, Moves};
 pub use order::{AbsFault, Order};

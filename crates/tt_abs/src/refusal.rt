@@ -1,9 +1,9 @@
 //! Why a program is refused, and where.
 
+use crate::failed::Failed;
 use crate::spot::Spot;
 use std::alloc::AllocError;
 use thiserror::Error;
-use tt_code::Reason;
 
 /// Why a program isn't accepted: it is refused by the finder, since no family is good for it, or by
 /// the check, since its certificate's family isn't; or memory ran out, or the budget is exceeded.
@@ -11,11 +11,11 @@ use tt_code::Reason;
 pub enum Refusal {
     /// What is broken first, and where: in which program, and at which offset there. An offset
     /// above 4,294,967,295 is given as that number.
-    #[error("{reason}")]
+    #[error("{failed}")]
     Refused {
         spot: Spot,
         offset: u32,
-        reason: Reason,
+        failed: Failed,
     },
     /// A growth of memory was refused, or the budget is exceeded, as the budget tells.
     /// Neither tells anything of the program.

@@ -4,9 +4,10 @@
 ghost use Rattle.std.specs.Prelude.{◌≡◌, ◌<◌, ◌≤ℤ◌, ◌^◌, [], Some, ℤ, pos};
 ghost use Rattle.tt_code.specs.Control.{may_define as may_define_functions};
 ghost use Rattle.tt_code.specs.Fonts.{cvt_setting, font_setting, glyph_setting};
-ghost use Rattle.tt_code.specs.Settings.{One, body_name as name_of_body, body_of as body_of_frames, body_offset as offset_of_body, contours_in, is_body, is_main_end, is_target as is_jump_target, program_of, starts_in_body, zone_size};
+ghost use Rattle.tt_code.specs.Settings.{Setting as AnySetting, One, body_name as name_of_body, body_of as body_of_frames, body_offset as offset_of_body, contours_in, is_body, is_main_end, is_target as is_jump_target, program_of, starts_in_body, zone_size};
 ghost use Rattle.tt_code.specs.Operands.{is_zone as is_zone_number};
 ghost use Rattle.tt_code.specs.States.{is_below};
+ghost use Rattle.tt_abs.specs.Failures.{both_zones as zone_of_both, zone_within as zone_of_within};
 ghost use Rattle.tt_abs.specs.Ranges.{IsSettingInRange};
 ghost use Rattle.tt_abs.specs.Settings.{frames_of, programs_of, setting_of};
 ghost use Rattle.tt_abs.specs.Spots.{spot_of};
@@ -119,6 +120,30 @@ pub(crate) fn is_same_body(body: Body, other: Body) -> bool
     }
 }
 
+/// Returns the zone that both are, or either one where they differ.
+fn both_zones(one: ZoneCell, other: ZoneCell) -> ZoneCell
+    ensures { result ≡ zone_of_both one other }
+{
+    match (one, other) {
+        (ZoneCell::Zero, ZoneCell::Zero) => ZoneCell::Zero,
+        (ZoneCell::One, ZoneCell::One) => ZoneCell::One,
+        _ => ZoneCell::Either,
+    }
+}
+
+/// Returns the zone in which a point number is tested, or either one where it is tested in both.
+pub(crate) fn zone_within(graphics: &Graphics<Cell, ZoneCell>, within: Within) -> ZoneCell
+    ensures zone { result ≡ zone_of_within graphics.now within }
+    ensures points { (s : AnySetting) (z : ℤ)
+        → is_below_in (zone_size s) result z ≡ is_point_in s graphics.now within z }
+{
+    match within {
+        Within::In(p) => pointer(graphics, p),
+        Within::Both(p, q) => both_zones(pointer(graphics, p), pointer(graphics, q)),
+        Within::GlyphAnd(p) => both_zones(ZoneCell::One, pointer(graphics, p)),
+    }
+}
+
 /// Whether the number is an index below the bound.
 pub fn is_index(number: i32, bound: u32) -> bool
     ensures { result ≡ is_below number bound }
@@ -225,7 +250,7 @@ impl<'a> Setting<'a> {
 
     /// Returns how many points the zone has; where it may be either zone, the smaller number of the
     /// two.
-    fn points_in(&self, zone: ZoneCell) -> u32
+    pub fn points_in(&self, zone: ZoneCell) -> u32
         ensures { (z : ℤ)
             → is_below z result ≡ is_below_in (zone_size (setting_of self.now)) zone z }
     {
@@ -237,25 +262,6 @@ impl<'a> Setting<'a> {
         }
     }
 
-    /// Returns how many points there are in the smallest of the zones in which a point number is
-    /// tested; where a pointer may name either zone, both are among these.
-    fn points_within(&self, graphics: &Graphics<Cell, ZoneCell>, within: Within) -> u32
-        ensures { (z : ℤ)
-            → is_below z result ≡ is_point_in (setting_of self.now) graphics.now within z }
-    {
-        match within {
-            Within::In(p) => self.points_in(pointer(graphics, p)),
-            Within::Both(p, q) => {
-                let points = self.points_in(pointer(graphics, p));
-                points.min(self.points_in(pointer(graphics, q)))
-            }
-            Within::GlyphAnd(p) => {
-                let points = self.glyph_zone();
-                points.min(self.points_in(pointer(graphics, p)))
-            }
-        }
-    }
-
     /// Whether the number is that of a point in the zone; where it may be either zone, in both.
     pub(crate) fn is_in(&self, zone: ZoneCell, number: i32) -> bool
         ensures { result ≡ is_below_in (zone_size (setting_of self.now)) zone number }
@@ -263,27 +269,24 @@ impl<'a> Setting<'a> {
         is_index(number, self.points_in(zone))
     }
 
-    /// Whether the number is that of a point in each zone in which it is tested.
-    pub(crate) fn is_point(
-        &self,
-        graphics: &Graphics<Cell, ZoneCell>,
-        within: Within,
-        number: i32,
-    ) -> bool
-        ensures { result ≡ is_point_in (setting_of self.now) graphics.now within number }
+    /// Returns how many contours the zone has; where it may be either zone, the smaller number of
+    /// the two.
+    pub fn contours_in(&self, zone: ZoneCell) -> u32
+        ensures { (z : ℤ)
+            → is_below z result ≡ is_below_in (contours_in (setting_of self.now)) zone z }
     {
-        is_index(number, self.points_within(graphics, within))
+        match zone {
+            ZoneCell::Zero => 1,
+            ZoneCell::One => self.glyph_contours(),
+            ZoneCell::Either => self.glyph_contours().min(1),
+        }
     }
 
     /// Whether the number is that of a contour in the zone; where it may be either zone, in both.
     pub(crate) fn is_contour(&self, zone: ZoneCell, number: i32) -> bool
         ensures { result ≡ is_below_in (contours_in (setting_of self.now)) zone number }
     {
-        match zone {
-            ZoneCell::Zero => is_index(number, 1),
-            ZoneCell::One => is_index(number, self.glyph_contours()),
-            ZoneCell::Either => is_index(number, 1) && is_index(number, self.glyph_contours()),
-        }
+        is_index(number, self.contours_in(zone))
     }
 
     /// States that the programs consist of bytes and are shorter than 2^31 bytes, and that

@@ -1,31 +1,35 @@
 //! The instructions that move the stack's cells.
 
-ghost use Rattle.std.specs.Prelude.{◌≡◌, ◌+◌, ◌∷◌, [], Err, IfErr, IfOk, List, OnOk, drop, pos, suc};
+ghost use Rattle.std.specs.Prelude.{◌≡◌, ◌+◌, ◌∷◌, [], Err, IfErr, IfOk, List, OnOk, drop, length, pos, suc};
 ghost use Rattle.tt_code.specs.Computing.{element};
 ghost use Rattle.tt_code.specs.declared.kinds.StackOp.TheVariants as op;
-ghost use Rattle.tt_code.specs.declared.reason.Reason.TheVariants as reason;
+ghost use Rattle.tt_abs.specs.Failures.{reason_of};
+ghost use Rattle.tt_abs.specs.Moves.{ForFailed};
+ghost use Rattle.tt_abs.specs.Representation.Taken.{TellsOfStack};
 ghost use Rattle.tt_abs.specs.Representation.Steps.{IsNamedCell, IsStackRefusedFor, NamesNoCell, Restacks};
 ghost use Rattle.tt_abs.specs.Transfers.{shuffled_cells};
 ghost use Rattle.tt_abs.specs.declared.cells.Cell.{Cell as AnyCell};
+ghost use Rattle.tt_abs.specs.declared.failed.Failed.TheVariants as failed;
 
 use crate::cells::Cell;
-use crate::operands::number;
+use crate::failed::{Failed, Role};
+use crate::operands::{number, too_few};
 use crate::stack::Stack;
 use crate::step_fault::StepFault;
-use tt_code::Reason;
 use tt_code::kinds::StackOp;
 
 /// Returns the cell under `taken` others.
 ///
 /// # Errors
-/// `Underflow` where there is no such cell.
-pub fn cell_under(stack: &Stack, taken: usize) -> Result<Cell, Reason>
+/// `TooFew` where there is no such cell.
+pub fn cell_under(stack: &Stack, taken: usize) -> Result<Cell, Failed>
     ensures ok { IfOk result (λ c. drop taken stack.now ≡ c ∷ drop (taken + 1) stack.now) }
-    ensures refused { IfErr result (λ r. (drop taken stack.now ≡ []) × (r ≡ reason.Underflow)) }
+    ensures refused { IfErr result (λ f. drop taken stack.now ≡ []) }
+    ensures told { IfErr result (λ f. f ≡ failed.TooFew (length stack.now)) }
 {
     match stack.under(taken) {
         Some(cell) => Ok(cell),
-        None => Err(Reason::Underflow),
+        None => Err(too_few(stack)),
     }
 }
 
@@ -33,6 +37,7 @@ pub fn cell_under(stack: &Stack, taken: usize) -> Result<Cell, Reason>
 fn duplicate(stack: &mut Stack) -> Result<(), StepFault>
     ensures ok { OnOk result (Restacks (shuffled_cells op.Dup) stack.old stack.new) }
     ensures refused { IfErr result (IsStackRefusedFor (shuffled_cells op.Dup) stack.old) }
+    ensures told { IfErr result (λ e. ForFailed e (TellsOfStack stack.old)) }
 {
     let top = cell_under(stack, 0)?;
     stack.push(top)?;
@@ -43,6 +48,7 @@ fn duplicate(stack: &mut Stack) -> Result<(), StepFault>
 fn discard(stack: &mut Stack) -> Result<(), StepFault>
     ensures ok { OnOk result (Restacks (shuffled_cells op.Pop) stack.old stack.new) }
     ensures refused { IfErr result (IsStackRefusedFor (shuffled_cells op.Pop) stack.old) }
+    ensures told { IfErr result (λ e. ForFailed e (TellsOfStack stack.old)) }
 {
     cell_under(stack, 0)?;
     stack.cut(1);
@@ -53,6 +59,7 @@ fn discard(stack: &mut Stack) -> Result<(), StepFault>
 fn swap(stack: &mut Stack) -> Result<(), StepFault>
     ensures ok { OnOk result (Restacks (shuffled_cells op.Swap) stack.old stack.new) }
     ensures refused { IfErr result (IsStackRefusedFor (shuffled_cells op.Swap) stack.old) }
+    ensures told { IfErr result (λ e. ForFailed e (TellsOfStack stack.old)) }
 {
     let top = cell_under(stack, 0)?;
     let second = cell_under(stack, 1)?;
@@ -66,6 +73,7 @@ fn swap(stack: &mut Stack) -> Result<(), StepFault>
 fn push_depth(stack: &mut Stack) -> Result<(), StepFault>
     ensures ok { OnOk result (Restacks (shuffled_cells op.Depth) stack.old stack.new) }
     ensures refused { IfErr result (IsStackRefusedFor (shuffled_cells op.Depth) stack.old) }
+    ensures told { IfErr result (λ e. ForFailed e (TellsOfStack stack.old)) }
 {
     let depth = stack.len() as i32;
     stack.push(Cell::Known(depth))?;
@@ -73,33 +81,39 @@ fn push_depth(stack: &mut Stack) -> Result<(), StepFault>
 }
 
 /// Returns the position that an index from 1 names, the top being 0.
-fn place(index: i32) -> Result<usize, Reason>
+fn place(index: i32) -> Result<usize, Failed>
     ensures ok { IfOk result (λ n. index ≡ pos (suc n)) }
-    ensures refused { IfErr result (λ r. (cells : List AnyCell) → element index cells ≡ Err r) }
+    ensures refused { IfErr result
+        (λ f. (cells : List AnyCell) → element index cells ≡ Err (reason_of f)) }
+    ensures told { IfErr result (λ f. f ≡ failed.LowIndex index) }
 {
     match usize::try_from(index) {
         Ok(n) if n > 0 => Ok(n - 1),
-        _ => Err(Reason::Count),
+        _ => Err(Failed::LowIndex { index }),
     }
 }
 
 /// Reads the index on top: returns how many cells lie above the cell that it names, the index
 /// itself not counted, and that cell.
-fn indexed(stack: &Stack) -> Result<(usize, Cell), Reason>
+fn indexed(stack: &Stack) -> Result<(usize, Cell), Failed>
     ensures ok { IfOk result (IsNamedCell stack.now) }
     ensures refused { IfErr result (NamesNoCell stack.now) }
+    ensures told { IfErr result (TellsOfStack stack.now) }
 {
     let top = cell_under(stack, 0)?;
-    let index = number(top)?;
+    let index = number(top, Role::StackIndex, 0)?;
     let above = place(index)?;
-    let cell = cell_under(stack, above + 1)?;
-    Ok((above, cell))
+    match cell_under(stack, above + 1) {
+        Ok(cell) => Ok((above, cell)),
+        Err(_) => Err(Failed::NoElement { index }),
+    }
 }
 
 /// Carries out CINDEX: copies the cell that the top names.
 fn copy_indexed(stack: &mut Stack) -> Result<(), StepFault>
     ensures ok { OnOk result (Restacks (shuffled_cells op.CopyIndexed) stack.old stack.new) }
     ensures refused { IfErr result (IsStackRefusedFor (shuffled_cells op.CopyIndexed) stack.old) }
+    ensures told { IfErr result (λ e. ForFailed e (TellsOfStack stack.old)) }
 {
     let (_, cell) = indexed(stack)?;
     stack.cut(1);
@@ -111,6 +125,7 @@ fn copy_indexed(stack: &mut Stack) -> Result<(), StepFault>
 fn move_indexed(stack: &mut Stack) -> Result<(), StepFault>
     ensures ok { OnOk result (Restacks (shuffled_cells op.MoveIndexed) stack.old stack.new) }
     ensures refused { IfErr result (IsStackRefusedFor (shuffled_cells op.MoveIndexed) stack.old) }
+    ensures told { IfErr result (λ e. ForFailed e (TellsOfStack stack.old)) }
 {
     let (above, cell) = indexed(stack)?;
     stack.cut(1);
@@ -123,6 +138,7 @@ fn move_indexed(stack: &mut Stack) -> Result<(), StepFault>
 fn roll(stack: &mut Stack) -> Result<(), StepFault>
     ensures ok { OnOk result (Restacks (shuffled_cells op.Roll) stack.old stack.new) }
     ensures refused { IfErr result (IsStackRefusedFor (shuffled_cells op.Roll) stack.old) }
+    ensures told { IfErr result (λ e. ForFailed e (TellsOfStack stack.old)) }
 {
     let top = cell_under(stack, 0)?;
     let second = cell_under(stack, 1)?;
@@ -143,6 +159,7 @@ fn roll(stack: &mut Stack) -> Result<(), StepFault>
 pub fn shuffle(stack: &mut Stack, operation: StackOp) -> Result<(), StepFault>
     ensures ok { OnOk result (Restacks (shuffled_cells operation) stack.old stack.new) }
     ensures refused { IfErr result (IsStackRefusedFor (shuffled_cells operation) stack.old) }
+    ensures told { IfErr result (λ e. ForFailed e (TellsOfStack stack.old)) }
 {
     match operation {
         StackOp::Dup => duplicate(stack),

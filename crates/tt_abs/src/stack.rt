@@ -258,7 +258,7 @@ impl Stack {
     /// Returns the cell under `taken` others, if there is one: under 0 others is the top.
     pub fn under(&self, taken: usize) -> Option<Cell>
         ensures cell { result ≡ first (drop taken self.now) }
-        ensures room { IfSome result (λ _. taken + 1 < 2 ^ 64) }
+        ensures small { IfSome result (λ _. taken < 2 ^ 31) }
     {
         let depth = self.len();
         if taken < depth {

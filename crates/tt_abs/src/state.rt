@@ -49,7 +49,7 @@ const DEFAULT: Graphics<Cell, ZoneCell> = Graphics {
 };
 
 impl State {
-    ghost use Rattle.std.specs.Prelude.{◌≡◌, ◌<◌, ◌≤◌, ◌+◌, ◌∷◌, ◌↔◌, length, reverse, slice_get, IsTrue, IfOk, OnOk, OnErr, [], drop};
+    ghost use Rattle.std.specs.Prelude.{◌≡◌, ◌<◌, ◌≤◌, ◌+◌, ◌^◌, ◌∷◌, ◌↔◌, length, reverse, slice_get, IsTrue, IfOk, OnOk, OnErr, [], drop};
     ghost use Rattle.tt_code.specs.States.{pointer, reference, with_pointer, with_reference};
     ghost use Rattle.tt_abs.specs.Entries.{Ascends, storage_of, with_cell, with_entry};
     ghost use Rattle.tt_abs.specs.Registers.{pointer_numbered, reference_numbered};
@@ -133,7 +133,8 @@ impl State {
 
     /// Returns how many cells the stack has.
     pub fn depth(&self) -> usize
-        ensures { result ≡ length self.now.stack }
+        ensures value { result ≡ length self.now.stack }
+        ensures small { result < 2 ^ 31 }
     {
         self.stack.len()
     }

@@ -1,28 +1,28 @@
 //! Why an instruction is refused.
 
+use crate::failed::Failed;
 use std::alloc::AllocError;
 use thiserror::Error;
-use tt_code::Reason;
 
 /// Why an instruction is refused at its place.
 #[derive(Debug, Drop, Error)]
 pub enum StepFault {
     /// A test of the instruction fails.
     #[error(transparent)]
-    Refused(Reason),
+    Refused(Failed),
     /// Memory ran out, which is no fault of the program.
     #[error(transparent)]
     OutOfMemory(AllocError),
 }
 
-impl From<Reason> for StepFault {
+impl From<Failed> for StepFault {
     ghost use Rattle.std.specs.Prelude.{◌≡◌};
     ghost use Rattle.tt_abs.specs.declared.step_fault.StepFault.{StepFault};
 
     ghost from_gives = { λ r e. e ≡ StepFault.Refused r };
 
-    fn from(reason: Reason) -> StepFault {
-        StepFault::Refused(reason)
+    fn from(failed: Failed) -> StepFault {
+        StepFault::Refused(failed)
     }
 }
 

@@ -2,10 +2,11 @@
 
 ghost use Rattle.std.specs.Prelude.{◌≡◌, IfErr, IfOk, false};
 ghost use Rattle.tt_abs.specs.Covers.{has_body_twice};
-ghost use Rattle.tt_abs.specs.Moves.{GivesByMachines, IsRefusedByMachines, IsStepRefusedFor, StartsAt, StepsTo};
-ghost use Rattle.tt_abs.specs.Settings.{frames_of};
-ghost use Rattle.tt_abs.specs.States.{state_order};
-ghost use Rattle.tt_abs.specs.Successors.{AreInRange, IsRefusalBy, LeadTo, PassMachinesTo, RefuseMachines};
+ghost use Rattle.tt_abs.specs.Failures.{IsTold};
+ghost use Rattle.tt_abs.specs.Moves.{ForFailed, GivesByMachines, IsRefusedByMachines, IsStepRefusedFor, StartsAt, StepsTo};
+ghost use Rattle.tt_abs.specs.Settings.{frames_of, setting_of};
+ghost use Rattle.tt_abs.specs.States.{abstract_of, state_order};
+ghost use Rattle.tt_abs.specs.Successors.{AreInRange, IsRefusalBy, LeadTo, PassMachinesTo, RefuseMachines, TellsRefusal};
 
 use crate::instruction::step;
 use crate::moves::{Move, Moves};
@@ -43,7 +44,7 @@ struct Moved {
 /// as `transfer` does, with one state for all ways.
 ///
 /// # Errors
-/// `Refused` with the reason of the first test of the instruction that fails; `OutOfMemory`.
+/// `Refused` with the first test of the instruction that fails; `OutOfMemory`.
 fn step_copy(setting: &Setting<'_>, point: &Point<'_>, state: &State) -> Result<Moved, StepFault>
     requires starts { StartsAt setting.now point.now }
     requires once { has_body_twice (frames_of point.now) ≡ false }
@@ -54,6 +55,9 @@ fn step_copy(setting: &Setting<'_>, point: &Point<'_>, state: &State) -> Result<
         (λ s. GivesByMachines setting.now point.now state.now s.state s.moves) }
     ensures in_range { IfOk result (λ s. state_order.InRange s.state) }
     ensures reason { IfErr result (IsStepRefusedFor setting.now point.now state.now) }
+    ensures told { IfErr result (λ e. ForFailed e
+        (IsTold (setting_of setting.now) (frames_of point.now) point.now.offset
+        (abstract_of state.now))) }
     ensures refused { IfErr result (IsRefusedByMachines setting.now point.now state.now) }
 {
     prove!(setting.program(point).len() < 1 << 31);
@@ -69,8 +73,8 @@ fn step_copy(setting: &Setting<'_>, point: &Point<'_>, state: &State) -> Result<
 /// instruction, and the state given with it is the smallest that covers those there.
 ///
 /// # Errors
-/// `Refused` with the point's place and the reason of the first test of the instruction that
-/// fails, read on cells; `OutOfMemory`.
+/// `Refused` with the point's place and the first test of the instruction that fails, read on
+/// cells; `OutOfMemory`.
 pub fn transfer(
     setting: &Setting<'_>,
     point: &Point<'_>,
@@ -83,6 +87,7 @@ pub fn transfer(
     ensures gives { IfOk result (PassMachinesTo setting.now point.now state.now) }
     ensures in_range { IfOk result AreInRange }
     ensures reason { IfErr result (IsRefusalBy setting.now point.now state.now) }
+    ensures told { IfErr result (TellsRefusal setting.now point.now state.now) }
     ensures refused { IfErr result (RefuseMachines setting.now point.now state.now) }
 {
     match step_copy(setting, point, state) {
@@ -105,10 +110,10 @@ pub fn transfer(
             let way = Move::To(other);
             Ok(Successors::Two(first, Successor { way, state }))
         }
-        Err(StepFault::Refused(reason)) => Err(Refusal::Refused {
+        Err(StepFault::Refused(failed)) => Err(Refusal::Refused {
             spot: point.spot(),
             offset: point.offset,
-            reason,
+            failed,
         }),
         Err(StepFault::OutOfMemory(error)) => Err(Refusal::OutOfMemory(error)),
     }

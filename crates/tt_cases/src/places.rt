@@ -54,8 +54,8 @@ pub(crate) fn refusal_text(alloc: Global, refusal: &Refusal) -> Result<String, A
         Refusal::Refused {
             spot,
             offset,
-            reason,
-        } => (*spot, *offset, *reason),
+            failed,
+        } => (*spot, *offset, failed.reason()),
         Refusal::OutOfMemory(_) => return String::from_str(alloc, "9"),
     };
     let program = match spot {

@@ -10,6 +10,9 @@ use Rattle.tt_code.specs.Settings.{Setting, is_main_end}
 use Rattle.tt_code.specs.declared.machine.Frame.{Frame}
 use Rattle.tt_code.specs.declared.reason.Reason.{Reason}
 use Rattle.tt_code.specs.declared.reason.Reason.TheVariants.{MissingPoint, NotCovered, Storage}
+use Rattle.tt_abs.specs.Failures.{reason_of}
+use Rattle.tt_abs.specs.declared.failed.Failed.{Failed}
+use Rattle.tt_abs.specs.declared.failed.Failed.TheVariants.{Only}
 use Rattle.tt_abs.specs.declared.state.State.{State}
 use Rattle.tt_abs.specs.declared.moves.Move.{Move}
 use Rattle.tt_abs.specs.declared.moves.Move.TheVariants.{To, Enter, NextTurn, Return}
@@ -55,7 +58,7 @@ gap_same family L L' q t f _ gap = absurd gap
 
 pub named_gap_same : (family : Place → Option State) (L L' : Type 0) (q : Place) (t : State) → (L' → L) → (fault : Refusal) → NamesAt q (IsGap family L q t) fault
     → NamesAt q (IsGap family L' q t) fault
-named_gap_same family L L' q t f (Refused spot offset r) (a, b, gap) = (a, b, gap_same family L L' q t f r gap)
+named_gap_same family L L' q t f (Refused spot offset failed) (a, b, gap) = (a, b, gap_same family L L' q t f (reason_of failed) gap)
 named_gap_same family L L' q t f (OutOfMemory e) h = tt
 
 -- a move that doesn't stay in the body leads to no place just after
@@ -140,7 +143,7 @@ module _ (family : Place → Option State) (fs : List Frame) (after : Option ℕ
     -- it isn't met at the next one
     pub gap_next : AreAllBelow IsMetThere ns k → (fault : Refusal) → NamesAt (place_of_next n) (IsGap family (IsAfter fs after (place_of_next n)) (place_of_next n) t) fault
         → Names (IsFirstGap family (IsAfter fs after) ns t) fault
-    gap_next before (Refused spot offset r) h =
+    gap_next before (Refused spot offset failed) h =
         (place_of_next n, h.0, h.1, record { index = k; here = record { next = n; found = at; place = refl; gap = h.2 }; before = before })
     gap_next before (OutOfMemory error) h = tt
 
@@ -184,7 +187,7 @@ same_states fs ways b i n e =
     let (way, found, same) = map_found (next_by fs b) (ways_of ways) i n e in ap (λ (x : Next). x.state) same
 
 module _ (s : Setting) (family : Place → Option State) (L : Place → Type 0) (p : Place) (a : State) where
-  pub stores_here : (fault : Refusal) → fault ≡ Refused (spot_of p.0) (saturated_offset p.1) Storage → (IsStoredWithin s a → ⊥) → Names (BreaksAt s family L p a) fault
+  pub stores_here : (fault : Refusal) → fault ≡ Refused (spot_of p.0) (saturated_offset p.1) (Only Storage) → (IsStoredWithin s a → ⊥) → Names (BreaksAt s family L p a) fault
   stores_here fault e above = let N : Refusal → Type 0 = λ x. Names (BreaksAt s family L p a) x in subst N (sym e) (p, refl, refl, stores above)
 
   -- at the end only storage indexes are checked
@@ -268,11 +271,11 @@ module _ (s : Setting) (family : Place → Option State) (L : Place → Type 0) 
     gap_where q u r gap = gap_same family (IsAfter p.0 after q) (L q) q u (same_places q).1 r gap
 
     pub broken_here : (fault : Refusal) → Names (IsFirstGap family (IsAfter p.0 after) (nexts_of p.0 ways (abstract_of t)) t) fault → Names (BreaksAt s family L p a) fault
-    broken_here (Refused spot offset r) (q, e, f, first) = (
+    broken_here (Refused spot offset failed) (q, e, f, first) = (
       q,
       e,
       f,
-      leaves q r stored (record {
+      leaves q (reason_of failed) stored (record {
         running = running;
         nexts = nexts_of p.0 ways (abstract_of t);
         result = result;
@@ -281,18 +284,18 @@ module _ (s : Setting) (family : Place → Option State) (L : Place → Type 0) 
         same = same_states p.0 ways (abstract_of t);
         first = record {
           index = first.index;
-          here = record { next = first.here.next; found = first.here.found; place = first.here.place; gap = gap_where q t r first.here.gap };
+          here = record { next = first.here.next; found = first.here.found; place = first.here.place; gap = gap_where q t (reason_of failed) first.here.gap };
           before = λ i n lt at. met_where (place_of_next n) t (first.before i n lt at);
         };
       }),
     )
     broken_here (OutOfMemory error) h = tt
 
-  pub refused_here : IsStoredWithin s a → is_main_end s p.0 p.1 ≡ false → (fault : Refusal) (r : Reason) → fault ≡ Refused (spot_of p.0) (saturated_offset p.1) r
-      → outcome_on_cells s p.0 p.1 (abstract_of a) ≡ Err r → Names (BreaksAt s family L p a) fault
-  refused_here stored running fault r e h =
+  pub refused_here : IsStoredWithin s a → is_main_end s p.0 p.1 ≡ false → (fault : Refusal) (failed : Failed) → fault ≡ Refused (spot_of p.0) (saturated_offset p.1) failed
+      → outcome_on_cells s p.0 p.1 (abstract_of a) ≡ Err (reason_of failed) → Names (BreaksAt s family L p a) fault
+  refused_here stored running fault failed e h =
       let N : Refusal → Type 0 = λ x. Names (BreaksAt s family L p a) x in
-      subst N (sym e) (p, refl, refl, refused r stored (record { running = running; refused = h }))
+      subst N (sym e) (p, refl, refl, refused (reason_of failed) stored (record { running = running; refused = h }))
 
 -- frames that were turned round twice
 pub frames_back : (xs ys zs : List Frame) → xs ≡ ys → ys ≡ reverse zs → reverse xs ≡ zs

@@ -3,6 +3,7 @@ use Rattle.std.specs.Prelude.{◌≡◌, ℕ, Bool, true, false, Option, Some, L
 use Rattle.std.proofs.Common.{sym, ◌∙◌, ap, inl, inr}
 use Rattle.tt_code.specs.Settings.{Setting}
 use Rattle.tt_code.specs.declared.reason.Reason.{Reason}
+use Rattle.tt_abs.specs.Failures.{reason_of}
 use Rattle.tt_abs.specs.declared.state.State.{State}
 use Rattle.tt_abs.specs.Entries.{Ascends}
 use Rattle.tt_abs.specs.Families.{CoversAt, IsGood}
@@ -33,12 +34,12 @@ start_gap family t r gap covered = gap_not_met family ⊥ ([], 0) t r gap (inl c
 
 module _ (s : Setting) (functions : List (ℕ × ℕ)) (v : Contents) (IsFirst : Place → Reason → Type 0) where
   pub start_broken : IsShortEnough s s.kind → (fault : Refusal) → NamesAt ([], 0) (IsGap (family_of v) ⊥ ([], 0) (start_of functions)) fault → Names (IsBrokenBy s functions v IsFirst) fault
-  start_broken short (Refused spot offset r) h = (([], 0), h.0, h.1, no_start r short h.2)
+  start_broken short (Refused spot offset f) h = (([], 0), h.0, h.1, no_start (reason_of f) short h.2)
   start_broken short (OutOfMemory e) h = tt
 
   pub way_broken : IsShortEnough s s.kind → CoversAt state_order (family_of v) ([], 0) (start_of functions) → EndsWell s s.kind (family_of v) → (fault : Refusal)
       → Names IsFirst fault → Names (IsBrokenBy s functions v IsFirst) fault
-  way_broken short start ends (Refused spot offset r) (q, e, f, h) = (q, e, f, no_way q r short start ends h)
+  way_broken short start ends (Refused spot offset failed) (q, e, f, h) = (q, e, f, no_way q (reason_of failed) short start ends h)
   way_broken short start ends (OutOfMemory e) h = tt
 
   -- what is broken isn't good
@@ -51,13 +52,13 @@ module _ (s : Setting) (functions : List (ℕ × ℕ)) (v : Contents) (IsFirst :
     not_broken q r (no_way q' r' short' start' ends' h) = none q' r' h
 
     only_memory : (fault : Refusal) → Names (IsBrokenBy s functions v IsFirst) fault → IsOutOfMemory fault
-    only_memory (Refused spot offset r) (q, e, f, h) = not_broken q r h
+    only_memory (Refused spot offset failed) (q, e, f, h) = not_broken q (reason_of failed) h
     only_memory (OutOfMemory e) h = tt
 
 -- what is broken for the one is broken for the other
 broken_map : (s : Setting) (functions : List (ℕ × ℕ)) (v : Contents) (A B : Place → Reason → Type 0) → ((q : Place) (r : Reason) → A q r → B q r) → (fault : Refusal)
     → Names (IsBrokenBy s functions v A) fault → Names (IsBrokenBy s functions v B) fault
-broken_map s functions v A B f (Refused spot offset r) (q, e, g, h) = (q, e, g, go q r h)
+broken_map s functions v A B f (Refused spot offset failed) (q, e, g, h) = (q, e, g, go q (reason_of failed) h)
   where
     go : (q : Place) (r : Reason) → IsBrokenBy s functions v A q r → IsBrokenBy s functions v B q r
     go q r (too_long n) = too_long n

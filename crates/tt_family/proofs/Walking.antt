@@ -531,7 +531,7 @@ module _ (s : Setting) (listing : Listing) (v : Contents) (family : IsFamily v) 
     -- what is broken there is broken first
     pub first_on_way : (fault : Refusal) → Names (BreaksAt s (family_of v) (MayLeaveOut listing s here_is) here_is walk.made) fault
         → Names (IsFirstBreakOnTheWay s (MayLeaveOut listing s) v) fault
-    first_on_way (Refused spot o r) (q, e, f, breaks) = (
+    first_on_way (Refused spot o failed) (q, e, f, breaks) = (
       q,
       e,
       f,

@@ -5,6 +5,7 @@ use Rattle.tt_code.specs.Settings.{Setting, is_main_end}
 use Rattle.tt_code.specs.declared.machine.Frame.{Frame}
 use Rattle.tt_code.specs.declared.reason.Reason.{Reason}
 use Rattle.tt_code.specs.declared.reason.Reason.TheVariants.{MissingPoint, NotCovered, ProgramTooLong, Storage}
+use Rattle.tt_abs.specs.Failures.{reason_of}
 use Rattle.tt_abs.specs.declared.state.State.{State}
 use Rattle.tt_abs.specs.Families.{CoversAt}
 use Rattle.tt_abs.specs.Lines.{Precedes}
@@ -44,8 +45,8 @@ IsGap family MayBeLeftOut q t _ = ⊥
 
 -- the fault names the place and such a reason, or it is out of memory, which names none
 abbrev pub NamesAt : Place → (Reason → Type 0) → Refusal → Type 0
-NamesAt p Is (Refused spot offset reason) =
-    (spot ≡ spot_of p.0) × (offset ≡ saturated_offset p.1) × Is reason
+NamesAt p Is (Refused spot offset failed) =
+    (spot ≡ spot_of p.0) × (offset ≡ saturated_offset p.1) × Is (reason_of failed)
 NamesAt p Is (OutOfMemory e) = Unit {0}
 
 -- the fault names the place, at which the family doesn't cover the state, and says why
@@ -54,8 +55,8 @@ NamesGap family MayBeLeftOut q t = NamesAt q (IsGap family MayBeLeftOut q t)
 
 -- the fault names such a place and reason, or it is out of memory, which names none
 abbrev pub Names : (Place → Reason → Type 0) → Refusal → Type 0
-Names Is (Refused spot offset reason) =
-    (p : Place) × (spot ≡ spot_of p.0) × (offset ≡ saturated_offset p.1) × Is p reason
+Names Is (Refused spot offset failed) =
+    (p : Place) × (spot ≡ spot_of p.0) × (offset ≡ saturated_offset p.1) × Is p (reason_of failed)
 Names Is (OutOfMemory e) = Unit {0}
 
 -- the place of a next abstract state
@@ -209,5 +210,5 @@ IsFillingBrokenFirst s functions contents =
 
 -- the fault is out of memory: a growth of memory was refused, or the budget is exceeded
 abbrev pub IsOutOfMemory : Refusal → Type 0
-IsOutOfMemory (Refused spot offset reason) = ⊥
+IsOutOfMemory (Refused spot offset failed) = ⊥
 IsOutOfMemory (OutOfMemory e) = Unit {0}

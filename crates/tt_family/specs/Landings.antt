@@ -3,6 +3,7 @@ use Rattle.std.specs.Prelude.{◌≡◌, ℕ, ◌+◌, ◌≤◌, ◌<◌, ◌^�
 use Rattle.tt_code.specs.Settings.{body_offset}
 use Rattle.tt_code.specs.declared.machine.Frame.{Frame}
 use Rattle.tt_code.specs.declared.reason.Reason.TheVariants.{MissingPoint}
+use Rattle.tt_abs.specs.declared.failed.Failed.TheVariants.{Only}
 use Rattle.tt_abs.specs.Moves.{frames_after, offset_after}
 use Rattle.tt_abs.specs.StateFlow.{Place}
 use Rattle.tt_abs.specs.declared.moves.Move.{Move}
@@ -47,4 +48,4 @@ IsLanding contexts from place (Beyond context) =
 abbrev pub IsMissing : Contents → Place → Refusal → Type 0
 IsMissing contents place fault =
     (family_of contents place ≡ None)
-    × (fault ≡ Refused (spot_of place.0) (saturated_offset place.1) MissingPoint)
+    × (fault ≡ Refused (spot_of place.0) (saturated_offset place.1) (Only MissingPoint))

@@ -24,7 +24,7 @@ use crate::listing::{Listing, added_after};
 use crate::meeting::{Coverage, check_covered, check_successors, fault_in};
 use crate::states::States;
 use std::alloc::Global;
-use tt_abs::{Kind, Point, Refusal, Setting, Spot, StepFault, step_at};
+use tt_abs::{Failed, Kind, Point, Refusal, Setting, Spot, StepFault, step_at};
 use tt_code::Reason;
 
 /// Whether the indexes of these storage cells are below the limit.
@@ -130,7 +130,12 @@ fn check_point(
     walk.is_next = false;
     walk.carried = None;
     if !are_stored_within(walk.made.stored(), setting.limits.storage) {
-        return Err(fault_in(certificate, walk.context, offset, Reason::Storage));
+        return Err(fault_in(
+            certificate,
+            walk.context,
+            offset,
+            Failed::Only(Reason::Storage),
+        ));
     }
     let point = Point {
         frames: walk.frames.as_slice(),
@@ -141,8 +146,8 @@ fn check_point(
     }
     let step = match step_at(setting, &point, &mut walk.made) {
         Ok(step) => step,
-        Err(StepFault::Refused(reason)) => {
-            return Err(fault_in(certificate, walk.context, offset, reason));
+        Err(StepFault::Refused(failed)) => {
+            return Err(fault_in(certificate, walk.context, offset, failed));
         }
         Err(StepFault::OutOfMemory(error)) => return Err(Refusal::OutOfMemory(error)),
     };
@@ -210,7 +215,7 @@ fn check_listed(
         return Err(Refusal::Refused {
             spot: Spot::Main,
             offset: u32::from(setting.limits.program_size),
-            reason: Reason::ProgramTooLong,
+            failed: Failed::Only(Reason::ProgramTooLong),
         });
     }
     let mut states = certificate.states();
@@ -222,7 +227,7 @@ fn check_listed(
         return Err(Refusal::Refused {
             spot: Spot::Main,
             offset: setting.main.len(),
-            reason: Reason::MissingPoint,
+            failed: Failed::Only(Reason::MissingPoint),
         });
     }
     check_points(setting, listing, certificate, &mut walk, states, budget)

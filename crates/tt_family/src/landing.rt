@@ -9,7 +9,7 @@ use crate::builder::Builder;
 use crate::certificate::Certificate;
 use crate::slot_index::PointKey;
 use tt_abs::setting::body_offset;
-use tt_abs::{Move, Refusal, Spot};
+use tt_abs::{Failed, Move, Refusal, Spot};
 use tt_code::{Frame, Reason};
 
 /// The landing of a way: the context and the offset to which it leads from a context.
@@ -69,12 +69,12 @@ pub fn landing_of(builder: &Builder, context: u32, way: Move) -> Landing
 
 /// Returns the fault that names a place where the certificate has no state.
 fn missing(spot: Spot, offset: u32) -> Refusal
-    ensures { result ≡ Refusal.Refused spot offset Reason.MissingPoint }
+    ensures { result ≡ Refusal.Refused spot offset (Failed.Only Reason.MissingPoint) }
 {
     Refusal::Refused {
         spot,
         offset,
-        reason: Reason::MissingPoint,
+        failed: Failed::Only(Reason::MissingPoint),
     }
 }
 

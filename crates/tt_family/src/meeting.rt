@@ -10,7 +10,7 @@ ghost use Rattle.tt_family.specs.Representation.Cursors.{AreMadeMet, IsEntry, Is
 use crate::certificate::Certificate;
 use crate::cursor::{Cursor, is_coming, is_coming_after};
 use crate::landing::look_up_successor;
-use tt_abs::{Move, Moves, Order, Refusal, State};
+use tt_abs::{Failed, Move, Moves, Order, Refusal, State};
 use tt_code::Reason;
 
 /// How a state is covered at a place to which it goes, or added there.
@@ -42,16 +42,16 @@ pub(crate) fn fault_in(
     certificate: &Certificate,
     context: u32,
     offset: u32,
-    reason: Reason,
+    failed: Failed,
 ) -> Refusal
     requires { context < length certificate.now.contexts }
     ensures { result ≡ Refusal.Refused (spot_of (frames_at certificate.now.contexts context))
-        (saturated_offset offset) reason }
+        (saturated_offset offset) failed }
 {
     Refusal::Refused {
         spot: certificate.spot(context),
         offset,
-        reason,
+        failed,
     }
 }
 
@@ -90,14 +90,16 @@ pub(crate) fn check_covered(
             if may_be_left_out {
                 Ok(Coverage::Added)
             } else {
-                Err(fault_in(certificate, context, offset, Reason::MissingPoint))
+                let failed = Failed::Only(Reason::MissingPoint);
+                Err(fault_in(certificate, context, offset, failed))
             }
         }
         Some(above) => {
             if state.below(above) {
                 Ok(Coverage::Listed)
             } else {
-                Err(fault_in(certificate, context, offset, Reason::NotCovered))
+                let failed = Failed::Only(Reason::NotCovered);
+                Err(fault_in(certificate, context, offset, failed))
             }
         }
     }

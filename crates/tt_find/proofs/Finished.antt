@@ -7,6 +7,7 @@ use Rattle.tt_code.specs.Settings.{Setting, Kind, FontProgram, CvtProgram, Glyph
 use Rattle.tt_code.specs.declared.machine.Frame.{Frame}
 use Rattle.tt_code.specs.declared.reason.Reason.{Reason}
 use Rattle.tt_code.specs.declared.reason.Reason.TheVariants.{NeverEnds}
+use Rattle.tt_abs.specs.Failures.{reason_of}
 use Rattle.tt_abs.specs.declared.state.State.{State}
 use Rattle.tt_abs.specs.Families.{IsGood, joined, moved, started}
 use Rattle.tt_abs.specs.Lines.{Precedes}
@@ -278,7 +279,7 @@ module _ (s : Setting) (functions : List (ℕ × ℕ)) (laws : HasLaws s functio
   none_or_endless p r (never_ends family h) = inl refl
 
   pub none_good_from : (fault : Refusal) → NamesPlace (IsJustified s functions) fault → IsOutOfMemory fault ⊎ IsNeverEnding fault ⊎ NoneIsGood s functions
-  none_good_from (Refused spot offset r) (p, e, f, h) = elim (none_or_endless p r h) [ inl ends ↦ inr (inl ends) | inr none ↦ inr (inr none) ]
+  none_good_from (Refused spot offset failed) (p, e, f, h) = elim (none_or_endless p (reason_of failed) h) [ inl ends ↦ inr (inl ends) | inr none ↦ inr (inr none) ]
   none_good_from (OutOfMemory e) h = inl tt
 
   -- a family that lacks an end is of a program that may be long

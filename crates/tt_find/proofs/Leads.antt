@@ -4,6 +4,7 @@ use Rattle.std.proofs.Common.{refl, sym, ◌∙◌, ap, subst, inl, arith}
 use Rattle.tt_code.specs.Settings.{Setting}
 use Rattle.tt_code.specs.declared.machine.Frame.{Frame}
 use Rattle.tt_code.specs.declared.reason.Reason.TheVariants.{TooManyContexts}
+use Rattle.tt_abs.specs.declared.failed.Failed.TheVariants.{Only}
 use Rattle.tt_abs.specs.declared.moves.Move.{Move}
 use Rattle.tt_abs.specs.declared.moves.Moves.{Moves}
 use Rattle.tt_abs.specs.declared.state.State.{State}
@@ -78,13 +79,13 @@ module _ (s : Setting) (functions : List (ℕ × ℕ)) (laws : HasLaws s functio
       leading_ends s functions laws new p t (leading_put s functions laws old new p c off t [] source leading lt stored comes)
 
   -- the fault that tells of a context too many
-  pub not_entered : (p : Place) (fault : ContextFault) (result : Refusal) → (fault ≡ TooMany → result ≡ Refused (spot_of p.0) p.1 TooManyContexts) → (fault ≡ NoMemory → IsOutOfMemory result)
+  pub not_entered : (p : Place) (fault : ContextFault) (result : Refusal) → (fault ≡ TooMany → result ≡ Refused (spot_of p.0) p.1 (Only TooManyContexts)) → (fault ≡ NoMemory → IsOutOfMemory result)
       → (fault ≡ TooMany → IsJustified s functions p TooManyContexts) → NamesPlace (IsJustified s functions) result
-  not_entered p TooMany result full memory just = names_at (IsJustified s functions) p TooManyContexts result (full refl) (just refl)
+  not_entered p TooMany result full memory just = names_at (IsJustified s functions) p (Only TooManyContexts) result (full refl) (just refl)
   not_entered p NoMemory result full memory just = no_memory result (memory refl)
     where
       no_memory : (result : Refusal) → IsOutOfMemory result → NamesPlace (IsJustified s functions) result
-      no_memory (Refused spot offset r) never = absurd never
+      no_memory (Refused spot offset failed) never = absurd never
       no_memory (OutOfMemory e) h = tt
 
   -- The state is led to one place after the other.

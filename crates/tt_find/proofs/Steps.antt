@@ -9,6 +9,8 @@ use Rattle.tt_code.specs.Settings.{Setting, is_main_end}
 use Rattle.tt_code.specs.declared.machine.Frame.{Frame}
 use Rattle.tt_code.specs.declared.reason.Reason.{Reason}
 use Rattle.tt_code.specs.declared.reason.Reason.TheVariants.{DepthMismatch, TooManyContexts}
+use Rattle.tt_abs.specs.Failures.{reason_of}
+use Rattle.tt_abs.specs.declared.failed.Failed.{Failed}
 use Rattle.tt_abs.specs.declared.moves.Moves.{Moves}
 use Rattle.tt_abs.specs.declared.state.State.{State}
 use Rattle.tt_abs.proofs.FamilyLaws.{derived_height, derived_is}
@@ -45,7 +47,7 @@ use Rattle.tt_find.proofs.Waits.{point_behind, point_here}
 use Rattle.tt_find.proofs.Ways.{end_gives, end_safe, ways_give, ways_safe}
 
 pub names_map : (A B : Place → Reason → Type 0) → ((p : Place) (r : Reason) → A p r → B p r) → (fault : Refusal) → NamesPlace A fault → NamesPlace B fault
-names_map A B turn (Refused spot offset r) (p, e, f, h) = (p, e, f, turn p r h)
+names_map A B turn (Refused spot offset failed) (p, e, f, h) = (p, e, f, turn p (reason_of failed) h)
 names_map A B turn (OutOfMemory e) h = tt
 
 pub stop_map : (A B : Place → Reason → Type 0) (everywhere everywhere' : Bool) → everywhere ≡ everywhere' → ((p : Place) (r : Reason) → A p r → B p r) → (stop : Stop)
@@ -54,8 +56,8 @@ stop_map A B everywhere everywhere' same turn (Fault fault) h = names_map A B tu
 stop_map A B everywhere everywhere' same turn Restart h = sym same ∙ h
 
 -- a fault that is at a place
-pub names_at : (Is : Place → Reason → Type 0) (p : Place) (r : Reason) (fault : Refusal) → fault ≡ Refused (spot_of p.0) p.1 r → Is p r → NamesPlace Is fault
-names_at Is p r fault e h = let N : Refusal → Type 0 = λ x. NamesPlace Is x in subst N (sym e) (p, refl, refl, h)
+pub names_at : (Is : Place → Reason → Type 0) (p : Place) (failed : Failed) (fault : Refusal) → fault ≡ Refused (spot_of p.0) p.1 failed → Is p (reason_of failed) → NamesPlace Is fault
+names_at Is p failed fault e h = let N : Refusal → Type 0 = λ x. NamesPlace Is x in subst N (sym e) (p, refl, refl, h)
 
 -- a state that is put makes at most one update
 pub stored_updates : (old new : Solver) (context offset : ℕ) (a : State) (source : Origin) → IsStored old new context offset a source → updates_of new ≤ updates_of old + 1

@@ -5,6 +5,7 @@ use Rattle.tt_code.specs.Settings.{Setting}
 use Rattle.tt_code.specs.declared.machine.Frame.{Frame}
 use Rattle.tt_code.specs.declared.reason.Reason.{Reason}
 use Rattle.tt_code.specs.declared.reason.Reason.TheVariants.{DepthMismatch, MissingPoint, NeverEnds, ProgramTooLong, TooManyContexts}
+use Rattle.tt_abs.specs.Failures.{reason_of}
 use Rattle.tt_abs.specs.declared.state.State.{State}
 use Rattle.tt_abs.specs.Contexts.{FramesFit}
 use Rattle.tt_abs.specs.Families.{Derived, IsBelowFamily, IsGood}
@@ -172,8 +173,8 @@ pub data IsJustified (s : Setting) (functions : List (ℕ × ℕ)) : Place → R
 
 -- the fault names such a place, and the reason; out of memory is unspecified
 abbrev pub NamesPlace : (Place → Reason → Type 0) → Refusal → Type 0
-NamesPlace Is (Refused spot offset reason) =
-    (p : Place) × (spot ≡ spot_of p.0) × (offset ≡ p.1) × Is p reason
+NamesPlace Is (Refused spot offset failed) =
+    (p : Place) × (spot ≡ spot_of p.0) × (offset ≡ p.1) × Is p (reason_of failed)
 NamesPlace Is (OutOfMemory e) = Unit {0}
 
 -- The stop is a fault that names such a place; or the finder starts again, since a state was to be
@@ -184,5 +185,5 @@ NamesStop Is everywhere Restart = everywhere ≡ false
 
 -- the fault is that the end isn't reached
 abbrev pub IsNeverEnding : Refusal → Type 0
-IsNeverEnding (Refused spot offset reason) = reason ≡ NeverEnds
+IsNeverEnding (Refused spot offset failed) = reason_of failed ≡ NeverEnds
 IsNeverEnding (OutOfMemory e) = ⊥

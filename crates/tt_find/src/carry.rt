@@ -14,7 +14,7 @@ use crate::stop::Stop;
 use crate::successor::resolve_successor;
 use crate::walk::Walk;
 use std::alloc::AllocError;
-use tt_abs::{Moves, Point, Refusal, Setting, StepFault, Stepped, step_at};
+use tt_abs::{Failed, Moves, Point, Refusal, Setting, StepFault, Stepped, step_at};
 use tt_code::Reason;
 use tt_family::{Budget, Builder, ContextFault, added_after};
 
@@ -46,7 +46,7 @@ fn step_state(
     walk.known = None;
     match step_at(setting, &point, &mut walk.state) {
         Ok(step) => Ok(Some(step)),
-        Err(StepFault::Refused(reason)) => Err(refused_at(builder, walk.context, offset, reason)),
+        Err(StepFault::Refused(failed)) => Err(refused_at(builder, walk.context, offset, failed)),
         Err(StepFault::OutOfMemory(error)) => Err(Refusal::OutOfMemory(error)),
     }
 }
@@ -150,12 +150,13 @@ fn step_over(
 fn not_entered(builder: &Builder, context: u32, offset: u32, fault: ContextFault) -> Refusal
     requires { context < length builder.now.contexts }
     ensures full { fault ≡ ContextFault.TooManyContexts
-        → result ≡ refused_in builder.now context offset Reason.TooManyContexts }
+        → result ≡ refused_in builder.now context offset (Failed.Only Reason.TooManyContexts) }
     ensures memory { fault ≡ ContextFault.OutOfMemory → IsOutOfMemory result }
 {
     match fault {
         ContextFault::TooManyContexts => {
-            refused_at(builder, context, offset, Reason::TooManyContexts)
+            let failed = Failed::Only(Reason::TooManyContexts);
+            refused_at(builder, context, offset, failed)
         }
         ContextFault::OutOfMemory => Refusal::OutOfMemory(AllocError),
     }

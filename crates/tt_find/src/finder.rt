@@ -20,7 +20,7 @@ use crate::walk::Walk;
 use std::alloc::{AllocError, Global};
 use std::mem;
 use tt_abs::laws::flow_laws;
-use tt_abs::{Refusal, Setting, Spot};
+use tt_abs::{Failed, Refusal, Setting, Spot};
 use tt_code::Reason;
 use tt_family::{Budget, Builder, Certificate, ends_well, is_short};
 
@@ -207,12 +207,12 @@ fn fill(
 
 /// Returns the fault at a place of the main program.
 fn refused_in_main(offset: u32, reason: Reason) -> Refusal
-    ensures { result ≡ Refusal.Refused Spot.Main offset reason }
+    ensures { result ≡ Refusal.Refused Spot.Main offset (Failed.Only reason) }
 {
     Refusal::Refused {
         spot: Spot::Main,
         offset,
-        reason,
+        failed: Failed::Only(reason),
     }
 }
 

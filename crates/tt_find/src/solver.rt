@@ -14,8 +14,7 @@ use crate::origin::Origin;
 use crate::worklist::Worklist;
 use std::alloc::{AllocError, Global};
 use std::collections::BTreeSet;
-use tt_abs::{Refusal, Spot, State};
-use tt_code::Reason;
+use tt_abs::{Failed, Refusal, Spot, State};
 use tt_family::{Builder, JoinFault, Joined, PointKey};
 
 /// The family so far. Its states are kept at the points where ways meet; those in between are made
@@ -53,15 +52,15 @@ impl Drop for Solver {
     }
 }
 
-/// Returns the fault that names a point and this reason.
-pub(crate) fn refused_at(builder: &Builder, context: u32, offset: u32, reason: Reason) -> Refusal
+/// Returns the fault that names a point and this failed test.
+pub(crate) fn refused_at(builder: &Builder, context: u32, offset: u32, failed: Failed) -> Refusal
     requires { context < length builder.now.contexts }
-    ensures { result ≡ refused_in builder.now context offset reason }
+    ensures { result ≡ refused_in builder.now context offset failed }
 {
     Refusal::Refused {
         spot: builder.spot(context),
         offset,
-        reason,
+        failed,
     }
 }
 
@@ -117,7 +116,13 @@ impl Solver {
         let joined = match self.builder.put_state(context, offset, state) {
             Ok(joined) => joined,
             Err(JoinFault::DepthMismatch) => {
-                return Err(refused_at(&self.builder, context, offset, Reason::DepthMismatch));
+                let depth = state.depth() as u32;
+                return Err(refused_at(
+                    &self.builder,
+                    context,
+                    offset,
+                    Failed::OtherDepth { depth },
+                ));
             }
             Err(JoinFault::OutOfMemory) => return Err(Refusal::OutOfMemory(AllocError)),
         };

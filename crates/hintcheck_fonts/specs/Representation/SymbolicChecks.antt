@@ -4,6 +4,7 @@ use Rattle.tt_code.specs.Cut.{Instruction}
 use Rattle.tt_code.specs.Fonts.{Font, cvt_setting, font_setting}
 use Rattle.tt_code.specs.Settings.{Setting}
 use Rattle.tt_code.specs.declared.reason.Reason.TheVariants as reason
+use Rattle.tt_abs.specs.declared.failed.Failed.TheVariants.{Only}
 use Rattle.tt_abs.specs.declared.refusal.Refusal.{Refusal}
 use Rattle.tt_abs.specs.declared.refusal.Refusal.TheVariants as fault
 use Rattle.tt_abs.specs.declared.spot.Spot.TheVariants as spot
@@ -52,9 +53,9 @@ pub record IsEndedBy (j : SymbolicCheck) (x : Subject) (functions : List (ℕ ×
 
 -- what is reported of a program that the check refuses
 abbrev pub refusal_as : CheckRefusal → Refusal
-refusal_as (told.Refused spot offset r) = fault.Refused spot offset r
-refusal_as (told.KeptEntry spot offset) = fault.Refused spot offset reason.KeptEntry
-refusal_as told.BudgetMet = fault.Refused spot.Main 0 reason.TooManySteps
+refusal_as (told.Refused spot offset r) = fault.Refused spot offset (Only r)
+refusal_as (told.KeptEntry spot offset) = fault.Refused spot offset (Only reason.KeptEntry)
+refusal_as told.BudgetMet = fault.Refused spot.Main 0 (Only reason.TooManySteps)
 refusal_as (told.OutOfMemory e) = fault.OutOfMemory e
 
 -- what comes of the next program, and which one is next then

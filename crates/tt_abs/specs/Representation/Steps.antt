@@ -1,7 +1,9 @@
 -- What the code does in place, read as the outcome on cells. (Representation: no public clause
 -- cites it.)
-use Rattle.std.specs.Prelude.{◌≡◌, ℕ, ℤ, ◌+◌, List, ◌∷◌, Ok, Err, Bool, true, false, not, drop, length, pos, suc, take}
-use Rattle.tt_code.specs.Changes.{all_updated, updated}
+use Rattle.std.specs.Prelude.{◌≡◌, ℕ, ℤ, ◌+◌, List, ◌∷◌, Ok, Err, Some, Bool, true, false, not, drop, length, pos, suc, take}
+use Rattle.tt_code.specs.Changes.{all_updated, natural, updated}
+use Rattle.tt_code.specs.Control.{body_named}
+use Rattle.tt_code.specs.declared.machine.Frame.{Frame}
 use Rattle.tt_code.specs.Refusals.{Tested}
 use Rattle.tt_code.specs.States.{is_true}
 use Rattle.tt_code.specs.Table.{Lists, effect_of}
@@ -18,7 +20,11 @@ use Rattle.tt_abs.specs.declared.step_fault.StepFault.{StepFault}
 use Rattle.tt_abs.specs.declared.setting.Setting.{Setting}
 use Rattle.tt_abs.specs.declared.setting.Point.{Point}
 use Rattle.tt_abs.specs.declared.state.State.{State}
+use Rattle.tt_abs.specs.declared.failed.Failed.{Failed}
 use Rattle.tt_abs.specs.Cells.{Abstract}
+use Rattle.tt_abs.specs.declared.control.Callee.{Callee}
+use Rattle.tt_abs.specs.declared.control.Distance.{Distance}
+use Rattle.tt_abs.specs.Failures.{IsOnTop, Tells, reason_of}
 use Rattle.tt_abs.specs.Entries.{storage_of}
 use Rattle.tt_abs.specs.Moves.{ForReason, LeadsBy, nexts_of}
 use Rattle.tt_abs.specs.Settings.{frames_of, setting_of}
@@ -47,10 +53,10 @@ IsNamedCell stack r =
     × (drop r.0 below ≡ r.1 ∷ drop (r.0 + 1) below)
 
 -- the top names no cell, so that CINDEX and MINDEX are refused for this reason
-abbrev pub NamesNoCell : List Cell → Reason → Type 0
-NamesNoCell stack r =
-    RefusesStack (shuffled_cells CopyIndexed) stack r
-    × RefusesStack (shuffled_cells MoveIndexed) stack r
+abbrev pub NamesNoCell : List Cell → Failed → Type 0
+NamesNoCell stack f =
+    RefusesStack (shuffled_cells CopyIndexed) stack (reason_of f)
+    × RefusesStack (shuffled_cells MoveIndexed) stack (reason_of f)
 
 -- whether the instruction takes one operand: ABS, NEG and NOT do, the others take two
 abbrev pub takes_one : Arithmetic → Bool
@@ -113,9 +119,9 @@ Leads does point depth moves =
     → does stack a ≡ Ok (nexts_of (frames_of point) moves (record a { stack = stack }))
 
 -- with any stack of this depth, and whatever else is known, it is refused for this reason
-abbrev pub LeadsNowhere : (List Cell → Abstract → Tested (List Next)) → ℕ → Reason → Type 0
-LeadsNowhere does depth r =
-    (stack : List Cell) (a : Abstract) → length stack ≡ depth → does stack a ≡ Err r
+abbrev pub LeadsNowhere : (List Cell → Abstract → Tested (List Next)) → ℕ → Failed → Type 0
+LeadsNowhere does depth f =
+    (stack : List Cell) (a : Abstract) → length stack ≡ depth → does stack a ≡ Err (reason_of f)
 
 -- an IF at the point, by its cell, with this stack left
 abbrev pub if_at : Setting → Point → Cell → List Cell → Abstract → Tested (List Next)
@@ -143,10 +149,39 @@ JumpsTo setting point by depth n =
     → jump_target (setting_of setting) (frames_of point) point.offset by stack ≡ Ok n
 
 -- with any stack of this depth, a jump by the cell is refused for this reason
-abbrev pub JumpsNowhere : Setting → Point → Cell → ℕ → Reason → Type 0
-JumpsNowhere setting point by depth r =
+abbrev pub JumpsNowhere : Setting → Point → Cell → ℕ → Failed → Type 0
+JumpsNowhere setting point by depth f =
     (stack : List Cell) → length stack ≡ depth
-    → jump_target (setting_of setting) (frames_of point) point.offset by stack ≡ Err r
+    → jump_target (setting_of setting) (frames_of point) point.offset by stack ≡ Err (reason_of f)
+
+-- what is told of a jump of this distance is so, wherever its cell lies under so many others, and
+-- the jump leaves a stack of this depth
+abbrev pub TellsOfJump : Setting → Point → Distance → ℕ → Failed → Type 0
+TellsOfJump setting point distance depth f =
+    (a : Abstract) (below : List Cell) → drop distance.under a.stack ≡ distance.cell ∷ below
+    → Tells (setting_of setting) (frames_of point) point.offset a depth f
+
+-- the number on top is that of a function that is known to have this body
+abbrev pub IsNamed : List Cell → List (ℕ × ℕ) → ℤ → ℕ → Type 0
+IsNamed stack functions number body =
+    IsOnTop stack number × (body_named functions (natural number) ≡ Some body)
+
+-- what is told of a call by this cell is so, where the cell is on top
+abbrev pub TellsOfCall : Setting → State → Cell → Failed → Type 0
+TellsOfCall setting state top f = (fs : List Frame) (at : ℕ) (below : List Cell) (left : ℕ)
+    → state.stack ≡ top ∷ below → Tells (setting_of setting) fs at (abstract_of state) left f
+
+-- what is told of a test of this state is so, wherever it is and whatever depth is left
+abbrev pub TellsOfState : Setting → State → Failed → Type 0
+TellsOfState setting state f = (fs : List Frame) (at left : ℕ)
+    → Tells (setting_of setting) fs at (abstract_of state) left f
+
+-- what is told of entering a function is so, wherever the top names it and the call leaves a stack
+-- of this depth
+abbrev pub TellsOfEntry : Setting → Point → Callee → ℕ → Failed → Type 0
+TellsOfEntry setting point callee depth f = (a : Abstract)
+    → IsNamed a.stack a.functions callee.number callee.body
+    → Tells (setting_of setting) (frames_of point) point.offset a depth f
 
 -- the body that the cell names, where it is called
 abbrev pub called_at : Setting → State → Cell → Tested ℕ

@@ -6,6 +6,7 @@ use Rattle.tt_code.specs.Settings.{Setting, is_main_end}
 use Rattle.tt_code.specs.declared.machine.Frame.{Frame}
 use Rattle.tt_code.specs.declared.reason.Reason.{Reason}
 use Rattle.tt_code.specs.declared.reason.Reason.TheVariants.{DepthMismatch}
+use Rattle.tt_abs.specs.declared.failed.Failed.{Failed}
 use Rattle.tt_abs.specs.declared.moves.Move.{Move}
 use Rattle.tt_abs.specs.declared.moves.Moves.{Moves}
 use Rattle.tt_abs.specs.declared.state.State.{State}
@@ -262,10 +263,10 @@ StopsApart solver context offset t =
 abbrev pub KeepsEverywhere : Solver → Solver → Type 0
 KeepsEverywhere old new = new.marks.everywhere ≡ old.marks.everywhere
 
--- the fault that names an offset of a context, for this reason
-abbrev pub refused_in : Contents → ℕ → ℕ → Reason → Refusal
-refused_in contents context offset reason =
-    Refused (spot_of (frames_at contents.contexts context)) offset reason
+-- the fault that names an offset of a context, with this failed test
+abbrev pub refused_in : Contents → ℕ → ℕ → Failed → Refusal
+refused_in contents context offset failed =
+    Refused (spot_of (frames_at contents.contexts context)) offset failed
 
 -- the state is refused at this place
 pub record IsRefusedAt (s : Setting) (at : Place) (state : State) (p : Place) (r : Reason)

@@ -18,7 +18,7 @@ use Rattle.hintcheck.proofs.ListingLemmas.{tells_unlisted}
 use Rattle.hintcheck.proofs.instruction_list.list_named.Goals as goal
 
 refusal_of : (x : Subject) (f : Refusal) → IfRefused x.name f (IsRefusedFor x) → IfRefused x.name f (IsRefusal x)
-refusal_of x (fault.Refused spot offset r) is = is.refusal
+refusal_of x (fault.Refused spot offset failed) is = is.refusal
 refusal_of x (fault.OutOfMemory e) is = tt
 
 -- a program of these bytes in some font

@@ -8,6 +8,7 @@ use Rattle.tt_abs.specs.Transfers.{pushed_cells, plain_cells, shuffled_cells, co
 use Rattle.tt_abs.proofs.TableRows.{rows_of_one_kind, rows_tested}
 use Rattle.tt_abs.proofs.StepLemmas.{push_done, acts, acts_not, first_code, for_reason, passed_on}
 use Rattle.tt_abs.proofs.instruction.dispatch.Goals.{in-Plain+in_ok-execute_plain-in-Plain, in-Push+in_ok-push_data-in-Push, in-Stack+in_ok-shuffle-in-Stack, in-Arithmetic+in_ok-compute-in-Arithmetic}
+use Rattle.tt_abs.proofs.Told.{for_failed}
 use Rattle.tt_abs.proofs.instruction.dispatch.Goals as goal
 
 pub execute_plain-requires : goal.execute_plain-requires
@@ -62,3 +63,33 @@ returns-clause-ok c = λ code rest e.
           acts S fs at a (abstract_of c.match-entry.state) (Computes w.in-Arithmetic.operation) code rest c.len.result (computed_cells w.in-Arithmetic.operation a) (same ∙ ap view w.in-Arithmetic.is) (λ next. refl)
           (w.in_ok-compute-in-Arithmetic.ensures.ok a ∙ ap (λ s. Ok (abstract_of s)) (sym w.state-is)) size
     ]
+
+pub returns-in_err-execute_plain-in-Plain-clause-told : goal.returns-in_err-execute_plain-in-Plain-clause-told
+returns-in_err-execute_plain-in-Plain-clause-told c =
+    let S = setting_of c.args.setting.now in
+    let fs = frames_of c.args.point.now in
+    let at = c.args.point.now.offset in
+    let a = abstract_of c.args.state.now in
+    passed_on c.from_residual.result c.in_err-execute_plain-in-Plain.field-0.0 _
+    (for_failed c.in_err-execute_plain-in-Plain.field-0.0 _ _ (λ f h. h fs at _) c.in_err-execute_plain-in-Plain.ensures.told)
+    c.from_residual.ensures.1
+
+pub returns-in_err-shuffle-in-Stack-clause-told : goal.returns-in_err-shuffle-in-Stack-clause-told
+returns-in_err-shuffle-in-Stack-clause-told c =
+    let S = setting_of c.args.setting.now in
+    let fs = frames_of c.args.point.now in
+    let at = c.args.point.now.offset in
+    let a = abstract_of c.args.state.now in
+    passed_on c.from_residual-in_err-shuffle-in-Stack.result c.in_err-shuffle-in-Stack.field-0.0 _
+    (for_failed c.in_err-shuffle-in-Stack.field-0.0 _ _ (λ f h. h S fs at a _) c.in_err-shuffle-in-Stack.ensures.told)
+    c.from_residual-in_err-shuffle-in-Stack.ensures.1
+
+pub returns-in_err-compute-in-Arithmetic-clause-told : goal.returns-in_err-compute-in-Arithmetic-clause-told
+returns-in_err-compute-in-Arithmetic-clause-told c =
+    let S = setting_of c.args.setting.now in
+    let fs = frames_of c.args.point.now in
+    let at = c.args.point.now.offset in
+    let a = abstract_of c.args.state.now in
+    passed_on c.from_residual-in_err-compute-in-Arithmetic.result c.in_err-compute-in-Arithmetic.field-0.0 _
+    (for_failed c.in_err-compute-in-Arithmetic.field-0.0 _ _ (λ f h. h S fs at a _) c.in_err-compute-in-Arithmetic.ensures.told)
+    c.from_residual-in_err-compute-in-Arithmetic.ensures.1

@@ -36,3 +36,7 @@ pub returns-clause-in_range : goal.returns-clause-in_range
 returns-clause-in_range c = λ h.
     left_in_range (setting_of c.args.setting.now) (frames_of c.args.point.now) c.args.point.now.offset c.args.state.now c.dispatch.new.state c.in_ok-moves.moves c.range_facts.ensures.range h (returns-clause-ok c)
     c.order_facts.ensures.functions c.order_facts.ensures.storage
+
+pub returns-in_err-moves-clause-told : goal.returns-in_err-moves-clause-told
+returns-in_err-moves-clause-told c =
+    passed_on c.from_residual.result c.in_err-moves.field-0.0 _ c.in_err-moves.ensures.told c.from_residual.ensures.1

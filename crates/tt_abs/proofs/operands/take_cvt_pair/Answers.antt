@@ -5,4 +5,4 @@ use Rattle.tt_abs.proofs.Fronts.{pair_takes}
 use Rattle.tt_abs.proofs.operands.take_cvt_pair.Goals as goal
 
 pub returns-clause-ok : goal.returns-clause-ok
-returns-clause-ok c = pair_takes (tested_cell (λ z. is_below z c.args.cvt) reason.Cvt) c.args.stack.now c.args.taken c.in_ok-after.after c.take_any.result c.in_ok-after.ensures.ok c.take_any.ensures.ok
+returns-clause-ok c = pair_takes (tested_cell (λ z. is_below z c.args.setting.now.cvt) reason.Cvt) c.args.stack.now c.args.taken c.in_ok-after.after c.take_any.result c.in_ok-after.ensures.ok c.take_any.ensures.ok

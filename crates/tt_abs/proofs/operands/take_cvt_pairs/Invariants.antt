@@ -8,5 +8,5 @@ use Rattle.tt_abs.proofs.operands.take_cvt_pairs.Given as goal
 
 abbrev pub invariant-loop-i : goal.invariant-loop-i
 invariant-loop-i l =
-    GoesOn (pairs known_count (tested_cell (λ z. is_below z l.fn.cvt) reason.Cvt) (drop l.fn.taken l.fn.stack)) (drop l.after l.fn.stack)
-    (times (l.n - l.i) (pair (tested_cell (λ z. is_below z l.fn.cvt) reason.Cvt)))
+    GoesOn (pairs known_count (tested_cell (λ z. is_below z l.fn.setting.cvt) reason.Cvt) (drop l.fn.taken l.fn.stack)) (drop l.after l.fn.stack)
+    (times (l.n - l.i) (pair (tested_cell (λ z. is_below z l.fn.setting.cvt) reason.Cvt)))

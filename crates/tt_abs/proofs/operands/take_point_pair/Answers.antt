@@ -2,7 +2,13 @@ use Rattle.tt_code.specs.declared.reason.Reason.TheVariants as reason
 use Rattle.tt_abs.specs.Transfers.{tested_cell, is_point_in}
 use Rattle.tt_abs.specs.Settings.{setting_of}
 use Rattle.tt_abs.proofs.Fronts.{pair_takes}
+use Rattle.tt_abs.specs.Representation.Taken.{TellsOfOperands, TellsOfStack}
+use Rattle.tt_abs.proofs.Told.{stack_operands, wider}
 use Rattle.tt_abs.proofs.operands.take_point_pair.Goals as goal
 
 pub returns-clause-ok : goal.returns-clause-ok
 returns-clause-ok c = pair_takes (tested_cell (is_point_in (setting_of c.args.setting.now) c.args.graphics.now c.args.within) reason.Point) c.args.stack.now c.args.taken c.in_ok-after.after c.take_any.result c.in_ok-after.ensures.ok c.take_any.ensures.ok
+
+pub returns-clause-told : goal.returns-clause-told
+returns-clause-told c =
+    wider c.take_any.result (TellsOfStack c.args.stack.now) (TellsOfOperands c.args.setting.now c.args.graphics.now c.args.stack.now) (stack_operands c.args.setting.now c.args.graphics.now c.args.stack.now) c.take_any.ensures.told

@@ -1,9 +1,13 @@
 use Rattle.std.proofs.Common.{drop}
 use Rattle.tt_code.specs.Operands.{pair}
 use Rattle.tt_code.specs.declared.reason.Reason.TheVariants as reason
+use Rattle.tt_abs.specs.Failures.{reason_of}
 use Rattle.tt_abs.specs.Transfers.{tested_cell, is_point_in}
 use Rattle.tt_abs.specs.Settings.{setting_of}
 use Rattle.tt_abs.proofs.Fronts.{times_step, times_refused, refused_by, pairs_start}
+use Rattle.tt_abs.specs.Representation.Taken.{TellsOfOperands}
+use Rattle.tt_abs.proofs.Fronts.{told_by}
+use Rattle.tt_abs.proofs.Told.{stack_operands}
 use Rattle.tt_abs.proofs.operands.take_point_pairs.Goals as goal
 
 pub loop-i-init : goal.loop-i-init
@@ -19,5 +23,10 @@ loop-i-preserved c =
 pub returns-in_err-after-clause-refused : goal.returns-in_err-after-clause-refused
 returns-in_err-after-clause-refused c =
     refused_by c.from_residual-in_err-after.result c.in_err-after.field-0.0 _
-    (times_refused (pair (tested_cell (is_point_in (setting_of c.args.setting.now) c.args.graphics.now c.args.within) reason.Point)) c.in_ok-n.n c.loop-i.i _ (drop c.loop-i.after c.args.stack.now) c.in_err-after.field-0.0 c.loop-i-test.true c.loop-i.invariant c.in_err-after.ensures.refused)
+    (times_refused (pair (tested_cell (is_point_in (setting_of c.args.setting.now) c.args.graphics.now c.args.within) reason.Point)) c.in_ok-n.n c.loop-i.i _ (drop c.loop-i.after c.args.stack.now) (reason_of c.in_err-after.field-0.0) c.loop-i-test.true c.loop-i.invariant c.in_err-after.ensures.refused)
     c.from_residual-in_err-after.ensures.1
+
+pub returns-in_err-n-clause-told : goal.returns-in_err-n-clause-told
+returns-in_err-n-clause-told c =
+    told_by c.from_residual.result c.in_err-n.field-0.0 (TellsOfOperands c.args.setting.now c.args.graphics.now c.args.stack.now)
+    (stack_operands c.args.setting.now c.args.graphics.now c.args.stack.now c.in_err-n.field-0.0 c.in_err-n.ensures.told) c.from_residual.ensures.1

@@ -3,10 +3,18 @@ use Rattle.std.specs.Prelude.{FitsSigned}
 use Rattle.std.specs.Int.{w32}
 use Rattle.std.proofs.lemmas.Int.{to_z-of_z}
 use Rattle.tt_abs.proofs.Fronts.{tested_takes}
+use Rattle.tt_abs.specs.Representation.Taken.{TellsOfStackIn}
+use Rattle.tt_abs.proofs.Fronts.{told_by}
+use Rattle.tt_abs.proofs.Told.{stack_in}
 use Rattle.tt_abs.proofs.operands.take_zone.Goals as goal
 
 pub returns-then-is_zone-clause-ok : goal.returns-then-is_zone-clause-ok
 returns-then-is_zone-clause-ok c =
-    let fits : FitsSigned w32 c.in_ok-z.z = search rules in
-    let w = c.in_ok-z.ensures.ok in
-    tested_takes _ _ c.args.stack.now w.0 c.args.taken c.in_ok-z.after c.in_ok-z.z w.1 w.2 (simp to_z-of_z at (sym c.is_zone.ensures ∙ c.if-is_zone.true))
+    let fits : FitsSigned w32 c.in_ok-number.number = search rules in
+    let w = c.in_ok-number.ensures.ok in
+    tested_takes _ _ c.args.stack.now w.0 c.args.taken c.in_ok-number.after c.in_ok-number.number w.1 w.2 (simp to_z-of_z at (sym c.is_zone.ensures ∙ c.if-is_zone.true))
+
+pub returns-in_err-number-clause-told : goal.returns-in_err-number-clause-told
+returns-in_err-number-clause-told c =
+    told_by c.from_residual.result c.in_err-number.field-0.0 (TellsOfStackIn c.args.setting.now c.args.stack.now)
+    (stack_in c.args.setting.now c.args.stack.now c.in_err-number.field-0.0 c.in_err-number.ensures.told) c.from_residual.ensures.1

@@ -8,6 +8,8 @@ use Rattle.tt_abs.specs.Settings.{setting_of}
 use Rattle.tt_abs.specs.States.{abstract_of}
 use Rattle.tt_abs.specs.Representation.Steps.{line_of}
 use Rattle.tt_abs.proofs.PlainSteps.{updates_counted, pushes_counted, plain_done, plain_kept, changes_none}
+use Rattle.tt_abs.specs.Representation.Steps.{TellsOfState}
+use Rattle.tt_abs.proofs.Told.{graphics_state, operands_state, refused_told}
 use Rattle.tt_abs.proofs.plain.execute_plain.Goals as goal
 
 pub pushed_cells-requires : goal.pushed_cells-requires
@@ -38,3 +40,13 @@ returns-clause-ok c =
     ∙ ap Ok (plain_kept a a c.cut-2.new.self c.push_cells.new.stack taken (line_of c.args.line.now) c.in_ok-count.count c.in_ok-pushed.pushed.items
     (ap (λ us. record a { registers = all_updated cells taken us a.registers }) (sym none)) c.in_ok-pushed.ensures c.cut-2.ensures
     (c.in_ok-push_cells.ensures ∙ ap (λ l. cells_on l c.cut-2.new.self) c.as_slice.ensures))
+
+pub returns-in_err-count-clause-told : goal.returns-in_err-count-clause-told
+returns-in_err-count-clause-told c =
+    refused_told c.from_residual.result c.in_err-count.field-0.0 (TellsOfState c.args.setting.now c.args.state.now)
+    (operands_state c.args.setting.now c.args.state.now c.in_err-count.field-0.0 c.in_err-count.ensures.told) c.from_residual.ensures.1
+
+pub returns-in_err-test_uses-clause-told : goal.returns-in_err-test_uses-clause-told
+returns-in_err-test_uses-clause-told c =
+    refused_told c.from_residual-in_err-test_uses.result c.in_err-test_uses.field-0.0 (TellsOfState c.args.setting.now c.args.state.now)
+    (graphics_state c.args.setting.now c.args.state.now c.in_err-test_uses.field-0.0 c.in_err-test_uses.ensures.told) c.from_residual-in_err-test_uses.ensures.1

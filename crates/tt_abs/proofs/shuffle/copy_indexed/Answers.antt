@@ -1,5 +1,7 @@
 use Rattle.std.proofs.Common.{◌∙◌, ap, ◌∷◌}
 use Rattle.tt_abs.proofs.StackSteps.{copies_index}
+use Rattle.tt_abs.specs.Representation.Taken.{TellsOfStack}
+use Rattle.tt_abs.proofs.Told.{refused_told}
 use Rattle.tt_abs.proofs.shuffle.copy_indexed.Goals as goal
 
 pub returns-clause-ok : goal.returns-clause-ok
@@ -7,3 +9,7 @@ returns-clause-ok c =
     let w = c.in_ok-cell.ensures.ok in
     copies_index c.args.stack.now c.push.new.self w.1 w.0 c.in_ok-cell.cell c.in_ok-cell.field-0-0 w.2 w.3 w.4
     (c.in_ok-push.ensures.ok ∙ ap (λ l. c.in_ok-cell.cell ∷ l) c.cut.ensures)
+
+pub returns-in_err-cell-clause-told : goal.returns-in_err-cell-clause-told
+returns-in_err-cell-clause-told c =
+    refused_told c.from_residual.result c.in_err-cell.field-0.0 (TellsOfStack c.args.stack.now) c.in_err-cell.ensures.told c.from_residual.ensures.1

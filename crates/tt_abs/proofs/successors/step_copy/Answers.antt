@@ -1,4 +1,4 @@
-use Rattle.std.proofs.Common.{◌≡◌, ◌<◌, ◌≤◌, ◌^◌, ◌∙◌, ap, sym, arith}
+use Rattle.std.proofs.Common.{◌≡◌, ◌<◌, ◌≤◌, ◌^◌, ◌∙◌, ap, length, subst, sym, arith}
 use Rattle.tt_code.specs.Cut.{size}
 use Rattle.tt_code.specs.Settings.{program_of}
 use Rattle.tt_abs.specs.Transfers.{outcome_on_cells}
@@ -9,6 +9,9 @@ use Rattle.tt_abs.proofs.Everything.{outcome_gives, outcome_refused}
 use Rattle.tt_abs.proofs.Offsets.{starts_within}
 use Rattle.tt_abs.proofs.StateParts.{stack_to}
 use Rattle.tt_abs.proofs.StepLemmas.{for_reason, passed_on}
+use Rattle.tt_abs.specs.Failures.{Tells}
+use Rattle.tt_abs.specs.declared.state.State.{State}
+use Rattle.tt_abs.proofs.Told.{for_failed}
 use Rattle.tt_abs.proofs.successors.step_copy.Goals as goal
 
 pub returns-clause-gives : goal.returns-clause-gives
@@ -34,4 +37,16 @@ returns-in_err-moves-clause-refused c =
     (for_reason c.in_err-moves.field-0.0 _ _
     (λ q h. outcome_refused S fs at (abstract_of c.args.state.now) q small (stack_to c.args.state.now.stack c.requires.in_range.0) c.requires.once
     (ap (λ s. outcome_on_cells S fs at (abstract_of s)) (sym c.in_ok-next.ensures) ∙ h)) c.in_err-moves.ensures.refused)
+    c.from_residual-in_err-moves.ensures.1
+
+pub returns-in_err-moves-clause-told : goal.returns-in_err-moves-clause-told
+returns-in_err-moves-clause-told c =
+    let S = setting_of c.args.setting.now in
+    let fs = frames_of c.args.point.now in
+    let at = c.args.point.now.offset in
+    passed_on c.from_residual-in_err-moves.result c.in_err-moves.field-0.0 _
+    (for_failed c.in_err-moves.field-0.0 _ _
+    (λ f h.
+    let left = length c.step.new.state.stack in
+    let P : State → Type 0 = λ s. Tells S fs at (abstract_of s) left f in (left, subst P c.in_ok-next.ensures h)) c.in_err-moves.ensures.told)
     c.from_residual-in_err-moves.ensures.1

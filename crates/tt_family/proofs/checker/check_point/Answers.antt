@@ -2,6 +2,7 @@ use Rattle.std.proofs.Common.{rules, arith, ◌≡◌, ◌<◌, List, Ok, true, 
 use Rattle.std.specs.Prelude.{◌↔◌}
 use Rattle.tt_code.specs.Settings.{is_main_end}
 use Rattle.tt_code.specs.declared.machine.Frame.{Frame}
+use Rattle.tt_abs.specs.Failures.{reason_of}
 use Rattle.tt_abs.specs.Lines.{Precedes}
 use Rattle.tt_abs.specs.Moves.{nexts_of}
 use Rattle.tt_abs.specs.Settings.{setting_of}
@@ -51,8 +52,8 @@ returns-in-Err-Refused-clause-broken c =
     let running : is_main_end S fs c.args.offset ≡ false = ap (λ f. is_main_end S f c.args.offset) (sym back) ∙ sym c.is_end.ensures ∙ c.if-is_end.false in
     refused_here S (family_of c.args.certificate.now) (MayLeaveOut c.args.listing S P) P c.args.walk.now.made
     (stored_within S c.args.walk.now.made c.stored.result.now c.are_stored_within.result c.stored.ensures c.are_stored_within.ensures within) running c.fault_in-in-Err-Refused.result
-    c.in-Err-Refused.reason (c.fault_in-in-Err-Refused.ensures ∙ ap (Refused (spot_of fs) (saturated_offset c.args.offset)) c.in-Err-Refused.reason-is)
-    (refusal_moved S fs _ c.args.offset _ c.args.walk.now.made _ back refl refl c.in-Err-Refused.reason (rw c.in-Err-Refused.field-0-is at c.in-Err-Refused.ensures.refused))
+    c.in-Err-Refused.failed (c.fault_in-in-Err-Refused.ensures ∙ ap (Refused (spot_of fs) (saturated_offset c.args.offset)) c.in-Err-Refused.failed-is)
+    (refusal_moved S fs _ c.args.offset _ c.args.walk.now.made _ back refl refl (reason_of c.in-Err-Refused.failed) (rw c.in-Err-Refused.field-0-is at c.in-Err-Refused.ensures.refused))
 
 pub check_successors-requires-clause-turn : goal.check_successors-requires-clause-turn
 check_successors-requires-clause-turn c =

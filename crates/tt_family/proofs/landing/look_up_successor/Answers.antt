@@ -3,6 +3,7 @@ use Rattle.tt_code.specs.declared.reason.Reason.TheVariants.{MissingPoint}
 use Rattle.tt_family.specs.Checks.{saturated_offset}
 use Rattle.tt_family.specs.Contents.{Contents}
 use Rattle.tt_family.specs.Landings.{IsLanding, place_from}
+use Rattle.tt_abs.specs.declared.failed.Failed.TheVariants.{Only}
 use Rattle.tt_abs.specs.Spots.{spot_of}
 use Rattle.tt_abs.specs.declared.refusal.Refusal.TheVariants.{Refused}
 use Rattle.tt_family.specs.declared.landing.Landing.TheVariants.{Beyond}
@@ -18,5 +19,5 @@ returns-in-Beyond-clause-missing c =
     let spot : c.spot.result ≡ spot_of q.0 = c.spot.ensures ∙ ap spot_of frames in
     let offset : 4294967295 ≡ saturated_offset q.1 = omega arith in (
       no_state_above v q c.in-Beyond.context c.args.context c.order_facts.ensures.0 c.requires.there c.requires.fit before frames above,
-      c.missing-in-Beyond.ensures ∙ (λ i. Refused (spot i) (offset i) MissingPoint),
+      c.missing-in-Beyond.ensures ∙ (λ i. Refused (spot i) (offset i) (Only MissingPoint)),
     )

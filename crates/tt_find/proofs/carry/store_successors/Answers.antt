@@ -2,6 +2,7 @@ use Rattle.std.specs.Prelude.{false, cond, slice_get, suc, zero, ◌≤◌}
 use Rattle.std.specs.Option.{is_some}
 use Rattle.std.proofs.Common.{◌≡◌, ◌∙◌, ◌+◌, ◌++◌, ℕ, Option, Some, None, Err, ap, arith, refl, sym, subst}
 use Rattle.tt_code.specs.declared.reason.Reason.TheVariants.{TooManyContexts}
+use Rattle.tt_abs.specs.declared.failed.Failed.TheVariants.{Only}
 use Rattle.tt_abs.specs.Moves.{ways_of}
 use Rattle.tt_abs.specs.Settings.{setting_of}
 use Rattle.tt_abs.specs.declared.moves.Move.{Move}
@@ -32,7 +33,7 @@ returns-in-Err-clause-stops c =
     let solver = c.loop-way.solver in
     let here = c.args.walk.now.context in
     not_entered s fs c.requires.laws (frames_at solver.builder.contexts here, c.args.offset) c.in-Err.fault c.not_entered.result
-    (λ is. c.not_entered.ensures.full is ∙ ap (λ (v : Contents). Refused (spot_of (frames_at v.contexts here)) c.args.offset TooManyContexts) c.in-Err.ensures.kept) c.not_entered.ensures.memory
+    (λ is. c.not_entered.ensures.full is ∙ ap (λ (v : Contents). Refused (spot_of (frames_at v.contexts here)) c.args.offset (Only TooManyContexts)) c.in-Err.ensures.kept) c.not_entered.ensures.memory
     (λ is.
     let (absent, full) = c.in-Err.ensures.full (ap Err is) in
     too_many_on s fs c.requires.laws solver c.loop-way.walk c.args.offset c.args.after c.args.ways c.loop-way.index c.loop-way.over c.in-Some.way here c.loop-way.invariant.here
