@@ -18,20 +18,37 @@ use tt_test_fixtures::trials::{Told, Trial, assert_refused};
 #[derive(Drop)]
 struct Order<'a> {
     rt: &'a HostRuntime,
-    words: &'a [&'a str],
+    words: Vec<String>,
     /// What it prints with ample memory.
-    whole: &'a [u8],
+    whole: Vec<u8>,
     /// What `scan` prints where memory ran out.
-    fault: &'a str,
+    fault: String,
+}
+
+/// Returns words as they are lent to a command.
+fn lent(alloc: Global, words: &[String]) -> Result<Vec<&str>, AllocError> {
+    let mut texts = Vec::new(alloc);
+    for word in words {
+        texts.push(word.as_str())?;
+    }
+    Ok(texts)
+}
+
+/// Whether these are the words of an explanation.
+fn is_explanation(words: &[String]) -> bool {
+    match words.get(1) {
+        Some(word) => word.as_str() == "explain",
+        None => false,
+    }
 }
 
 impl Order<'_> {
     /// Returns what a status tells, and what was printed with it: only explanations are begun
     /// before memory runs out.
     fn told_by(&self, status: u8, out: &[u8], err: &[u8]) -> Told {
-        let is_begun = self.words.get(1) == Some(&"explain") && self.whole.starts_with(out);
+        let is_begun = is_explanation(&self.words) && self.whole.starts_with(out);
         match (status, err) {
-            (0 | 1, b"") if out == self.whole => Told::Done,
+            (0 | 1, b"") if out == self.whole.as_slice() => Told::Done,
             (3, b"fault: 9 out of memory\n") if out.is_empty() || is_begun => Told::OutOfMemory,
             (3, b"") if out == self.fault.as_bytes() => Told::OutOfMemory,
             _ => Told::Wrong,
@@ -41,37 +58,19 @@ impl Order<'_> {
 
 impl Trial for Order<'_> {
     fn told(&self, heap: &mut Heap) -> Told {
-        let (Ok(out), Ok(err)) = (
+        let (Ok(out), Ok(err), Ok(words)) = (
             Vec::with_capacity(heap.alloc, ROOM),
             Vec::with_capacity(heap.alloc, ROOM),
+            lent(heap.alloc, &self.words),
         ) else {
             return Told::Wrong;
         };
         let (mut out, mut err) = (Counted::new(out), Counted::new(err));
         heap.take_room();
-        let status = command(self.rt, self.words, &mut out, &mut err);
+        let status = command(self.rt, &words, &mut out, &mut err);
         heap.give_back();
         self.told_by(status, &out.into_inner(), &err.into_inner())
     }
-}
-
-/// Asserts that a command is refused memory, and tells so.
-fn assert_order_refused<'a>(
-    rt: &impl Print,
-    host: &'a HostRuntime,
-    heap: &mut Heap,
-    words: &'a [&'a str],
-    fault: &'a str,
-) -> Result<(), Fail> {
-    let (_, whole, _) = printed(host, words, ROOM, ROOM);
-    let order = Order {
-        rt: host,
-        words,
-        whole: &whole,
-        fault,
-    };
-    let name = words.get(1).copied().unwrap_or("no words");
-    assert_refused(rt, heap, name, &order)
 }
 
 /// Returns a font of a glyph with this program, which may call function 0: that takes a number.
@@ -121,31 +120,42 @@ fn name_of<'a>(word: &'a str, paths: &'a [PathBuf; 4]) -> &'a str {
     }
 }
 
-/// Returns the words of a command after its name, with names of files.
+/// Returns the words of a command, with names of files.
 fn named(alloc: Global, command: &[&str], paths: &[PathBuf; 4]) -> Result<Vec<String>, AllocError> {
-    let mut names = Vec::new(alloc);
+    let mut words = Vec::new(alloc);
+    words.push(String::from_str(alloc, "hintcheck")?)?;
     for word in command {
-        names.push(String::from_str(alloc, name_of(word, paths))?)?;
+        words.push(String::from_str(alloc, name_of(word, paths))?)?;
     }
-    Ok(names)
+    Ok(words)
 }
 
-/// Asserts that a command is refused memory, where FONT, CERT, BAD and NEW stand for files.
+/// Returns what a command prints with ample memory.
+fn whole_of(host: &HostRuntime, words: &[String]) -> Result<Vec<u8>, AllocError> {
+    let texts = lent(host.alloc(), words)?;
+    let (_, whole, _) = printed(host, &texts, ROOM, ROOM);
+    Ok(whole)
+}
+
+/// Asserts that a command is refused memory, and tells so. FONT, CERT, BAD and NEW stand for files.
 fn assert_command_refused(
     rt: &impl Print,
     host: &HostRuntime,
     command: &[&str],
     paths: &[PathBuf; 4],
 ) -> Result<(), Fail> {
-    let mut heap = Heap::new(host.alloc());
-    let names = named(host.alloc(), command, paths)?;
-    let mut words = Vec::new(host.alloc());
-    words.push("hintcheck")?;
-    for name in &names {
-        words.push(name.as_str())?;
-    }
+    let words = named(host.alloc(), command, paths)?;
+    let whole = whole_of(host, &words)?;
     let fault = fault_of(host.alloc(), paths[0].as_str(), command.contains(&"--json"))?;
-    assert_order_refused(rt, host, &mut heap, &words, &fault)
+    let order = Order {
+        rt: host,
+        words,
+        whole,
+        fault,
+    };
+    let mut heap = Heap::new(host.alloc());
+    let name = command.first().copied().unwrap_or("no words");
+    assert_refused(rt, &mut heap, name, &order)
 }
 
 /// Asserts that these commands are refused memory.
