@@ -1,7 +1,8 @@
 //! Fonts in the bytes of a file, and the verdicts on them: where there is none, the fault tells what
 //! the file holds instead, as far as it is known.
 
-ghost use Rattle.std.specs.Prelude.{IfErr, IfOk};
+ghost use Rattle.std.specs.Prelude.{◌≡◌, IfErr, IfOk, None, OnOk};
+ghost use Rattle.tt_font.specs.FileFaults.{font_fault};
 ghost use Rattle.tt_font.specs.Reading.{Reads};
 ghost use Rattle.hintcheck.specs.CommandFaults.{IsFaultOfFont};
 ghost use Rattle.hintcheck_fonts.specs.FontAnswers.{IsSymbolicVerdictOn, IsVerdictOn};
@@ -36,6 +37,7 @@ pub(crate) fn font_in<'a>(alloc: Global, bytes: &'a [u8]) -> Result<Font<'a>, Nu
 pub(crate) fn verdict_in(alloc: Global, bytes: &[u8]) -> Result<Verdict, Numbered>
     ensures exact { IfOk result (IsVerdictOn bytes.now) }
     ensures faults { IfErr result (λ numbered. IsFaultOfFont bytes.now numbered.0) }
+    ensures none { OnOk result (font_fault bytes.now ≡ None) }
 {
     match font::verdict(alloc, bytes) {
         Ok(verdict) => Ok(verdict),
