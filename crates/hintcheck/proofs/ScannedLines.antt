@@ -136,6 +136,7 @@ fault_line profile name fault.ClassWord old new is written = absurd is
 fault_line profile name fault.CertificateWord old new is written = absurd is
 fault_line profile name fault.NewWord old new is written = absurd is
 fault_line profile name (fault.Form place) old new is written = absurd is
+fault_line profile name fault.NoCertificate old new is written = absurd is
 fault_line profile name fault.ScanFault old new is written = absurd is
 fault_line profile name fault.ScanUnfinished old new is written = absurd is
 fault_line profile name fault.Write old new is written = absurd is

@@ -124,12 +124,14 @@ IsFaultOfFinding font certificate reported =
 abbrev pub IsFaultOfChecking : CommandFault → Type 0
 IsFaultOfChecking (fault.Font numbered) = IsFaultOfSomeFont numbered.0
 IsFaultOfChecking (fault.Form place) = Unit {0}
+IsFaultOfChecking fault.NoCertificate = Unit {0}
 IsFaultOfChecking fault.Budget = Unit {0}
 IsFaultOfChecking other = IsFaultOfReading other
 
 -- why a certificate file isn't upgraded
 abbrev pub IsFaultOfRewriting : CommandFault → Type 0
 IsFaultOfRewriting (fault.Form place) = Unit {0}
+IsFaultOfRewriting fault.NoCertificate = Unit {0}
 IsFaultOfRewriting fault.File = Unit {0}
 IsFaultOfRewriting other = IsFaultOfReading other
 

@@ -4,6 +4,7 @@ use Rattle.std.specs.Prelude.{◌≡◌, ◌+◌, ℕ, List, Option, IfSome, Res
 use Rattle.std.specs.Io.KnownBytes.{Consumes, IsAtEnd}
 use Rattle.hintcheck.specs.declared.commands.faults.CommandFault.{CommandFault}
 use Rattle.hintcheck.specs.declared.commands.faults.CommandFault.TheVariants as fault
+use Rattle.hintcheck.specs.declared.commands.faults.Container.TheVariants.{Other}
 use Rattle.hintcheck_fonts.specs.declared.font_check.CheckFontFault.{CheckFontFault}
 use Rattle.hintcheck_fonts.specs.declared.font_check.CheckFontFault.TheVariants as check
 use Rattle.hintcheck_fonts.specs.declared.certificate.FindFontFault.{FindFontFault}
@@ -58,7 +59,7 @@ fault_of_reading (reading.OutOfMemory error) = fault.OutOfMemory
 
 -- the fault of a font that isn't checked by its certificate
 abbrev pub fault_of_check : CheckFontFault → CommandFault
-fault_of_check (check.Font font) = fault.Font (record { 0 = font })
+fault_of_check (check.Font font) = fault.Font (record { 0 = font; 1 = Other })
 fault_of_check (check.Form place) = fault.Form place
 fault_of_check check.Read = fault.Read
 fault_of_check (check.OutOfMemory error) = fault.OutOfMemory
@@ -66,14 +67,14 @@ fault_of_check check.Budget = fault.Budget
 
 -- the fault of a font whose certificate isn't found or written
 abbrev pub fault_of_find : FindFontFault → CommandFault
-fault_of_find (find.Font font) = fault.Font (record { 0 = font })
+fault_of_find (find.Font font) = fault.Font (record { 0 = font; 1 = Other })
 fault_of_find find.Write = fault.File
 fault_of_find (find.OutOfMemory error) = fault.OutOfMemory
 fault_of_find find.Budget = fault.Budget
 
 -- the fault of a font without a verdict within a budget
 abbrev pub fault_of_verdict : VerdictFault → CommandFault
-fault_of_verdict (judging.Font font) = fault.Font (record { 0 = font })
+fault_of_verdict (judging.Font font) = fault.Font (record { 0 = font; 1 = Other })
 fault_of_verdict judging.Budget = fault.Budget
 
 -- the fault of a program that isn't explained

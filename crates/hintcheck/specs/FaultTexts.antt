@@ -6,12 +6,23 @@ use Rattle.tt_font.specs.FaultTexts.{fault_text}
 use Rattle.tt_font.specs.declared.fault.FontFault.{FontFault}
 use Rattle.hintcheck.specs.declared.commands.faults.CommandFault.{CommandFault}
 use Rattle.hintcheck.specs.declared.commands.faults.CommandFault.TheVariants as fault
+use Rattle.hintcheck.specs.declared.commands.faults.Container.{Container}
+use Rattle.hintcheck.specs.declared.commands.faults.Container.TheVariants as holds
 use Rattle.hintcheck.specs.declared.commands.faults.Unopened.{Unopened}
 use Rattle.hintcheck.specs.declared.commands.faults.Unopened.TheVariants as why
 
--- a font's fault: its number, and the fault in words
-abbrev pub numbered_text : FontFault → List ℕ
-numbered_text f = decimal (fault_number f) ++ (codes " " ++ fault_text f)
+-- what a file holds that isn't a font with TrueType outlines, as it follows the fault's own text
+abbrev pub container_text : Container → List ℕ
+container_text holds.Cff = codes ": CFF outlines"
+container_text holds.Collection = codes ": a collection"
+container_text holds.Woff = codes ": WOFF"
+container_text holds.Woff2 = codes ": WOFF2"
+container_text holds.Other = []
+
+-- a font's fault: its number, the fault in words, and what the file holds instead
+abbrev pub numbered_text : FontFault → Container → List ℕ
+numbered_text f container =
+    decimal (fault_number f) ++ (codes " " ++ (fault_text f ++ container_text container))
 
 -- why a file can't be opened, as it follows the fault's own text
 abbrev pub unopened_text : Unopened → List ℕ
@@ -33,9 +44,11 @@ command_fault_text fault.ClassWord = Some (codes "words: CLASS")
 command_fault_text fault.CertificateWord =
     Some (codes "words: CERT: the font would be written over")
 command_fault_text fault.NewWord = Some (codes "words: NEW")
-command_fault_text (fault.Font numbered) = Some (numbered_text numbered.0)
+command_fault_text (fault.Font numbered) = Some (numbered_text numbered.0 numbered.1)
 command_fault_text (fault.Form place) =
     Some (codes "43 certificate form at byte " ++ decimal place)
+command_fault_text fault.NoCertificate =
+    Some (codes "43 certificate form at byte 0: not a certificate")
 command_fault_text fault.OutOfMemory = Some (codes "9 out of memory")
 command_fault_text fault.ScanFault = Some (codes "fault of a font")
 command_fault_text fault.ScanUnfinished = Some (codes "unfinished font")

@@ -9,7 +9,7 @@ use Rattle.tt_font.specs.FaultTexts.{fault_text}
 use Rattle.tt_cert.specs.Names.{text_of}
 use Rattle.hintcheck_words.specs.declared.words.Profile.{Profile}
 use Rattle.hintcheck_words.specs.declared.words.Profile.TheVariants.{Strict, Symbolic}
-use Rattle.hintcheck.specs.FaultTexts.{unopened_text}
+use Rattle.hintcheck.specs.FaultTexts.{container_text, unopened_text}
 use Rattle.hintcheck.specs.RefusalClasses.{class_text}
 use Rattle.hintcheck_fonts.specs.Verdicts.{Judgement}
 use Rattle.hintcheck.specs.declared.commands.faults.CommandFault.{CommandFault}
@@ -61,7 +61,8 @@ verdict_members j = (codes "\"programs\":" ++ (decimal j.programs ++ codes ",\"r
 -- the fault of a font file, by its number and its text; another fault has none
 abbrev pub fault_object : CommandFault → List ℕ
 fault_object (fault.Font numbered) = codes "{\"number\":" ++ (decimal (fault_number numbered.0)
-    ++ (codes ",\"text\":\"" ++ (fault_text numbered.0 ++ codes "\"}")))
+    ++ (codes ",\"text\":\"" ++ (fault_text numbered.0
+    ++ (container_text numbered.1 ++ codes "\"}"))))
 fault_object (fault.Unopened why) =
     codes "{\"number\":44,\"text\":\"read" ++ (unopened_text why ++ codes "\"}")
 fault_object fault.Read = codes "{\"number\":44,\"text\":\"read\"}"

@@ -9,5 +9,6 @@ pub mod Printed
 pub mod CommandFaults
 pub mod FaultTexts
 pub mod RefusalClasses
+pub mod Representation
 pub mod Scans
 pub mod JsonObjects

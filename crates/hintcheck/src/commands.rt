@@ -17,6 +17,7 @@ mod files;
 mod find_task;
 mod json_objects;
 mod list_task;
+mod scan_summary;
 mod scan_task;
 mod upgrade_task;
 mod verdict_lines;
@@ -110,11 +111,13 @@ fn verdict_on<R: Files + AllocGlobal>(rt: &R, task: &Task) -> Result<Verdict, Co
     }
 }
 
-/// Does the task, prints the answer to `out`, and returns the exit status.
-fn do_task<R: Files + AllocGlobal, O: Sink>(
+/// Does the task, prints the answer to `out`, and what counts the fonts of a scan to `err`; returns
+/// the exit status.
+fn do_task<R: Files + AllocGlobal, O: Sink, E: Sink>(
     rt: &R,
     task: &Task,
     out: &mut O,
+    err: &mut E,
 ) -> Result<u8, CommandFault>
     ensures status { IfOk result (λ status. status ≤ 1) }
     ensures safe { IfOk result (λ status. status ≡ 0 → IsSafeRequest (asked task.now)) }
@@ -126,9 +129,10 @@ fn do_task<R: Files + AllocGlobal, O: Sink>(
     ensures failures { TellsFailure result (O.failures out.old) (O.failures out.new) }
     ensures faults { IfErr result (IsFaultOfTask (asked task.now)) }
     ensures none { OnOk result (HasNoFault (asked task.now)) }
+    ensures untold { E.failures err.old ≤ E.failures err.new }
 {
     match task {
-        Task::Scan { fonts, options } => scan_fonts(rt, fonts, *options, out),
+        Task::Scan { fonts, options } => scan_fonts(rt, fonts, *options, out, err),
         Task::Explain {
             font,
             program,
@@ -143,7 +147,8 @@ fn do_task<R: Files + AllocGlobal, O: Sink>(
 
 /// Does what the words of a command line ask for and prints the answer to `out`, and returns the
 /// exit status: 0 accepted, listed, upgraded or help, 1 refused. It is `command` except that
-/// reporting the fault is left to the caller.
+/// reporting the fault is left to the caller: to `err` it prints no more than the line that counts
+/// the fonts of a scan.
 ///
 /// # Errors
 /// `Write` exactly where a write to `out` failed; `Usage` for words that the command line doesn't
@@ -155,10 +160,11 @@ fn do_task<R: Files + AllocGlobal, O: Sink>(
 /// where a font's file is to be its certificate's; `NewWord` where an old certificate's file is to
 /// be the new one's; `Font` for the first fault of the font or of `bare`'s `maxp`, which may be
 /// that memory ran out; `Form`, `Read`, `File` and `OutOfMemory`.
-pub fn try_command<R: Files + AllocGlobal, O: Sink>(
+pub fn try_command<R: Files + AllocGlobal, O: Sink, E: Sink>(
     rt: &R,
     words: &[&str],
     out: &mut O,
+    err: &mut E,
 ) -> Result<u8, CommandFault>
     ensures status { IfOk result (λ status. status ≤ 1) }
     ensures safe { IfOk result (λ status. status ≡ 0
@@ -182,9 +188,10 @@ pub fn try_command<R: Files + AllocGlobal, O: Sink>(
     ensures faults { IfErr result (IsFaultOfWords (map (λ w. w.now) words.entry.now)) }
     ensures none { OnOk result (is_taken (map (λ w. w.now) words.entry.now) ≡ true
         → MeansNoFault (map (λ w. w.now) words.entry.now)) }
+    ensures untold { E.failures err.old ≤ E.failures err.new }
 {
     match read_words(rt.alloc(), words) {
-        Ok(task) => do_task(rt, &task, out),
+        Ok(task) => do_task(rt, &task, out, err),
         Err(TaskFault::Words(text)) => {
             if text.use_stderr() {
                 return Err(CommandFault::Usage(TaskFault::Words(text)));
@@ -199,8 +206,8 @@ pub fn try_command<R: Files + AllocGlobal, O: Sink>(
 /// Does what the words of a command line ask for, prints the answer to `out` or a fault to `err`,
 /// and returns the exit status: 0 accepted, listed, upgraded or help, 1 refused, 2 words, input or
 /// output that can't be read or written, 3 out of memory or budget; for a scan the greatest one of
-/// its fonts, whose faults are printed to `out`. The first word is the program's own name. Printing
-/// takes no memory.
+/// its fonts, whose faults are printed to `out`, and a line that counts them to `err`. The first
+/// word is the program's own name. Printing takes no memory.
 pub fn command<R: Files + AllocGlobal, O: Sink, E: Sink>(
     rt: &R,
     words: &[&str],
@@ -231,7 +238,7 @@ pub fn command<R: Files + AllocGlobal, O: Sink, E: Sink>(
         ⊎ (result ≡ 2 × O.failures out.new ≡ O.failures out.old + 1) }
     ensures untold { E.failures err.old ≤ E.failures err.new }
 {
-    match try_command(rt, words, out) {
+    match try_command(rt, words, out, err) {
         Ok(status) => status,
         Err(fault) => tell(err, &fault),
     }

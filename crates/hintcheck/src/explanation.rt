@@ -19,10 +19,10 @@ ghost use Rattle.hintcheck_fonts.specs.Representation.SessionStages.{IsAt, Keeps
 
 use crate::asked_offset::check_offset;
 use crate::commands::faults::CommandFault;
+use crate::font_file::font_in;
 use crate::instruction_list::named_program;
 use hintcheck_explain::{Asked, Explained, explain, explain_unread};
 use hintcheck_fonts::finding::Finding;
-use hintcheck_fonts::font::read_font;
 use hintcheck_fonts::program::{Search, cut};
 use hintcheck_fonts::programs::{FontPrograms, Next, Programs};
 use hintcheck_fonts::report::{Name, Refused};
@@ -255,7 +255,7 @@ pub fn explain_program<O: Sink>(
     ensures faults { IfErr result (IsFaultOfExplaining font.now word.now offset) }
     ensures none { OnOk result (HoldPlace font.now word.now offset) }
 {
-    let read = read_font(alloc, font)?;
+    let read = font_in(alloc, font)?;
     match named_program(&read, word) {
         Some(named) => {
             check_offset(alloc, named.bytes, offset)?;

@@ -12,6 +12,7 @@ ghost use Rattle.hintcheck.specs.Listing.{CannotBeListed, HoldListedProgram, Hol
 ghost use Rattle.tt_cert.specs.Names.{text_of};
 
 use crate::commands::faults::CommandFault;
+use crate::font_file::font_in;
 use hintcheck_fonts::program::cut;
 use hintcheck_fonts::report::{Name, Place, Refused};
 use std::alloc::{AllocError, Global};
@@ -226,7 +227,7 @@ pub fn list_program<O: Sink>(
     ensures failures { TellsFailure result (O.failures out.old) (O.failures out.new) }
     ensures faults { IfErr result (IsFaultOfListing font.now word.now) }
 {
-    let font = Font::read(alloc, font)?;
+    let font = font_in(alloc, font)?;
     font.range_facts();
     match named_program(&font, word) {
         Some(named) => list_named(alloc, named, out),

@@ -5,10 +5,11 @@
 mod asked_offset;
 mod commands;
 mod explanation;
+mod font_file;
 mod instruction_list;
 mod symbolic_explanation;
 
-pub use commands::faults::{CommandFault, Unopened};
+pub use commands::faults::{CommandFault, Container, Unopened};
 pub use commands::{command, try_command, verdict_of};
 pub use explanation::explain_program;
 pub use hintcheck_fonts::{

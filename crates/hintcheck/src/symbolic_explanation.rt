@@ -10,10 +10,10 @@ ghost use Rattle.hintcheck.specs.SymbolicExplanations.{HoldSymbolicAcceptedProgr
 use crate::asked_offset::check_offset;
 use crate::commands::faults::CommandFault;
 use crate::explanation::{exit_status, explain_uncut, tell_unchecked};
+use crate::font_file::font_in;
 use crate::instruction_list::{Named, named_program};
 use hintcheck_explain::{Asked, Explained, explain_symbolic};
 use hintcheck_fonts::bare_program::empty_program;
-use hintcheck_fonts::font::read_font;
 use hintcheck_fonts::program::cut;
 use hintcheck_fonts::report::{Name, Refused};
 use hintcheck_fonts::symbolic_check::SymbolicCheck;
@@ -200,7 +200,7 @@ pub fn explain_program_symbolic<O: Sink>(
     ensures faults { IfErr result (IsFaultOfExplaining font.now word.now offset) }
     ensures none { OnOk result (HoldPlace font.now word.now offset) }
 {
-    let read = read_font(alloc, font)?;
+    let read = font_in(alloc, font)?;
     match named_program(&read, word) {
         Some(named) => {
             check_offset(alloc, named.bytes, offset)?;

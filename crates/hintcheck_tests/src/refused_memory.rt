@@ -1,5 +1,6 @@
 //! Growths of memory that are refused to commands, which tell of it in one line of the error
-//! output, or `scan` in one of the output. Printing takes no memory: nothing is left then.
+//! output, or `scan` in one of the output, and counts it. Printing takes no memory: nothing is left
+//! then.
 
 use crate::outputs::{ROOM, path_of, printed};
 use hintcheck::{command, find_font};
@@ -14,6 +15,12 @@ use tt_test_fixtures::heap::Heap;
 use tt_test_fixtures::programs::POPPING;
 use tt_test_fixtures::trials::{Told, Trial, assert_refused};
 
+/// What `scan` counts where the font file is accepted.
+const ONE_ACCEPTED: &[u8] = b"1 fonts: 1 accepted, 0 refused, 0 without an answer\n";
+
+/// What `scan` counts where memory ran out at the font file.
+const ONE_UNREAD: &[u8] = b"1 fonts: 0 accepted, 0 refused, 1 without an answer\n";
+
 /// A command that is tried.
 #[derive(Drop)]
 struct Order<'a> {
@@ -23,6 +30,8 @@ struct Order<'a> {
     whole: Vec<u8>,
     /// What `scan` prints where memory ran out.
     fault: String,
+    /// Whether it is a `scan` that tells on the error output how many fonts there were.
+    is_counting: bool,
 }
 
 /// Returns words as they are lent to a command.
@@ -43,14 +52,28 @@ fn is_explanation(words: &[String]) -> bool {
 }
 
 impl Order<'_> {
+    /// Whether the error output is this line of counts, if the command prints one, and otherwise
+    /// empty.
+    fn is_counted(&self, err: &[u8], counts: &[u8]) -> bool {
+        if self.is_counting {
+            err == counts
+        } else {
+            err.is_empty()
+        }
+    }
+
     /// Returns what a status tells, and what was printed with it: only explanations are begun
     /// before memory runs out.
     fn told_by(&self, status: u8, out: &[u8], err: &[u8]) -> Told {
         let is_begun = is_explanation(&self.words) && self.whole.starts_with(out);
         match (status, err) {
-            (0 | 1, b"") if out == self.whole.as_slice() => Told::Done,
+            (0 | 1, _) if out == self.whole.as_slice() && self.is_counted(err, ONE_ACCEPTED) => {
+                Told::Done
+            }
             (3, b"fault: 9 out of memory\n") if out.is_empty() || is_begun => Told::OutOfMemory,
-            (3, b"") if out == self.fault.as_bytes() => Told::OutOfMemory,
+            (3, _) if out == self.fault.as_bytes() && self.is_counted(err, ONE_UNREAD) => {
+                Told::OutOfMemory
+            }
             _ => Told::Wrong,
         }
     }
@@ -152,6 +175,7 @@ fn assert_command_refused(
         words,
         whole,
         fault,
+        is_counting: command.first() == Some(&"scan") && !command.contains(&"--json"),
     };
     let mut heap = Heap::new(host.alloc());
     let name = command.first().copied().unwrap_or("no words");

@@ -9,8 +9,8 @@ ghost use Rattle.hintcheck.specs.MeansSafe.{HoldFont, IsCheckOn};
 ghost use Rattle.hintcheck_fonts.specs.FontAnswers.{HoldSafeFont};
 
 use super::faults::CommandFault;
-use super::files::{file_bytes, opened};
-use hintcheck_fonts::font::read_font;
+use super::files::{file_bytes, of_certificate, opened};
+use crate::font_file::font_in;
 use hintcheck_fonts::font_check::{check_read_font, check_read_font_within};
 use hintcheck_fonts::report::Verdict;
 use std::alloc::Global;
@@ -67,7 +67,10 @@ pub(super) fn check_verdict<R: Files + AllocGlobal>(
         (λ fault. IsFaultOfChecking fault × IsWithin budget fault) }
 {
     let bytes = file_bytes(rt, font)?;
-    let font = read_font(rt.alloc(), &bytes)?;
+    let font = font_in(rt.alloc(), &bytes)?;
     let file = opened(rt, certificate)?;
-    verdict_by_file(rt.alloc(), &font, file, budget)
+    match verdict_by_file(rt.alloc(), &font, file, budget) {
+        Ok(verdict) => Ok(verdict),
+        Err(fault) => Err(of_certificate(rt, certificate, fault)),
+    }
 }

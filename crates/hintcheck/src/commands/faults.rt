@@ -22,19 +22,79 @@ const UNREADABLE: u8 = 2;
 /// The exit status where memory or the budget ran out.
 const UNFINISHED: u8 = 3;
 
-/// A font's fault, whose text begins with its number.
+/// What a file holds that isn't a font with TrueType outlines, by its first four bytes. Its text
+/// follows the fault's own.
+#[derive(Clone, Copy, Debug, PartialEq, Eq)]
+pub enum Container {
+    /// A font with CFF outlines, which have no hint programs of this kind.
+    Cff,
+    /// A collection of fonts.
+    Collection,
+    /// A font whose tables are compressed.
+    Woff,
+    /// A font that is compressed as a whole.
+    Woff2,
+    /// Another kind of file, which isn't told.
+    Other,
+}
+
+impl Container {
+    /// Returns what the file with these bytes holds, by those with which it begins (OpenType
+    /// specification, "Font collections"; WOFF 1.0 and 2.0, "WOFF header").
+    fn of(bytes: &[u8]) -> Container {
+        match bytes {
+            [b'O', b'T', b'T', b'O', ..] => Container::Cff,
+            [b't', b't', b'c', b'f', ..] => Container::Collection,
+            [b'w', b'O', b'F', b'F', ..] => Container::Woff,
+            [b'w', b'O', b'F', b'2', ..] => Container::Woff2,
+            _ => Container::Other,
+        }
+    }
+}
+
+impl fmt::Display for Container {
+    ghost use Rattle.std.specs.Prelude.{Some};
+    ghost use Rattle.hintcheck.specs.FaultTexts.{container_text};
+
+    ghost output = { λ container. Some (container_text container) };
+
+    fn fmt<W: fmt::Write>(&self, f: &mut fmt::Formatter<W>) -> fmt::Result {
+        match self {
+            Container::Cff => write!(f, ": CFF outlines"),
+            Container::Collection => write!(f, ": a collection"),
+            Container::Woff => write!(f, ": WOFF"),
+            Container::Woff2 => write!(f, ": WOFF2"),
+            Container::Other => Ok(()),
+        }
+    }
+}
+
+/// A font's fault, whose text begins with its number, and ends with what the file holds instead.
 #[derive(Debug, Drop)]
-pub struct Numbered(pub(super) FontFault);
+pub struct Numbered(pub(super) FontFault, pub(super) Container);
+
+impl Numbered {
+    /// Returns the fault of the font in these bytes. Only of a file that isn't an sfnt file it is
+    /// told what it holds.
+    pub(crate) fn of(fault: FontFault, bytes: &[u8]) -> Numbered
+        ensures { result.0 ≡ fault }
+    {
+        match fault {
+            FontFault::NotSfnt => Numbered(fault, Container::of(bytes)),
+            _ => Numbered(fault, Container::Other),
+        }
+    }
+}
 
 impl fmt::Display for Numbered {
     ghost use Rattle.std.specs.Prelude.{Some};
     ghost use Rattle.hintcheck.specs.FaultTexts.{numbered_text};
 
-    ghost output = { λ numbered. Some (numbered_text numbered.0) };
+    ghost output = { λ numbered. Some (numbered_text numbered.0 numbered.1) };
 
     fn fmt<W: fmt::Write>(&self, f: &mut fmt::Formatter<W>) -> fmt::Result {
         let number = self.0.number();
-        write!(f, "{number} {}", self.0)
+        write!(f, "{number} {}{}", self.0, self.1)
     }
 }
 
@@ -104,6 +164,8 @@ pub enum CommandFault {
     /// The bytes are no certificate for the font, or, in an upgrade, for any font: the place of
     /// what is wrong.
     Form(u64),
+    /// The certificate's file doesn't begin as a certificate does.
+    NoCertificate,
     /// Memory ran out.
     OutOfMemory,
     /// A font of a scan has a fault, which its line tells.
@@ -146,6 +208,9 @@ impl fmt::Display for CommandFault {
             CommandFault::NewWord => write!(f, "words: NEW"),
             CommandFault::Font(numbered) => write!(f, "{numbered}"),
             CommandFault::Form(place) => write!(f, "43 certificate form at byte {place}"),
+            CommandFault::NoCertificate => {
+                write!(f, "43 certificate form at byte 0: not a certificate")
+            }
             CommandFault::OutOfMemory => write!(f, "9 out of memory"),
             CommandFault::Budget => write!(f, "46 budget"),
             CommandFault::ScanUnfinished => write!(f, "unfinished font"),
@@ -188,11 +253,22 @@ impl From<ReadFault> for CommandFault {
 
 impl From<FontFault> for CommandFault {
     ghost use Rattle.hintcheck.specs.declared.commands.faults.CommandFault.TheVariants.{Font};
+    ghost use Rattle.hintcheck.specs.declared.commands.faults.Container.TheVariants.{Other};
 
-    ghost from_gives = { λ font fault. fault ≡ Font (record { 0 = font }) };
+    ghost from_gives = { λ font fault. fault ≡ Font (record { 0 = font; 1 = Other }) };
 
     fn from(font: FontFault) -> CommandFault {
-        CommandFault::Font(Numbered(font))
+        CommandFault::Font(Numbered(font, Container::Other))
+    }
+}
+
+impl From<Numbered> for CommandFault {
+    ghost use Rattle.hintcheck.specs.declared.commands.faults.CommandFault.TheVariants.{Font};
+
+    ghost from_gives = { λ numbered fault. fault ≡ Font numbered };
+
+    fn from(numbered: Numbered) -> CommandFault {
+        CommandFault::Font(numbered)
     }
 }
 
@@ -203,7 +279,7 @@ impl From<VerdictFault> for CommandFault {
 
     fn from(fault: VerdictFault) -> CommandFault {
         match fault {
-            VerdictFault::Font(font) => CommandFault::Font(Numbered(font)),
+            VerdictFault::Font(font) => CommandFault::Font(Numbered(font, Container::Other)),
             VerdictFault::Budget => CommandFault::Budget,
         }
     }
@@ -216,7 +292,7 @@ impl From<CheckFontFault> for CommandFault {
 
     fn from(fault: CheckFontFault) -> CommandFault {
         match fault {
-            CheckFontFault::Font(font) => CommandFault::Font(Numbered(font)),
+            CheckFontFault::Font(font) => CommandFault::Font(Numbered(font, Container::Other)),
             CheckFontFault::Form(place) => CommandFault::Form(place),
             CheckFontFault::Read => CommandFault::Read,
             CheckFontFault::OutOfMemory(AllocError) => CommandFault::OutOfMemory,
@@ -232,7 +308,7 @@ impl From<FindFontFault> for CommandFault {
 
     fn from(fault: FindFontFault) -> CommandFault {
         match fault {
-            FindFontFault::Font(font) => CommandFault::Font(Numbered(font)),
+            FindFontFault::Font(font) => CommandFault::Font(Numbered(font, Container::Other)),
             FindFontFault::Write => CommandFault::File,
             FindFontFault::OutOfMemory(AllocError) => CommandFault::OutOfMemory,
             FindFontFault::Budget => CommandFault::Budget,
@@ -290,7 +366,7 @@ impl CommandFault {
             CommandFault::OutOfMemory
             | CommandFault::ScanUnfinished
             | CommandFault::Budget
-            | CommandFault::Font(Numbered(FontFault::OutOfMemory(_))) => { UNFINISHED },
+            | CommandFault::Font(Numbered(FontFault::OutOfMemory(_), _)) => { UNFINISHED },
             _ => UNREADABLE,
         }
     }

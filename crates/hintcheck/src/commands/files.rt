@@ -1,7 +1,7 @@
 //! Files: their bytes, the numbers by which a system tells them apart, and the rest of what is
 //! written to them.
 
-ghost use Rattle.std.specs.Prelude.{◌≡◌, ◌≢◌, ◌↔◌, IfErr, IfOk, IfSome, IsTrue, None, Err, Ok};
+ghost use Rattle.std.specs.Prelude.{◌≡◌, ◌≢◌, ◌↔◌, ◌⊎◌, IfErr, IfOk, IfSome, IsTrue, None, Err, Ok};
 ghost use Rattle.std.specs.Io.Buffered.{writer_contents};
 ghost use Rattle.std.specs.Io.KnownBytes.{Keeps};
 ghost use Rattle.hintcheck.specs.Commands.{HasAll, IsNoWriteFault};
@@ -38,6 +38,31 @@ pub(super) fn opened<R: Files>(rt: &R, name: &str) -> Result<R::File, CommandFau
     match fs::open(rt, name) {
         Ok(file) => Ok(file),
         Err(error) => Err(CommandFault::Unopened(Unopened::of(&error))),
+    }
+}
+
+/// Whether the file with this name has bytes, as far as that can be known.
+fn has_bytes<R: Files>(rt: &R, name: &str) -> bool {
+    match fs::metadata(rt, name) {
+        Ok(metadata) => metadata.len() > 0,
+        Err(_) => false,
+    }
+}
+
+/// Returns the fault of the certificate in the file with this name. One at the first byte tells that
+/// the file is no certificate, unless it is empty: an empty one is the beginning of a certificate.
+pub(super) fn of_certificate<R: Files>(rt: &R, name: &str, fault: CommandFault) -> CommandFault
+    ensures { (result ≡ fault) ⊎ (result ≡ CommandFault.NoCertificate) }
+{
+    match fault {
+        CommandFault::Form(0) => {
+            if has_bytes(rt, name) {
+                CommandFault::NoCertificate
+            } else {
+                CommandFault::Form(0)
+            }
+        }
+        fault => fault,
     }
 }
 

@@ -12,8 +12,8 @@ ghost use Rattle.hintcheck_fonts.specs.FontAnswers.{HoldRefusedFont, HoldSafeFon
 
 use super::faults::CommandFault;
 use super::files::{ROOM, file_bytes, file_numbers, is_same_file, write_rest};
+use crate::font_file::font_in;
 use hintcheck_fonts::certificate::{FindFontFault, find_programs, find_programs_within};
-use hintcheck_fonts::font::read_font;
 use hintcheck_fonts::report::Verdict;
 use std::alloc::Global;
 use std::fs;
@@ -96,7 +96,7 @@ pub(super) fn find_verdict<R: Files + AllocGlobal>(
         return Err(CommandFault::CertificateWord);
     }
     let bytes = file_bytes(rt, font)?;
-    let font = read_font(rt.alloc(), &bytes)?;
+    let font = font_in(rt.alloc(), &bytes)?;
     let Ok(file) = fs::create(rt, certificate) else {
         return Err(CommandFault::File);
     };

@@ -157,9 +157,12 @@ fn print_fault<O: Sink>(out: &mut O, fault: &CommandFault) -> Result<(), PrintFa
     ensures failures { CountsPrintFailure result (O.failures out.old) (O.failures out.new) }
 {
     match fault {
-        CommandFault::Font(Numbered(font)) => {
+        CommandFault::Font(Numbered(font, container)) => {
             let number = font.number();
-            write!(out, "{{\"number\":{number},\"text\":\"{font}\"}}")
+            write!(
+                out,
+                "{{\"number\":{number},\"text\":\"{font}{container}\"}}"
+            )
         }
         CommandFault::Unopened(why) => write!(out, "{{\"number\":44,\"text\":\"read{why}\"}}"),
         CommandFault::Read => write!(out, "{{\"number\":44,\"text\":\"read\"}}"),

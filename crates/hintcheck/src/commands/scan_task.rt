@@ -13,6 +13,7 @@ ghost use Rattle.hintcheck.specs.Texts.{profile_text};
 
 use super::faults::CommandFault;
 use super::json_objects::{print_fault_object, print_verdict_object};
+use super::scan_summary::{Tally, tell_summary};
 use super::verdict_lines::end_of_profile;
 use super::verdict_task::file_verdict;
 use super::{ACCEPTED, REFUSED};
@@ -173,12 +174,13 @@ fn tell_unread<O: Sink>(
     }
 }
 
-/// Prints what is told of the font file with this name, and returns its exit status: that of its
-/// verdict, or of the fault.
+/// Prints what is told of the font file with this name, counts it, and returns its exit status: that
+/// of its verdict, or of the fault.
 fn scan_font<R: Files + AllocGlobal, O: Sink>(
     rt: &R,
     name: &str,
     options: ScanOptions,
+    tally: &mut Tally,
     out: &mut O,
 ) -> Result<u8, CommandFault>
     ensures tells { IfOk result (TellsFonts options (name.now ∷ [])) }
@@ -191,21 +193,24 @@ fn scan_font<R: Files + AllocGlobal, O: Sink>(
         Ok(verdict) => {
             let status = verdict_status(&verdict, options.fail_on);
             tell_judged(rt.alloc(), out, name, &verdict, options, status)?;
+            tally.count_verdict(verdict.accepted());
             Ok(status)
         }
         Err(fault) => {
             tell_unread(rt.alloc(), out, name, &fault, options)?;
+            tally.count_fault();
             Ok(fault.status())
         }
     }
 }
 
-/// Prints what is told of each of the font files with these names, and returns the greatest exit
-/// status of them: 0 where the scan fails for no program, 1 where it fails for one.
+/// Prints what is told of each of the font files with these names, counts them, and returns the
+/// greatest exit status of them: 0 where the scan fails for no program, 1 where it fails for one.
 fn scan_all<R: Files + AllocGlobal, O: Sink>(
     rt: &R,
     fonts: &[String],
     options: ScanOptions,
+    tally: &mut Tally,
     out: &mut O,
 ) -> Result<u8, CommandFault>
     ensures tells { IfOk result (TellsFonts options (map (λ s. string_bytes s) fonts.now)) }
@@ -217,25 +222,50 @@ fn scan_all<R: Files + AllocGlobal, O: Sink>(
 {
     let mut greatest = ACCEPTED;
     for font in fonts {
-        let status = scan_font(rt, font, options, out)?;
+        let status = scan_font(rt, font, options, tally, out)?;
         greatest = greatest.max(status);
     }
     Ok(greatest)
 }
 
-/// Prints a line or an object for each of the font files with these names, and returns the greatest
-/// exit status of them: 0 where the scan fails for no program, 1 where it fails for one.
+/// Prints what `scan_all` prints, and then to `err` how many font files came to which end; returns
+/// the same status.
+fn scan_counting<R: Files + AllocGlobal, O: Sink, E: Sink>(
+    rt: &R,
+    fonts: &[String],
+    options: ScanOptions,
+    out: &mut O,
+    err: &mut E,
+) -> Result<u8, CommandFault>
+    ensures tells { IfOk result (TellsFonts options (map (λ s. string_bytes s) fonts.now)) }
+    ensures printed { IfOk result (λ status.
+        PrintsScan options (map (λ s. string_bytes s) fonts.now)
+        status (O.contents out.old) (O.contents out.new)) }
+    ensures failures { TellsFailure result (O.failures out.old) (O.failures out.new) }
+    ensures faults { IfErr result (IsFaultOfTelling options) }
+    ensures untold { E.failures err.old ≤ E.failures err.new }
+{
+    let mut tally = Tally::default();
+    let greatest = scan_all(rt, fonts, options, &mut tally, out)?;
+    tell_summary(err, fonts.len(), tally, options.format);
+    Ok(greatest)
+}
+
+/// Prints a line or an object for each of the font files with these names, and to `err` a line that
+/// counts them, except in the form JSON; returns the greatest exit status of them: 0 where the scan
+/// fails for no program, 1 where it fails for one. That the counts can't be printed is not told.
 ///
 /// # Errors
 /// `ClassWord` where the word for which programs the scan is to fail names none, and nothing is
 /// printed then; `Write` exactly where a write to `out` failed; `OutOfMemory` where memory ran out
 /// at an object; after the last line, `ScanFault` where the greatest status is 2, and
 /// `ScanUnfinished` where it is 3.
-pub(super) fn scan_fonts<R: Files + AllocGlobal, O: Sink>(
+pub(super) fn scan_fonts<R: Files + AllocGlobal, O: Sink, E: Sink>(
     rt: &R,
     fonts: &[String],
     options: ScanOptions,
     out: &mut O,
+    err: &mut E,
 ) -> Result<u8, CommandFault>
     ensures status { IfOk result (λ status. status ≤ 1) }
     ensures safe { IfOk result (λ status. status ≡ 0 → All
@@ -253,11 +283,12 @@ pub(super) fn scan_fonts<R: Files + AllocGlobal, O: Sink>(
     ensures faults { IfErr result (λ fault. IsFaultOfScan options fault
         ⊎ (options.fail_on ≢ FailOn.Unknown × IsFaultOfPrinting fault)) }
     ensures none { OnOk result (options.fail_on ≢ FailOn.Unknown) }
+    ensures untold { E.failures err.old ≤ E.failures err.new }
 {
     if let FailOn::Unknown = options.fail_on {
         return Err(CommandFault::ClassWord);
     }
-    match scan_all(rt, fonts, options, out)? {
+    match scan_counting(rt, fonts, options, out, err)? {
         0 => Ok(ACCEPTED),
         1 => Ok(REFUSED),
         2 => Err(CommandFault::ScanFault),

@@ -9,7 +9,7 @@ ghost use Rattle.hintcheck_fonts.specs.Upgrades.{IsNumberOfPrograms, IsUpgradeOf
 
 use super::ACCEPTED;
 use super::faults::CommandFault;
-use super::files::{ROOM, file_numbers, is_same_file, opened, write_rest};
+use super::files::{ROOM, file_numbers, is_same_file, of_certificate, opened, write_rest};
 use hintcheck_fonts::certificate_upgrade::upgrade;
 use std::alloc::Global;
 use std::fs;
@@ -58,12 +58,14 @@ fn upgrade_named<R: Files + AllocGlobal>(rt: &R, old: &str, new: &str) -> Result
     if old == new || is_same_file(file_numbers(rt, old), file_numbers(rt, new)) {
         return Err(CommandFault::NewWord);
     }
-    let old = opened(rt, old)?;
+    let file = opened(rt, old)?;
     let Ok(new) = fs::create(rt, new) else {
         return Err(CommandFault::File);
     };
-    let (count, _new) = upgrade_file(rt.alloc(), old, new)?;
-    Ok(count)
+    match upgrade_file(rt.alloc(), file, new) {
+        Ok((count, _new)) => Ok(count),
+        Err(fault) => Err(of_certificate(rt, old, fault)),
+    }
 }
 
 /// Upgrades the certificate in the file with the first name to the file with the second, prints how

@@ -6,11 +6,11 @@ ghost use Rattle.hintcheck.specs.CommandFaults.{IsFaultOfFontFile, IsFaultOfSour
 ghost use Rattle.hintcheck.specs.MeansSafe.{HoldRefusedBy, HoldSafeBy, IsVerdictBy};
 ghost use Rattle.hintcheck_fonts.specs.FontAnswers.{IsSymbolicVerdictOn, IsVerdictOn};
 
-use super::faults::CommandFault;
+use super::faults::{CommandFault, Numbered};
 use super::files::opened;
-use hintcheck_fonts::font::{self, verdict_within};
+use crate::font_file::{symbolic_verdict_in, verdict_in};
+use hintcheck_fonts::font::{VerdictFault, verdict_within};
 use hintcheck_fonts::report::Verdict;
-use hintcheck_fonts::symbolic_verdict::{verdict_symbolic, verdict_symbolic_within};
 use hintcheck_words::Profile;
 use std::alloc::Global;
 use std::io::Read;
@@ -36,7 +36,7 @@ pub fn verdict_of<S: Source>(alloc: Global, source: &mut S) -> Result<Verdict, C
     ensures none { OnOk result (ReadNoFault (S.remaining source.old) (S.remaining source.new)) }
 {
     let bytes = read_all(alloc, source)?;
-    Ok(font::verdict(alloc, &bytes)?)
+    Ok(verdict_in(alloc, &bytes)?)
 }
 
 /// Returns the verdict as `verdict_of` does, and makes at most this many points, where they are
@@ -57,7 +57,11 @@ fn verdict_within_points<S: Source>(
         return verdict_of(alloc, source);
     };
     let bytes = read_all(alloc, source)?;
-    Ok(verdict_within(alloc, &bytes, &mut Budget::of(most))?)
+    match verdict_within(alloc, &bytes, &mut Budget::of(most)) {
+        Ok(verdict) => Ok(verdict),
+        Err(VerdictFault::Font(fault)) => Err(CommandFault::Font(Numbered::of(fault, &bytes))),
+        Err(VerdictFault::Budget) => Err(CommandFault::Budget),
+    }
 }
 
 /// Returns the verdict by symbolic states on all programs of the font whose bytes are all that is
@@ -76,10 +80,7 @@ fn symbolic_verdict_of<S: Source>(
         (IsFaultOfSource (S.remaining source.old) (S.remaining source.new)) }
 {
     let bytes = read_all(alloc, source)?;
-    match budget {
-        Some(most) => Ok(verdict_symbolic_within(alloc, &bytes, most)?),
-        None => Ok(verdict_symbolic(alloc, &bytes)?),
-    }
+    Ok(symbolic_verdict_in(alloc, &bytes, budget)?)
 }
 
 /// Returns the verdict of a profile on all programs of a font, whose bytes are those that are left

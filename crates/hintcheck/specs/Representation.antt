@@ -1,0 +1,2 @@
+-- What the code prints beside the answers: private contracts cite these, and no public one does.
+pub mod ScanSummaries

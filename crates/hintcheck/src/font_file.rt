@@ -1,0 +1,71 @@
+//! Fonts in the bytes of a file, and the verdicts on them: where there is none, the fault tells what
+//! the file holds instead, as far as it is known.
+
+ghost use Rattle.std.specs.Prelude.{◌≡◌, IfErr, IfOk, None, OnOk};
+ghost use Rattle.tt_font.specs.FileFaults.{font_fault};
+ghost use Rattle.tt_font.specs.Reading.{Reads};
+ghost use Rattle.hintcheck.specs.CommandFaults.{IsFaultOfFont};
+ghost use Rattle.hintcheck_fonts.specs.FontAnswers.{IsSymbolicVerdictOn, IsVerdictOn};
+ghost use Rattle.hintcheck_fonts.specs.FontPrograms.{IsFontInRange};
+
+use crate::commands::faults::Numbered;
+use hintcheck_fonts::font::{self, read_font};
+use hintcheck_fonts::report::Verdict;
+use hintcheck_fonts::symbolic_verdict::{verdict_symbolic, verdict_symbolic_within};
+use std::alloc::Global;
+use tt_font::Font;
+
+/// Reads a font, as `read_font` does.
+///
+/// # Errors
+/// The faults of `Font::read`.
+pub(crate) fn font_in<'a>(alloc: Global, bytes: &'a [u8]) -> Result<Font<'a>, Numbered>
+    ensures reads { IfOk result (λ font. Reads bytes.entry.now font) }
+    ensures range { IfOk result (λ font. IsFontInRange font) }
+    ensures faults { IfErr result (λ numbered. IsFaultOfFont bytes.entry.now numbered.0) }
+{
+    match read_font(alloc, bytes) {
+        Ok(font) => Ok(font),
+        Err(fault) => Err(Numbered::of(fault, bytes)),
+    }
+}
+
+/// Returns the verdict on a font.
+///
+/// # Errors
+/// The faults of `Font::read`; `OutOfMemory`.
+pub(crate) fn verdict_in(alloc: Global, bytes: &[u8]) -> Result<Verdict, Numbered>
+    ensures exact { IfOk result (IsVerdictOn bytes.now) }
+    ensures faults { IfErr result (λ numbered. IsFaultOfFont bytes.now numbered.0) }
+    ensures none { OnOk result (font_fault bytes.now ≡ None) }
+{
+    match font::verdict(alloc, bytes) {
+        Ok(verdict) => Ok(verdict),
+        Err(fault) => Err(Numbered::of(fault, bytes)),
+    }
+}
+
+/// Returns the verdict on a font by symbolic states. The search makes at most this many steps, where
+/// they are bounded.
+///
+/// # Errors
+/// The faults of `Font::read`; `OutOfMemory`.
+pub(crate) fn symbolic_verdict_in(
+    alloc: Global,
+    bytes: &[u8],
+    budget: Option<u64>,
+) -> Result<Verdict, Numbered>
+    ensures exact { IfOk result (IsSymbolicVerdictOn bytes.now) }
+    ensures faults { IfErr result (λ numbered. IsFaultOfFont bytes.now numbered.0) }
+{
+    match budget {
+        Some(most) => match verdict_symbolic_within(alloc, bytes, most) {
+            Ok(verdict) => Ok(verdict),
+            Err(fault) => Err(Numbered::of(fault, bytes)),
+        },
+        None => match verdict_symbolic(alloc, bytes) {
+            Ok(verdict) => Ok(verdict),
+            Err(fault) => Err(Numbered::of(fault, bytes)),
+        },
+    }
+}
