@@ -9,6 +9,7 @@ use Rattle.tt_abs.specs.declared.refusal.Refusal.{Refusal}
 use Rattle.tt_abs.specs.declared.refusal.Refusal.TheVariants as fault
 use Rattle.tt_abs.specs.declared.setting.Kind.{Kind}
 use Rattle.tt_abs.specs.declared.spot.Spot.TheVariants as spot
+use Rattle.tt_abs.specs.Failures.{reason_of}
 use Rattle.tt_abs.specs.Settings.{kind_of, setting_of}
 use Rattle.tt_abs.specs.declared.setting.Setting.{Setting}
 use Rattle.tt_cert.specs.declared.name.Name.{Name}
@@ -120,8 +121,8 @@ pub data IsUncut (called : Name) (bytes : List ℕ) : Refused → Type 0 where
 -- the answer is the outcome of a program of this name that the fault refuses; or that memory ran
 -- out, where it did
 abbrev pub TellsOutcome : Name → Refusal → Result Outcome AllocError → Type 0
-TellsOutcome called (fault.Refused spot offset r) answer =
-    answer ≡ Ok (refused_as called (reported_at called spot offset r))
+TellsOutcome called (fault.Refused spot offset failed) answer =
+    answer ≡ Ok (refused_as called (reported_at called spot offset (reason_of failed)))
 TellsOutcome called (fault.OutOfMemory e) answer = answer ≡ Err e
 
 -- an accepted program: what is known at its end, where a next one starts with that
