@@ -55,13 +55,13 @@ answered x s r explained.Accepted subject h is accepted refused =
     (accepted_found x s.main.now (setting_of s) s.start.now found.updates found.certificate subject.cut subject.setting subject.functions h least)
 answered x s r explained.Refused subject h is accepted refused =
     let why = refused is in (
-      reported_at x.name why.spot why.offset why.reason,
+      reported_at x.name why.spot why.offset (reason_of why.failed),
       found_refusal x s.main.now (setting_of s) s.start.now (fault.Refused why.spot why.offset why.failed) subject.cut subject.setting subject.functions h why.justified why.none_good,
     )
 
 -- a program that can't be cut is refused
 pub uncut_answered : (x : Subject) (f : Refusal) → Refuses f → IfRefused x.name f (IsRefusedFor x) → IsAnswered x explained.Refused
-uncut_answered x (fault.Refused spot offset failed) refuses refused = (reported_at x.name spot offset (reason_of failed), refused.refusal)
+uncut_answered x (fault.Refused spot offset test) refuses refused = (reported_at x.name spot offset (reason_of test), refused.refusal)
 uncut_answered x (fault.OutOfMemory e) refuses refused = absurd refuses
 
 -- what the exit status of a program tells that was explained

@@ -6,6 +6,7 @@ use Rattle.tt_font.specs.Reading.{no_glyph}
 use Rattle.hintcheck_fonts.specs.FontPrograms.{font_of, glyph_subject, one_glyph_font}
 use Rattle.hintcheck_fonts.specs.Programs.{IsRefusal, Subject}
 use Rattle.tt_family.specs.Checks.{IsOutOfMemory}
+use Rattle.tt_abs.specs.Failures.{reason_of}
 use Rattle.tt_abs.specs.declared.refusal.Refusal.{Refusal}
 use Rattle.tt_abs.specs.declared.refusal.Refusal.TheVariants as fault
 use Rattle.hintcheck_fonts.specs.Representation.Judges.{IsRefusedFor}
@@ -38,7 +39,7 @@ returns-in_ok-writeln-in-Err-Refused-clause-told g c = λ one.
     let x = in_some_font c.args.named.bytes.now in
     let F : Refusal → Type 0 = λ f. IfRefused x.name f (IsRefusal x) in
     let W : Refused → Type 0 = λ r. Appends (g.O.Sink.contents c.args.out.now) (g.O.Sink.contents c.writeln.new.self) (refused_text r ++ codes "\n") in
-    tells_unlisted x c.args.named.name (reported_at x.name e.field-0-0 e.offset e.reason) (g.O.Sink.contents c.args.out.now) (g.O.Sink.contents c.writeln.new.self)
+    tells_unlisted x c.args.named.name (reported_at x.name e.field-0-0 e.offset (reason_of e.failed)) (g.O.Sink.contents c.args.out.now) (g.O.Sink.contents c.writeln.new.self)
     (subst F e.field-0-is (refusal_of x e.field-0 (uncut_refusal x e.field-0 (e.ensures.uncut x.name))))
     (λ is cut structured. subst IsOutOfMemory e.field-0-is (e.ensures.only is cut structured))
-    (subst W c.refused_at-refused.ensures c.in_ok-writeln-in-Err-Refused.ensures.written)
+    (rw c.reason.ensures at (subst W c.refused_at-refused.ensures c.in_ok-writeln-in-Err-Refused.ensures.written))
