@@ -89,15 +89,15 @@ struct Tried {
 
 /// An instruction that the strict profile carries out on what a symbolic state knows.
 #[derive(Clone, Copy)]
-struct Trial<'a> {
-    setting: &'a Setting<'a>,
+struct Trial<'a, 's> {
+    setting: &'a Setting<'s>,
     frames: &'a [Frame],
     state: &'a SymbolicState,
     /// Where the numbers are of which it is known that they pass their tests.
     settled: &'a [Element],
 }
 
-impl Trial<'_> {
+impl Trial<'_, '_> {
     /// Returns what is known of a number: the least one of its range, where it passes its test.
     fn cell(&self, element: Element, tried: Option<Tried>) -> Cell {
         match tried {
@@ -189,10 +189,10 @@ pub(crate) fn instruction_at<'a>(
 }
 
 /// Returns which test fails: numbers whose whole range passes their tests are passed over.
-fn first_trouble(
+fn first_trouble<'a>(
     alloc: Global,
-    setting: &Setting<'_>,
-    state: &SymbolicState,
+    setting: &'a Setting<'_>,
+    state: &'a SymbolicState,
 ) -> Result<Trouble, AllocError> {
     let frames = frames_of(alloc, state)?;
     let mut settled = Vec::new(alloc);
