@@ -15,7 +15,7 @@ use tt_abs::{Kind, Refusal, Setting, SortedMap, Spot};
 use tt_code::Reason;
 use tt_family::{Budget, is_short};
 use tt_symbolic::{Kept, NOTHING_KEPT};
-use tt_symbolic_check::{CheckRefusal, Effort, Start};
+use tt_symbolic_check::{CheckRefusal, Effort, Pool, Start};
 use tt_symbolic_font::{Ends, GlyphStarts, check_before_glyphs, start_with};
 use tt_symbolic_search::{Insight, Question, Search, USUAL_SEARCH};
 
@@ -23,6 +23,8 @@ use tt_symbolic_search::{Insight, Question, Search, USUAL_SEARCH};
 /// of a font serves the next ones.
 pub struct SymbolicCheck {
     search: Search,
+    /// Memory of checks that is used again.
+    pool: Pool,
     /// How many steps the search may make, for all programs together.
     most_steps: u64,
     /// What is known where the font program or the CVT program ends that was accepted last.
@@ -40,6 +42,7 @@ impl Drop for SymbolicCheck {
     fn drop(self) {
         let SymbolicCheck {
             search,
+            pool,
             most_steps: _,
             ends,
             starts,
@@ -47,6 +50,7 @@ impl Drop for SymbolicCheck {
             explained: _,
         } = self;
         drop(search);
+        drop(pool);
         drop(ends);
         drop(starts);
     }
@@ -89,7 +93,7 @@ fn check_to_end(
     )
 }
 
-/// Searches and checks a glyph program from these starts.
+/// Searches and checks a glyph program from these starts, in the memory of a pool.
 ///
 /// # Errors
 /// `Refused` too where it is longer than the font allows; those of `Search::find` and of
@@ -97,6 +101,7 @@ fn check_to_end(
 fn check_glyph(
     alloc: Global,
     search: &mut Search,
+    pool: &mut Pool,
     effort: Effort,
     setting: &Setting<'_>,
     starts: &GlyphStarts,
@@ -115,7 +120,10 @@ fn check_glyph(
         controls: starts.controls.as_slice(),
     };
     let found = search.find(setting, &kept, starts.starts.as_slice(), effort)?;
-    starts.check_glyph_program(alloc, setting, found.listed.as_slice(), found.effort)
+    let listed = found.listed.as_slice();
+    starts.check_glyph_program(pool, alloc, setting, listed, found.effort)?;
+    search.give_back(found)?;
+    Ok(())
 }
 
 /// Returns the start of which only the functions are known that all ends have.
@@ -166,7 +174,8 @@ fn check_found(
     let functions = first.functions.as_slice();
     let second = check_to_end(alloc, search, USUAL_SEARCH, cvt, functions)?;
     let starts = starts_after(alloc, search, &second)?;
-    check_glyph(alloc, search, USUAL_SEARCH, glyph, &starts)
+    let mut pool = Pool::new(alloc);
+    check_glyph(alloc, search, &mut pool, USUAL_SEARCH, glyph, &starts)
 }
 
 /// Searches and checks the programs of a font of one glyph.
@@ -236,6 +245,7 @@ impl SymbolicCheck {
     pub fn new(alloc: Global, most_steps: u64) -> Self {
         SymbolicCheck {
             search: Search::new(alloc),
+            pool: Pool::new(alloc),
             most_steps,
             ends: no_ends(alloc),
             starts: GlyphStarts {
@@ -306,7 +316,10 @@ impl SymbolicCheck {
                 self.ends = check_to_end(alloc, search, effort, setting, functions)?;
                 Ok(())
             }
-            Kind::Glyph { .. } => check_glyph(alloc, search, effort, setting, &self.starts),
+            Kind::Glyph { .. } => {
+                let pool = &mut self.pool;
+                check_glyph(alloc, search, pool, effort, setting, &self.starts)
+            }
         }
     }
 }

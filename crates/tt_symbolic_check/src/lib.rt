@@ -12,9 +12,10 @@ mod splits;
 mod start;
 mod walk;
 
-pub use checking::check;
+pub use checking::{check, check_in};
 pub use copying::{Split, copied, copy_into, lower, raise};
 pub use covering::{covers, has_functions};
+pub use pool::Pool;
 pub use refusal::{CheckRefusal, Place};
 pub use splits::wanted;
 pub use start::{Start, start_state};

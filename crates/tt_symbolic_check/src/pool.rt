@@ -1,4 +1,4 @@
-//! Memory of a walk that is used again: states that are done with, and a list for comparisons.
+//! Memory of walks that is used again: states that are done with, and a list for comparisons.
 
 ghost use Rattle.std.specs.Prelude.{IfOk};
 ghost use Rattle.tt_symbolic_check.specs.Copying.{IsCopy};
@@ -11,13 +11,13 @@ use tt_symbolic_state::state::State;
 /// How many states are kept at most whose memory is used again.
 const MOST_KEPT: usize = 32;
 
-/// Memory of a walk that is used again.
+/// Memory of walks that is used again, by later ones too.
 pub struct Pool {
     alloc: Global,
     /// States that are done with.
     states: Vec<Box<State>>,
     /// What was assigned when states were compared last.
-    pub assigned: Vec<Option<Cell>>,
+    pub(crate) assigned: Vec<Option<Cell>>,
 }
 
 // Written out, so that who holds a pool proves in one step that its memory is given back.
@@ -65,7 +65,7 @@ impl Pool {
     ///
     /// # Errors
     /// If memory runs out.
-    pub fn copied(&mut self, state: &State) -> Result<Box<State>, AllocError>
+    pub(crate) fn copied(&mut self, state: &State) -> Result<Box<State>, AllocError>
         ensures { IfOk result (λ b. IsCopy state.now b.value) }
     {
         match self.states.pop() {
@@ -78,7 +78,7 @@ impl Pool {
     ///
     /// # Errors
     /// If memory runs out.
-    pub fn keep(&mut self, state: Box<State>) -> Result<(), AllocError> {
+    pub(crate) fn keep(&mut self, state: Box<State>) -> Result<(), AllocError> {
         if self.states.len() < MOST_KEPT {
             self.states.push(state)?;
         }

@@ -13,7 +13,7 @@ use crate::ends::Ends;
 use std::alloc::{AllocError, Global};
 use tt_abs::{Setting, SortedMap};
 use tt_symbolic::Kept;
-use tt_symbolic_check::{CheckRefusal, Effort, Start, check, has_functions};
+use tt_symbolic_check::{CheckRefusal, Effort, Pool, Start, check_in, has_functions};
 use tt_symbolic_state::{Cell, State};
 
 /// With what glyph programs start, and which memory entries none of them writes.
@@ -141,12 +141,13 @@ impl GlyphStarts {
     }
 
     /// Checks a glyph program by listed states: from each of the starts, and so that it writes none
-    /// of the entries that one of them lists.
+    /// of the entries that one of them lists. The check uses the memory of a pool.
     ///
     /// # Errors
     /// Those of `check`.
     pub fn check_glyph_program(
         &self,
+        pool: &mut Pool,
         alloc: Global,
         setting: &Setting<'_>,
         listed: &[State],
@@ -158,7 +159,8 @@ impl GlyphStarts {
             storage: self.storage.as_slice(),
             controls: self.controls.as_slice(),
         };
-        check(
+        check_in(
+            pool,
             alloc,
             setting,
             &kept,

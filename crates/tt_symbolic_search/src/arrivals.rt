@@ -20,7 +20,7 @@ const MOST_CELLS: usize = 8_000_000;
 const MOST_CELLS_LEFT: usize = 7_000_000;
 
 /// How many tracks are kept at most whose memory is used again.
-const MOST_SPARE: usize = 32;
+pub(crate) const MOST_SPARE: usize = 64;
 
 /// How many cells the rest of a state is counted as.
 const CELLS_OF_STATE: usize = 32;
@@ -338,13 +338,21 @@ impl Arrivals {
     }
 
     /// Takes out the states that are listed, and worth it: states have come to them from behind, or
-    /// from several sides, or they are ends. Keeps the memory of others.
-    pub(crate) fn take_listed(&mut self, alloc: Global) -> Result<Vec<State>, AllocError> {
+    /// from several sides, or they are ends. Keeps the memory of others, and puts the tracks of which
+    /// the states were taken into a list.
+    pub(crate) fn take_listed(
+        &mut self,
+        alloc: Global,
+        emptied: &mut Vec<Box<Track>>,
+    ) -> Result<Vec<State>, AllocError> {
         let mut listed = Vec::new(alloc);
         for (_, item) in mem::replace(&mut self.items, Slab::new(alloc)) {
             if item.standing == Standing::Walked && (item.is_back || item.arrivals > 1) {
-                let Track { state, .. } = Box::into_inner(item.track);
-                listed.push(state)?;
+                let mut track = item.track;
+                listed.push(track.take_state(alloc)?)?;
+                if emptied.len() < MOST_SPARE {
+                    emptied.push(track)?;
+                }
             } else {
                 self.spare(item.track)?;
             }

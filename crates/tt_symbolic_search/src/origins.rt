@@ -5,6 +5,7 @@
 use crate::cell_names::CellName;
 use crate::insight::Source;
 use crate::origin_notes::{FIRST_MAKER, Meeting, Notes, Point};
+use crate::signature::mix;
 use std::alloc::{AllocError, Global};
 use std::collections::HashMap;
 use tt_symbolic_state::cell::Cell;
@@ -40,7 +41,7 @@ pub(crate) fn origin_in(origins: &[OriginNumber], cell: Cell) -> OriginNumber {
 }
 
 /// What made a symbol.
-#[derive(Clone, Copy, Debug, PartialEq, Eq, Hash)]
+#[derive(Clone, Copy, Debug, PartialEq, Eq)]
 struct Origin {
     /// The cell that was merged; none where an instruction computed it.
     merged: Option<CellName>,
@@ -52,12 +53,24 @@ struct Origin {
     second: OriginNumber,
 }
 
+impl Origin {
+    /// Returns a hash of the origin.
+    fn hash(&self) -> u64 {
+        let cell = match self.merged {
+            Some(name) => mix(name.hash(), 1),
+            None => 0,
+        };
+        let origins = mix(mix(cell, i64::from(self.first)), i64::from(self.second));
+        mix(origins, i64::from(self.lost_number))
+    }
+}
+
 /// All origins of the symbols of a run.
 pub(crate) struct Origins {
     /// The origins, by their numbers.
     list: Vec<Origin>,
-    /// Their numbers.
-    numbers: HashMap<Origin, OriginNumber>,
+    /// The number of the last of each hash.
+    numbers: HashMap<u64, OriginNumber>,
     /// What is noted to explain a refusal; nothing where none is to be explained.
     notes: Option<Notes>,
 }
@@ -127,15 +140,18 @@ impl Origins {
 
     /// Returns the number of an origin, which it gets where it has none.
     fn number_of(&mut self, origin: Origin) -> Result<OriginNumber, AllocError> {
-        if let Some(number) = self.numbers.get(&origin) {
-            return Ok(*number);
+        let hash = origin.hash();
+        if let Some(number) = self.numbers.get(&hash).copied() {
+            if self.get(number) == Some(origin) {
+                return Ok(number);
+            }
         }
         self.list.push(origin)?;
         let number = u32::try_from(self.list.len()).map_err(|_| AllocError)?;
         if number >= FIRST_MAKER {
             return Err(AllocError);
         }
-        self.numbers.insert(origin, number)?;
+        self.numbers.insert(hash, number)?;
         Ok(number)
     }
 

@@ -80,10 +80,12 @@ struct Way {
 }
 
 impl Way {
-    /// Notes that a step was made, and whether another state waits behind this one now.
+    /// Notes that a step was made, and whether another state waits behind this one now: one that did
+    /// before still does where the step has led on.
     fn count_step(&mut self, waiting: &Waiting) {
         self.is_first = false;
-        self.crowded = if waiting.has_behind(&self.track) {
+        let still_behind = self.crowded > 0 && self.led == Led::On;
+        self.crowded = if still_behind || waiting.has_behind(&self.track) {
             self.crowded.saturating_add(1)
         } else {
             0

@@ -1,5 +1,6 @@
 //! The search of a font: what was learnt from its programs so far, and the listed states of the next.
 
+use crate::arrivals::MOST_SPARE;
 use crate::blending::Merges;
 use crate::cell_names::CellName;
 use crate::insight::{Insight, Question};
@@ -74,6 +75,8 @@ pub struct Search {
     insight: Option<Insight>,
     /// Tracks of earlier runs that are no longer needed, whose memory is used again.
     spare: Vec<Box<Track>>,
+    /// Tracks of the last run whose states were handed out.
+    emptied: Vec<Box<Track>>,
 }
 
 // Written out, so that who holds a search proves in one step that its memory is given back.
@@ -89,6 +92,7 @@ impl Drop for Search {
             question,
             insight,
             spare,
+            emptied,
         } = self;
         drop(alloc);
         drop(merges);
@@ -97,6 +101,7 @@ impl Drop for Search {
         drop(question);
         drop(insight);
         drop(spare);
+        drop(emptied);
     }
 }
 
@@ -128,6 +133,7 @@ impl Search {
             question: None,
             insight: None,
             spare: Vec::new(alloc),
+            emptied: Vec::new(alloc),
         }
     }
 
@@ -204,6 +210,24 @@ impl Search {
         Err(trial.has_refused.unwrap_or(CheckRefusal::BudgetMet))
     }
 
+    /// Takes back what was found, once the program is checked: its memory is used again.
+    ///
+    /// # Errors
+    /// If memory runs out.
+    pub fn give_back(&mut self, found: Found) -> Result<(), AllocError> {
+        let mut found = found;
+        for state in mem::replace(&mut found.listed, Vec::new(self.alloc)) {
+            let Some(mut track) = self.emptied.pop() else {
+                return Ok(());
+            };
+            track.state = state;
+            if self.spare.len() < MOST_SPARE {
+                self.spare.push(track)?;
+            }
+        }
+        Ok(())
+    }
+
     /// Forgets what the merges of another run know.
     fn begin_run(&mut self) {
         self.merges.origins.clear();
@@ -235,7 +259,8 @@ impl Search {
 
     /// Takes what was found out of a run that came to its end, and keeps its memory for the next one.
     fn take_found(&mut self, trial: &Trial<'_>, run: &mut Run) -> Result<Found, AllocError> {
-        let listed = run.arrivals.take_listed(self.alloc)?;
+        self.emptied.clear();
+        let listed = run.arrivals.take_listed(self.alloc, &mut self.emptied)?;
         self.spare = run.arrivals.take_spare(self.alloc);
         Ok(Found {
             listed,

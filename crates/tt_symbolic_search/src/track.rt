@@ -4,8 +4,9 @@ use crate::cell_names::{CellName, Part};
 use crate::origins::{NOWHERE, OriginNumber, origin_in};
 use crate::signature::mix;
 use std::alloc::{AllocError, Global};
+use std::mem;
 use std::rc::Rc;
-use tt_symbolic_check::{copied, copy_into};
+use tt_symbolic_check::{Start, copied, copy_into, start_state};
 use tt_symbolic_state::State;
 use tt_symbolic_state::cell::Cell;
 
@@ -61,6 +62,12 @@ impl Track {
             hashes: Rc::new(alloc, Vec::new(alloc))?,
             hashed: 0,
         })
+    }
+
+    /// Takes out the state: a state of which nothing is known is left.
+    pub(crate) fn take_state(&mut self, alloc: Global) -> Result<State, AllocError> {
+        let empty = start_state(alloc, &Start::unknown(alloc))?;
+        Ok(mem::replace(&mut self.state, empty))
     }
 
     /// Makes a copy.

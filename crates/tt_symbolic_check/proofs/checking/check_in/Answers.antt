@@ -1,5 +1,5 @@
 use Rattle.tt_symbolic_check.proofs.Walkings.{whole}
-use Rattle.tt_symbolic_check.proofs.checking.check.Goals as goal
+use Rattle.tt_symbolic_check.proofs.checking.check_in.Goals as goal
 
 pub returns-clause-safe : goal.returns-clause-safe
 returns-clause-safe c = (whole c.args.setting.now c.args.kept.now c.args.listed.now c.args.starts.now c.in_ok-walk.walk c.walk_on.new.walk c.in_ok-walk.ensures c.in_ok-walk_on.ensures.reaches c.in_ok-walk_on.ensures.none_pending).0
