@@ -317,19 +317,16 @@ impl Run {
         })
     }
 
-    /// Keeps the state before its step, as far as an explanation needs it.
-    fn keep(&mut self, task: &Task<'_>, track: &Track) -> Result<(), AllocError> {
-        let Some(question) = task.question else {
-            return Ok(());
-        };
+    /// Keeps the state before its step, as far as the explanation needs it that is asked for.
+    fn keep(&mut self, alloc: Global, question: Question, track: &Track) -> Result<(), AllocError> {
         let place = Place::of(&track.state);
         if place.spot == Spot::Main && question.offset == Some(place.offset) {
-            self.see(task.alloc, track)?;
+            self.see(alloc, track)?;
         }
         match &mut self.last {
-            Some(last) => last.copy_from(task.alloc, track),
+            Some(last) => last.copy_from(alloc, track),
             None => {
-                self.last = Some(Box::new(task.alloc, track.copied(task.alloc)?)?);
+                self.last = Some(Box::new(alloc, track.copied(alloc)?)?);
                 Ok(())
             }
         }
@@ -381,8 +378,10 @@ impl Run {
         code: Option<u8>,
     ) -> Result<(), Stop> {
         let place = Place::of(&way.track.state);
-        self.keep(task, &way.track)
-            .map_err(|error| out_of_memory(task, error))?;
+        if let Some(question) = task.question {
+            self.keep(task.alloc, question, &way.track)
+                .map_err(|error| out_of_memory(task, error))?;
+        }
         let track = &mut way.track;
         let Some(code) = code else {
             let refusal = StepRefusal::Refused(Reason::Target);
