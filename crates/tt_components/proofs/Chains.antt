@@ -5,9 +5,9 @@ use Rattle.tt_font.specs.Chains.{end_of, part_of}
 use Rattle.tt_font.specs.FileFaults.{font_fault}
 use Rattle.tt_font.specs.Files.{font_glyph_count, font_glyphs, font_outlines}
 use Rattle.tt_font.specs.Laws.{HasWay, IsWay}
-use Rattle.tt_font.specs.Outlines.{Outline, parts, starts_chain}
+use Rattle.tt_font.specs.Outlines.{Outline, leads_out, parts, starts_chain}
 use Rattle.tt_font.proofs.CountLemmas.{outline_past}
-use Rattle.tt_font.proofs.LawProofs.{starts_ways}
+use Rattle.tt_font.proofs.LawProofs.{finds_ways_out, starts_ways}
 use Rattle.tt_components.specs.Closed.{Reaches}
 use Rattle.tt_components.proofs.FontFacts.{is_font}
 
@@ -57,9 +57,28 @@ at_most_16 bytes none id [] steps = omega arith
 at_most_16 bytes none id (i ∷ way) steps = elim (cases_lt id (font_glyph_count bytes)) [
   | inr past ↦ absurd (no_part_past bytes id i past steps.0)
   | inl inside ↦ elim (cases_lt 16 (length (i ∷ way))) [
-      | inr short ↦ short
-      | inl long ↦ (let starts : starts_chain (font_outlines bytes) 17 id ≡ true = (starts_ways (font_outlines bytes) 17 id).1 (beginning (font_outlines bytes) id 17 (i ∷ way) (omega arith) steps) in
-          let not : starts_chain (font_outlines bytes) 17 id ≡ false = (is_font bytes none).short id inside in
+    | inr short ↦ short
+    | inl long ↦ (let starts : starts_chain (font_outlines bytes) 17 id ≡ true = (starts_ways (font_outlines bytes) 17 id).1 (beginning (font_outlines bytes) id 17 (i ∷ way) (omega arith) steps) in
+        let not : starts_chain (font_outlines bytes) 17 id ≡ false = (is_font bytes none).short id inside in
+        absurd (cc))
+  ]
+]
+
+-- in a font that is read a glyph reaches glyphs of the font alone
+pub reached_inside : (bytes : List ℕ) → font_fault bytes ≡ None → (id other : ℕ) → id < font_glyph_count bytes → Reaches (font_outlines bytes) id other → other < font_glyph_count bytes
+reached_inside bytes none id other inside reached = by_way reached.way reached.steps reached.ends
+  where
+    by_way : (way : List ℕ) → IsWay (font_outlines bytes) id way → end_of (font_outlines bytes) id way ≡ other → other < font_glyph_count bytes
+    by_way [] steps ends = omega arith
+    by_way (i ∷ way) steps ends = elim (cases_lt other (font_glyph_count bytes)) [
+      | inl lt ↦ lt
+      | inr le ↦ (let leads : leads_out (font_glyph_count bytes) (font_outlines bytes) 16 id ≡ true = (finds_ways_out (font_glyph_count bytes) (font_outlines bytes) 16 id).1 (record {
+        way = i ∷ way;
+        some = omega arith;
+        len = at_most_16 bytes none id (i ∷ way) steps;
+        steps = steps;
+        out = omega arith;
+      }) in
+          let no : leads_out (font_glyph_count bytes) (font_outlines bytes) 16 id ≡ false = (is_font bytes none).out id inside in
           absurd (cc))
     ]
-]

@@ -102,12 +102,22 @@ no_long_chain : (count : ℕ) (outlines : ℕ → Outline) (id : ℕ) → refuse
 unfolding refused
 no_long_chain count outlines id e = or_left (starts_chain outlines 17 id) _ (or_right (leads_out count outlines 16 id) _ e)
 
-short_chains : (count : ℕ) (glyphs : ℕ → List ℕ) (outlines : ℕ → Outline) → glyphs_fault count glyphs outlines ≡ None
-    → (id : ℕ) → id < count → starts_chain outlines 17 id ≡ false
+no_way_out : (count : ℕ) (outlines : ℕ → Outline) (id : ℕ) → refused count outlines id ≡ false → leads_out count outlines 16 id ≡ false
+unfolding refused
+no_way_out count outlines id e = or_left (leads_out count outlines 16 id) _ e
+
+-- what holds of the chains from each glyph
+record IsSound (count : ℕ) (outlines : ℕ → Outline) (id : ℕ) : Type 0 where
+  out : leads_out count outlines 16 id ≡ false
+  short : starts_chain outlines 17 id ≡ false
+
+sound_chains : (count : ℕ) (glyphs : ℕ → List ℕ) (outlines : ℕ → Outline) → glyphs_fault count glyphs outlines ≡ None
+    → (id : ℕ) → id < count → IsSound count outlines id
 unfolding glyphs_fault refused_glyph
-short_chains count glyphs outlines e id lt =
+sound_chains count glyphs outlines e id lt =
     let none = none_holds (glyph_fault count glyphs ∷ composite_fault count outlines ∷ []) e in
-    no_long_chain count outlines id (first_none (refused count outlines) count (none_found (λ id. faults.Composite id) _ none.1.0) id lt)
+    let accepted : refused count outlines id ≡ false = first_none (refused count outlines) count (none_found (λ id. faults.Composite id) _ none.1.0) id lt in
+    record { out = no_way_out count outlines id accepted; short = no_long_chain count outlines id accepted }
 
 -- all of this of a file
 pub record IsFont (bytes : List ℕ) : Type 0 where
@@ -116,6 +126,7 @@ pub record IsFont (bytes : List ℕ) : Type 0 where
   pub head : 54 ≤ length (table Head bytes)
   pub known : loca_format (table Head bytes) < 2
   pub placed : (i : ℕ) → i ≤ font_glyph_count bytes → entry_fits (loca_format (table Head bytes)) (table Loca bytes) (table Glyf bytes) i ≡ true
+  pub out : (id : ℕ) → id < font_glyph_count bytes → leads_out (font_glyph_count bytes) (font_outlines bytes) 16 id ≡ false
   pub short : (id : ℕ) → id < font_glyph_count bytes → starts_chain (font_outlines bytes) 17 id ≡ false
 
 pub is_font : (bytes : List ℕ) → font_fault bytes ≡ None → IsFont bytes
@@ -123,19 +134,21 @@ unfolding font_fault tables_fault
 is_font bytes e =
     let both = none_holds (tables_fault bytes ∷ glyphs_fault (font_glyph_count bytes) (font_glyphs bytes) (font_outlines bytes) ∷ []) e in
     let none = none_holds (
-        directory_fault bytes
-        ∷ table_fault Maxp 0 bytes ∷ maxp_fault (table Maxp bytes)
-        ∷ table_fault Head 54 bytes
-        ∷ table_fault Loca 0 bytes ∷ table_fault Glyf 0 bytes
-        ∷ optional_table_fault Cvt 0xFFFF_FFFF bytes
-        ∷ optional_table_fault Fpgm program_most bytes ∷ optional_table_fault Prep program_most bytes
-        ∷ loca_fault (loca_format (table Head bytes)) (table Loca bytes) (table Glyf bytes) (font_glyph_count bytes) ∷ []) both.0 in
+    directory_fault bytes
+    ∷ table_fault Maxp 0 bytes ∷ maxp_fault (table Maxp bytes)
+    ∷ table_fault Head 54 bytes
+    ∷ table_fault Loca 0 bytes ∷ table_fault Glyf 0 bytes
+    ∷ optional_table_fault Cvt 0xFFFF_FFFF bytes
+    ∷ optional_table_fault Fpgm program_most bytes ∷ optional_table_fault Prep program_most bytes
+    ∷ loca_fault (loca_format (table Head bytes)) (table Loca bytes) (table Glyf bytes) (font_glyph_count bytes) ∷ []) both.0 in
     let entries = is_placed (loca_format (table Head bytes)) (table Loca bytes) (table Glyf bytes) (font_glyph_count bytes) none.1.1.1.1.1.1.1.1.1.0 in
+    let sound = sound_chains (font_glyph_count bytes) (font_glyphs bytes) (font_outlines bytes) both.1.0 in
     record {
       directory = whole_directory bytes none.0;
       maxp = long_maxp (table Maxp bytes) none.1.1.0;
       head = long_table Head 54 bytes none.1.1.1.0;
       known = entries.known;
       placed = entries.placed;
-      short = short_chains (font_glyph_count bytes) (font_glyphs bytes) (font_outlines bytes) both.1.0;
+      out = λ id lt. (sound id lt).out;
+      short = λ id lt. (sound id lt).short;
     }

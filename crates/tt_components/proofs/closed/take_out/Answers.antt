@@ -7,10 +7,10 @@ use Rattle.tt_components.proofs.closed.take_out.Goals as goal
 pub loop-id-preserved : goal.loop-id-preserved
 loop-id-preserved c =
     let inside : c.loop-id.id < length c.loop-id.set =
-        let test = c.loop-id-test.true in
-        let len = c.loop-id.auto.set in
-        let count = c.requires in
-        omega arith in
+    let test = c.loop-id-test.true in
+    let len = c.loop-id.auto.set in
+    let count = c.requires in
+    omega arith in
     let T : ℕ → Bool → Type 0 = λ at stays. IsTaken (outlines_in c.args.glyphs.now) c.args.set.now (c.loop-id.id + 1) (slice_set c.loop-id.set at stays) in
     record {
       taken = subst (λ at. T at c.has_whole-stays.result) (sym c.from-place.ensures) (subst (T c.loop-id.id) (sym c.has_whole-stays.ensures)
