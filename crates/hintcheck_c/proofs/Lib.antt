@@ -1,0 +1,2 @@
+pub mod HintedGlyphs
+pub mod SafeGlyphs
