@@ -10,8 +10,8 @@ use Rattle.tt_cert.specs.declared.name.Name.TheVariants as name
 use Rattle.tt_components.specs.Closed.{Reaches}
 use Rattle.tt_components.proofs.Chains.{reaches_itself}
 use Rattle.tt_font.specs.FileFaults.{font_fault, tables_fault}
-use Rattle.tt_font.specs.Conditions.{Condition, first}
-use Rattle.tt_font.specs.Files.{font_glyph_count, font_outlines}
+use Rattle.tt_font.specs.Conditions.{Condition, first, glyphs_fault}
+use Rattle.tt_font.specs.Files.{font_glyph_count, font_glyphs, font_outlines}
 use Rattle.tt_font.specs.Ranges.{AreFewBytes, IsFontInRange}
 use Rattle.tt_font.specs.Reading.{FontData, GlyphData, Reads}
 use Rattle.tt_font.proofs.RangeLemmas.{font_in_range}
@@ -31,10 +31,10 @@ name_of r = r.program
 
 -- the first refused program of a list is another glyph's, and so are the others
 first_is_anothers : (r : Refused) (rs : List Refused) (id : ℕ) → AreAccepted (r ∷ rs) id → IsAnothers r.program id
-first_is_anothers r rs id accepted = accepted 0 r (omega arith)
+first_is_anothers r rs id fine = fine 0 r (omega arith)
 
 others_are : (r : Refused) (rs : List Refused) (id : ℕ) → AreAccepted (r ∷ rs) id → AreAccepted rs id
-others_are r rs id accepted k d lt = accepted (suc k) d (omega arith)
+others_are r rs id fine k d lt = fine (suc k) d (omega arith)
 
 not_named : (r : Refused) (n : Name) (id : ℕ) → IsAnothers r.program id → r.program ≡ n → IsAnothers n id
 not_named r n id is e = let A : Name → Type 0 = λ x. IsAnothers x id in subst A e is
@@ -107,7 +107,7 @@ by_verdict d v range (none_ended f p functions known rs font cvt glyphs) other g
 
 no_tables_fault : (bytes : List ℕ) → font_fault bytes ≡ None → tables_fault bytes ≡ None
 unfolding font_fault
-no_tables_fault bytes e = by_first (tables_fault bytes) _ e
+no_tables_fault bytes e = by_first (tables_fault bytes) (glyphs_fault (font_glyph_count bytes) (font_glyphs bytes) (font_outlines bytes) ∷ []) e
   where
     by_first : (c : Condition) (cs : List Condition) → first (c ∷ cs) ≡ None → c ≡ None
     by_first None cs e = refl
