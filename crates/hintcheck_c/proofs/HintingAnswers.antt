@@ -1,5 +1,5 @@
 -- What the two calls that tell which glyphs may be drawn with hints answer, from what they ask.
-use Rattle.std.proofs.Common.{◌≡◌, ℕ, ◌<◌, ◌≤◌, List, [], ◌∷◌, Bool, None, length, sym, ◌∙◌, ap, subst, arith, inl, inr}
+use Rattle.std.proofs.Common.{◌≡◌, ℕ, ◌<◌, ◌≤◌, List, [], ◌∷◌, Bool, None, length, ap, arith, inl, inr}
 use Rattle.std.specs.Prelude.{slice_index}
 use Rattle.std.specs.List.{AllByRecursion}
 use Rattle.std.proofs.lemmas.Bool.{cases_lt}
@@ -30,11 +30,8 @@ status_is_few (r ∷ rs) = omega arith
 pub verdict_status : (v : Judgement) (answer : HintcheckAnswer) → Answers v answer [] [] → answer.status ≤ 1
 verdict_status v answer given =
     let few : status_of v.refused ≤ 1 = status_is_few v.refused in
-    let is : answer.status ≡ status_of v.refused = ap status given.in_numbers in
+    let is : answer.status ≡ status_of v.refused = ap (λ (a : HintcheckAnswer). a.status) given.in_numbers in
     omega arith
-  where
-    status : HintcheckAnswer → ℕ
-    status a = a.status
 
 -- and a fault has another
 pub fault_status : (fault : VerdictFault) (points : ℕ) → 2 ≤ (judging_answer fault points).status
@@ -52,11 +49,8 @@ fault_status judging.Budget points = omega arith
 pub answered_fault_status : (fault : VerdictFault) (points : ℕ) (answer : HintcheckAnswer) → answer ≡ judging_answer fault points → 2 ≤ answer.status
 answered_fault_status fault points answer e =
     let few : 2 ≤ (judging_answer fault points).status = fault_status fault points in
-    let is : answer.status ≡ (judging_answer fault points).status = ap status e in
+    let is : answer.status ≡ (judging_answer fault points).status = ap (λ (a : HintcheckAnswer). a.status) e in
     omega arith
-  where
-    status : HintcheckAnswer → ℕ
-    status a = a.status
 
 -- ---- the entries
 
