@@ -4,7 +4,7 @@ use Rattle.tt_code.specs.Runs.{outcome}
 use Rattle.tt_code.specs.declared.machine.Frame.{Frame}
 use Rattle.tt_code.specs.declared.reason.Reason.{Reason}
 use Rattle.tt_abs.specs.declared.refusal.Refusal.{Refusal}
-use Rattle.tt_abs.specs.declared.refusal.Refusal.TheVariants.{Refused, OutOfMemory}
+use Rattle.tt_abs.specs.declared.refusal.Refusal.TheVariants.{Refused, Exhausted}
 use Rattle.tt_abs.specs.declared.setting.Setting.{Setting}
 use Rattle.tt_abs.specs.declared.setting.Point.{Point}
 use Rattle.tt_abs.specs.declared.state.State.{State}
@@ -50,13 +50,13 @@ AreInRange (Two s t) = state_order.InRange s.state × state_order.InRange t.stat
 abbrev pub IsRefusalAt : Point → (Reason → Type 0) → Refusal → Type 0
 IsRefusalAt point P (Refused spot offset f) =
     (spot ≡ spot_of (frames_of point)) × (offset ≡ point.offset) × P (reason_of f)
-IsRefusalAt point P (OutOfMemory e) = Unit {0}
+IsRefusalAt point P (Exhausted by) = Unit {0}
 
 -- what the refusal tells of the test that fails is so
 abbrev pub TellsRefusal : Setting → Point → State → Refusal → Type 0
 TellsRefusal setting point old (Refused spot offset f) =
     IsTold (setting_of setting) (frames_of point) point.offset (abstract_of old) f
-TellsRefusal setting point old (OutOfMemory e) = Unit {0}
+TellsRefusal setting point old (Exhausted by) = Unit {0}
 
 -- the refusal names the point's place, and the first test of the instruction there that fails
 abbrev pub IsRefusalBy : Setting → Point → State → Refusal → Type 0

@@ -8,6 +8,7 @@ pub mod cells;
 mod changes;
 mod compute;
 mod control;
+pub mod exhausted;
 pub mod failed;
 pub mod graphics;
 mod instruction;
@@ -29,6 +30,7 @@ pub mod step_fault;
 mod successors;
 
 pub use cells::{Cell, ZoneCell};
+pub use exhausted::Exhausted;
 pub use failed::{Failed, Register, Role};
 pub use instruction::{Stepped, step, step_at};
 pub use moves::{Move, Moves};

@@ -74,7 +74,7 @@ fn step_copy(setting: &Setting<'_>, point: &Point<'_>, state: &State) -> Result<
 ///
 /// # Errors
 /// `Refused` with the point's place and the first test of the instruction that fails, read on
-/// cells; `OutOfMemory`.
+/// cells; `Exhausted` where memory ran out.
 pub fn transfer(
     setting: &Setting<'_>,
     point: &Point<'_>,
@@ -115,6 +115,6 @@ pub fn transfer(
             offset: point.offset,
             failed,
         }),
-        Err(StepFault::OutOfMemory(error)) => Err(Refusal::OutOfMemory(error)),
+        Err(StepFault::OutOfMemory(error)) => Err(Refusal::from(error)),
     }
 }

@@ -30,7 +30,7 @@ use Rattle.tt_abs.specs.Spots.{spot_of}
 use Rattle.tt_family.specs.Representation.Cursors.{AreMetBy, IsLeftOut, IsMetBy, IsNextState, IsPassed, coverage_of_both}
 use Rattle.tt_family.specs.Fillings.{IsAfter}
 use Rattle.tt_abs.specs.declared.refusal.Refusal.{Refusal}
-use Rattle.tt_abs.specs.declared.refusal.Refusal.TheVariants.{Refused, OutOfMemory}
+use Rattle.tt_abs.specs.declared.refusal.Refusal.TheVariants.{Refused, Exhausted}
 use Rattle.tt_family.specs.declared.meeting.Coverage.{Coverage}
 use Rattle.tt_family.specs.declared.meeting.Coverage.TheVariants as coverage
 
@@ -59,7 +59,7 @@ gap_same family L L' q t f _ gap = absurd gap
 pub named_gap_same : (family : Place → Option State) (L L' : Type 0) (q : Place) (t : State) → (L' → L) → (fault : Refusal) → NamesAt q (IsGap family L q t) fault
     → NamesAt q (IsGap family L' q t) fault
 named_gap_same family L L' q t f (Refused spot offset failed) (a, b, gap) = (a, b, gap_same family L L' q t f (reason_of failed) gap)
-named_gap_same family L L' q t f (OutOfMemory e) h = tt
+named_gap_same family L L' q t f (Exhausted e) h = tt
 
 -- a move that doesn't stay in the body leads to no place just after
 pub leads_elsewhere : (fs : List Frame) (way : Move) (after : Option ℕ) → ((offset : ℕ) → way ≡ To offset → ⊥) → ((end : ℕ) → after ≡ Some end → 0 < end)
@@ -145,7 +145,7 @@ module _ (family : Place → Option State) (fs : List Frame) (after : Option ℕ
         → Names (IsFirstGap family (IsAfter fs after) ns t) fault
     gap_next before (Refused spot offset failed) h =
         (place_of_next n, h.0, h.1, record { index = k; here = record { next = n; found = at; place = refl; gap = h.2 }; before = before })
-    gap_next before (OutOfMemory error) h = tt
+    gap_next before (Exhausted by) h = tt
 
   none_below : (P : Next → Type 0) (ns : List Next) → AreAllBelow P ns 0
   none_below P ns i n lt e = absurd (omega arith)
@@ -289,7 +289,7 @@ module _ (s : Setting) (family : Place → Option State) (L : Place → Type 0) 
         };
       }),
     )
-    broken_here (OutOfMemory error) h = tt
+    broken_here (Exhausted by) h = tt
 
   pub refused_here : IsStoredWithin s a → is_main_end s p.0 p.1 ≡ false → (fault : Refusal) (failed : Failed) → fault ≡ Refused (spot_of p.0) (saturated_offset p.1) failed
       → outcome_on_cells s p.0 p.1 (abstract_of a) ≡ Err (reason_of failed) → Names (BreaksAt s family L p a) fault

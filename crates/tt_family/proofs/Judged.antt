@@ -4,6 +4,8 @@ use Rattle.std.proofs.Common.{sym, ◌∙◌, ap, inl, inr}
 use Rattle.tt_code.specs.Settings.{Setting}
 use Rattle.tt_code.specs.declared.reason.Reason.{Reason}
 use Rattle.tt_abs.specs.Failures.{reason_of}
+use Rattle.tt_abs.specs.Settings.{setting_of}
+use Rattle.tt_abs.specs.declared.setting.Setting.{Setting as Subject}
 use Rattle.tt_abs.specs.declared.state.State.{State}
 use Rattle.tt_abs.specs.Entries.{Ascends}
 use Rattle.tt_abs.specs.Families.{CoversAt, IsGood}
@@ -14,13 +16,15 @@ use Rattle.tt_abs.specs.Soundness.{IsSafe}
 use Rattle.tt_abs.specs.StateFlow.{Place, AreProgramsShort, flow_of}
 use Rattle.tt_abs.specs.States.{start_of, state_order}
 use Rattle.tt_abs.proofs.Soundness.{good_is_safe}
+use Rattle.tt_family.specs.CheckedSubjects.{IsGoodListingFor, IsSafeListingFor, NamesListingBrokenFirst}
 use Rattle.tt_family.specs.Contents.{Contents, IsFamily, family_of, number_of}
 use Rattle.tt_family.specs.Fillings.{HasGoodFilling, HasSafeFilling}
 use Rattle.tt_family.specs.GoodFamilies.{EndsWell, HasFewContexts, IsGoodFamily, IsShortEnough}
-use Rattle.tt_family.specs.Checks.{AreSound, IsBrokenBy, IsBrokenFirst, IsFilledBy, IsFillingBrokenFirst, IsFirstBreak, IsFirstBreakOnTheWay, IsGap, IsMet, IsSoundAt, IsOutOfMemory, Names, NamesAt, Nowhere, too_long, no_start, no_end, no_way}
-use Rattle.tt_family.specs.Representation.Cursors.{IsFoundSound, IsWalkedThrough, MayLeaveOut}
+use Rattle.tt_family.specs.Checks.{AreSound, IsBrokenBy, IsBrokenFirst, IsFilledBy, IsFillingBrokenFirst, IsFirstBreak, IsFirstBreakOnTheWay, IsGap, IsMet, IsSoundAt, IsExhausted, Names, NamesAt, Nowhere, too_long, no_start, no_end, no_way}
+use Rattle.tt_family.specs.Representation.Cursors.{IsFoundSound, IsFoundSoundFor, IsWalkedThrough, MayLeaveOut, NamesFirstFor}
 use Rattle.tt_abs.specs.declared.refusal.Refusal.{Refusal}
-use Rattle.tt_abs.specs.declared.refusal.Refusal.TheVariants.{Refused, OutOfMemory}
+use Rattle.tt_abs.specs.declared.refusal.Refusal.TheVariants.{Refused, Exhausted}
+use Rattle.tt_family.specs.declared.listing.Listing.{Listing}
 use Rattle.tt_family.specs.declared.listing.Listing.TheVariants.{Whole, Sparse}
 use Rattle.tt_family.proofs.FillingLaws.{broken_way, ends_kept, ends_listed, filling_from_walk, gap_not_met, good_from_walk, some_or_none, sound_not_broken, start_listed}
 use Rattle.tt_family.proofs.Walking.{line_of}
@@ -35,12 +39,12 @@ start_gap family t r gap covered = gap_not_met family ⊥ ([], 0) t r gap (inl c
 module _ (s : Setting) (functions : List (ℕ × ℕ)) (v : Contents) (IsFirst : Place → Reason → Type 0) where
   pub start_broken : IsShortEnough s s.kind → (fault : Refusal) → NamesAt ([], 0) (IsGap (family_of v) ⊥ ([], 0) (start_of functions)) fault → Names (IsBrokenBy s functions v IsFirst) fault
   start_broken short (Refused spot offset f) h = (([], 0), h.0, h.1, no_start (reason_of f) short h.2)
-  start_broken short (OutOfMemory e) h = tt
+  start_broken short (Exhausted e) h = tt
 
   pub way_broken : IsShortEnough s s.kind → CoversAt state_order (family_of v) ([], 0) (start_of functions) → EndsWell s s.kind (family_of v) → (fault : Refusal)
       → Names IsFirst fault → Names (IsBrokenBy s functions v IsFirst) fault
   way_broken short start ends (Refused spot offset failed) (q, e, f, h) = (q, e, f, no_way q (reason_of failed) short start ends h)
-  way_broken short start ends (OutOfMemory e) h = tt
+  way_broken short start ends (Exhausted e) h = tt
 
   -- what is broken isn't good
   module _ (short : IsShortEnough s s.kind) (start : CoversAt state_order (family_of v) ([], 0) (start_of functions)) (ends : EndsWell s s.kind (family_of v))
@@ -51,9 +55,9 @@ module _ (s : Setting) (functions : List (ℕ × ℕ)) (v : Contents) (IsFirst :
     not_broken q r (no_end short' start' n) = n ends
     not_broken q r (no_way q' r' short' start' ends' h) = none q' r' h
 
-    only_memory : (fault : Refusal) → Names (IsBrokenBy s functions v IsFirst) fault → IsOutOfMemory fault
-    only_memory (Refused spot offset failed) (q, e, f, h) = not_broken q (reason_of failed) h
-    only_memory (OutOfMemory e) h = tt
+    only_exhausted : (fault : Refusal) → Names (IsBrokenBy s functions v IsFirst) fault → IsExhausted fault
+    only_exhausted (Refused spot offset failed) (q, e, f, h) = not_broken q (reason_of failed) h
+    only_exhausted (Exhausted e) h = tt
 
 -- what is broken for the one is broken for the other
 broken_map : (s : Setting) (functions : List (ℕ × ℕ)) (v : Contents) (A B : Place → Reason → Type 0) → ((q : Place) (r : Reason) → A q r → B q r) → (fault : Refusal)
@@ -65,7 +69,7 @@ broken_map s functions v A B f (Refused spot offset failed) (q, e, g, h) = (q, e
     go q r (no_start r' short gap) = no_start r' short gap
     go q r (no_end short start n) = no_end short start n
     go q r (no_way q' r' short start ends h) = no_way q' r' short start ends (f q' r' h)
-broken_map s functions v A B f (OutOfMemory e) h = tt
+broken_map s functions v A B f (Exhausted e) h = tt
 
 module _ (s : Setting) (functions : List (ℕ × ℕ)) (v : Contents) (family : IsFamily v) where
   -- A whole family: nothing is added.
@@ -123,9 +127,9 @@ module _ (s : Setting) (functions : List (ℕ × ℕ)) (v : Contents) (family : 
   sound_here : IsGood state_order (flow_of s functions) (family_of v) → ((p : Place) (a : State) → family_of v p ≡ Some a → IsGoodFamily s functions (family_of v) → IsSoundAt s (family_of v) Nowhere p a)
   sound_here good p a at whole = record { stored = whole.storage p a at; safe = λ r x. good.safe p a r at x; closed = λ q t g. inl (good.closed p a q t at g) }
 
-  pub whole_memory : IsGoodFamily s functions (family_of v) → (fault : Refusal) → Names (IsBrokenFirst s functions v) fault → IsOutOfMemory fault
-  whole_memory good =
-      only_memory s functions v (IsFirstBreak s v) good.short good.good.start good.ends
+  pub whole_exhausted : IsGoodFamily s functions (family_of v) → (fault : Refusal) → Names (IsBrokenFirst s functions v) fault → IsExhausted fault
+  whole_exhausted good =
+      only_exhausted s functions v (IsFirstBreak s v) good.short good.good.start good.ends
       (λ q r h. sound_not_broken s (family_of v) Nowhere h.place h.state (sound_here good.good h.place h.state h.here good) q r h.breaks)
 
   -- One that leaves states out.
@@ -149,8 +153,26 @@ module _ (s : Setting) (functions : List (ℕ × ℕ)) (v : Contents) (family : 
     good_is_safe s range short functions ascends found.through.filled (filling_good found).good,
   )
 
-  pub filling_memory : HasGoodFilling s functions (family_of v) → (fault : Refusal) → Names (IsFillingBrokenFirst s functions v) fault → IsOutOfMemory fault
-  filling_memory (filling, is, good) =
-      only_memory s functions v (IsFirstBreakOnTheWay s (Precedes s) v) good.short (start_listed s functions (family_of v) filling is (start_of functions) good.good.start)
+  pub filling_exhausted : HasGoodFilling s functions (family_of v) → (fault : Refusal) → Names (IsFillingBrokenFirst s functions v) fault → IsExhausted fault
+  filling_exhausted (filling, is, good) =
+      only_exhausted s functions v (IsFirstBreakOnTheWay s (Precedes s) v) good.short (start_listed s functions (family_of v) filling is (start_of functions) good.good.start)
       (ends_listed s (family_of v) filling is s.kind good.ends)
       (λ q r h. broken_way s functions v q r h (filling, is, good))
+
+-- Of either listing.
+module _ (x : Subject) (v : Contents) (family : IsFamily v) where
+  pub listing_good : (listing : Listing) → IsFoundSoundFor x listing v → IsGoodListingFor x listing v
+  listing_good Whole = family_here (setting_of x) x.start.now v family
+  listing_good Sparse = filling_here (setting_of x) x.start.now v family
+
+  pub listing_safe : IsSettingInRange (setting_of x) → AreProgramsShort (setting_of x) → Ascends x.start.now → (listing : Listing) → IsFoundSoundFor x listing v → IsSafeListingFor x listing v
+  listing_safe range short ascends Whole = safe_here (setting_of x) x.start.now v family range short ascends
+  listing_safe range short ascends Sparse = safe_filling (setting_of x) x.start.now v family range short ascends
+
+  pub listing_broken : (listing : Listing) (fault : Refusal) → NamesFirstFor x listing v fault → NamesListingBrokenFirst x listing v fault
+  listing_broken Whole = broken_whole (setting_of x) x.start.now v family
+  listing_broken Sparse fault broken = broken
+
+  pub listing_exhausted : (listing : Listing) → IsGoodListingFor x listing v → (fault : Refusal) → NamesFirstFor x listing v fault → IsExhausted fault
+  listing_exhausted Whole good fault broken = whole_exhausted (setting_of x) x.start.now v family good fault (listing_broken Whole fault broken)
+  listing_exhausted Sparse good = filling_exhausted (setting_of x) x.start.now v family good

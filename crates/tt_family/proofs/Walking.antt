@@ -26,7 +26,7 @@ use Rattle.tt_family.specs.Checks.{FitOffsetsBefore, BreaksAt, IsFilledBy, IsFir
 use Rattle.tt_family.specs.Representation.Cursors.{Entry, IsAtPoint, IsCarried, IsComingAfter, IsEntry, IsOnWay, IsPassed, IsRead, IsUnlisted, IsWalkedThrough, IsWalkedTo, MayLeaveOut, to_come}
 use Rattle.tt_family.specs.Fillings.{IsAfter}
 use Rattle.tt_abs.specs.declared.refusal.Refusal.{Refusal}
-use Rattle.tt_abs.specs.declared.refusal.Refusal.TheVariants.{Refused, OutOfMemory}
+use Rattle.tt_abs.specs.declared.refusal.Refusal.TheVariants.{Refused, Exhausted}
 use Rattle.tt_family.specs.declared.listing.Listing.{Listing}
 use Rattle.tt_family.specs.declared.listing.Listing.TheVariants.{Whole, Sparse}
 use Rattle.tt_family.specs.declared.cursor.Cursor.{Cursor}
@@ -544,7 +544,7 @@ module _ (s : Setting) (listing : Listing) (v : Contents) (family : IsFamily v) 
         breaks = breaks;
       },
     )
-    first_on_way (OutOfMemory error) h = tt
+    first_on_way (Exhausted by) h = tt
 
     module _ (new : Cursor) (context : new.context ≡ walk.context) (next : new.next ≡ walk.next)
         (passed : IsPassed s (family_of v) (MayLeaveOut listing s here_is) here_is walk.made new.carried new.made) where

@@ -1,5 +1,9 @@
 -- How many points may be made: one each time that a finder or a check carries a state on. (own)
-use Rattle.std.specs.Prelude.{◌≡◌, ◌+◌, ◌-◌, ◌≤◌, ℕ, true, false}
+use Rattle.std.specs.Prelude.{◌≡◌, ◌+◌, ◌-◌, ◌≤◌, ℕ, Result, Ok, Err, true, false}
+use Rattle.tt_abs.specs.declared.exhausted.Exhausted.{Exhausted}
+use Rattle.tt_abs.specs.declared.exhausted.Exhausted.TheVariants as exhausted
+use Rattle.tt_abs.specs.declared.refusal.Refusal.{Refusal}
+use Rattle.tt_abs.specs.declared.refusal.Refusal.TheVariants as refusal
 use Rattle.tt_family.specs.declared.budget.Budget.{Budget}
 
 -- a budget of which nothing was spent
@@ -14,9 +18,13 @@ unlimited_budget = new_budget 18446744073709551615
 abbrev pub made_by : Budget → ℕ
 made_by budget = budget.most - budget.left
 
--- all points were made that may be, and one more was to be made
+-- one more point was to be made than may be
 abbrev pub IsExceeded : Budget → Type 0
-IsExceeded budget = (budget.is_over ≡ true) × (budget.left ≡ 0)
+IsExceeded budget = budget.is_over ≡ true
+
+-- the one budget is exceeded exactly where the other is
+abbrev pub AreAlike : Budget → Budget → Type 0
+AreAlike old new = new.is_over ≡ old.is_over
 
 -- one more point is counted
 abbrev pub Counts : Budget → Budget → Type 0
@@ -37,3 +45,31 @@ Exceeds old new = (old.left ≡ 0) × (new ≡ record old { is_over = true })
 -- the bound is as before, and no point is taken back
 abbrev pub Spends : Budget → Budget → Type 0
 Spends old new = (new.most ≡ old.most) × (new.left ≤ old.left)
+
+-- What ended the work that went from the one budget to the other: the budget exactly where it was
+-- exceeded in it.
+abbrev pub EndTells : Budget → Budget → Exhausted → Type 0
+EndTells old new exhausted.Memory = AreAlike old new
+EndTells old new exhausted.Budget = IsExceeded new
+
+-- the same of a refusal, which is an answer
+abbrev pub RefusalTells : Budget → Budget → Refusal → Type 0
+RefusalTells old new (refusal.Refused spot offset failed) = AreAlike old new
+RefusalTells old new (refusal.Exhausted by) = EndTells old new by
+
+-- The answer of work that went from the one budget to the other tells whether the budget was
+-- exceeded in it.
+abbrev pub TellsBudget : {T : Type 0} → Budget → Budget → Result T Refusal → Type 0
+TellsBudget old new (Ok done) = AreAlike old new
+TellsBudget old new (Err fault) = RefusalTells old new fault
+
+-- the same where no program is refused by it
+abbrev pub EndTellsBudget : {T : Type 0} → Budget → Budget → Result T Exhausted → Type 0
+EndTellsBudget old new (Ok done) = AreAlike old new
+EndTellsBudget old new (Err by) = EndTells old new by
+
+-- no budget was exceeded
+abbrev pub IsWithinBudget : Refusal → Type 0
+IsWithinBudget (refusal.Refused spot offset failed) = Unit {0}
+IsWithinBudget (refusal.Exhausted exhausted.Memory) = Unit {0}
+IsWithinBudget (refusal.Exhausted exhausted.Budget) = ⊥

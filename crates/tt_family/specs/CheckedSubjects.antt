@@ -8,6 +8,8 @@ use Rattle.tt_family.specs.Contents.{Contents, family_of}
 use Rattle.tt_family.specs.Fillings.{HasGoodFilling, HasSafeFilling}
 use Rattle.tt_family.specs.GoodFamilies.{EndsWell, IsGoodFamily, IsShortEnough}
 use Rattle.tt_abs.specs.declared.refusal.Refusal.{Refusal}
+use Rattle.tt_family.specs.declared.listing.Listing.{Listing}
+use Rattle.tt_family.specs.declared.listing.Listing.TheVariants as listing
 
 -- the program, if it is a glyph program, has at most maxSizeOfInstructions bytes
 abbrev pub IsShortFor : Subject → Type 0
@@ -41,3 +43,18 @@ NamesBrokenFirst x contents = Names (IsBrokenFirst (setting_of x) x.start.now co
 abbrev pub NamesFillingBrokenFirst : Subject → Contents → Refusal → Type 0
 NamesFillingBrokenFirst x contents =
     Names (IsFillingBrokenFirst (setting_of x) x.start.now contents)
+
+-- the family is good as it is listed: whole, or with states that a filling adds
+abbrev pub IsGoodListingFor : Subject → Listing → Contents → Type 0
+IsGoodListingFor x listing.Whole contents = IsGoodFor x contents
+IsGoodListingFor x listing.Sparse contents = HasGoodFillingFor x contents
+
+-- the family, or its filling, covers every machine of a run, and none of these faults
+abbrev pub IsSafeListingFor : Subject → Listing → Contents → Type 0
+IsSafeListingFor x listing.Whole contents = IsSafeFor x contents
+IsSafeListingFor x listing.Sparse contents = HasSafeFillingFor x contents
+
+-- the fault names what is broken first of the family as it is listed
+abbrev pub NamesListingBrokenFirst : Subject → Listing → Contents → Refusal → Type 0
+NamesListingBrokenFirst x listing.Whole contents = NamesBrokenFirst x contents
+NamesListingBrokenFirst x listing.Sparse contents = NamesFillingBrokenFirst x contents

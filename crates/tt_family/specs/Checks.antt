@@ -17,7 +17,7 @@ use Rattle.tt_family.specs.GoodFamilies.{EndsWell, IsShortEnough, IsStoredWithin
 use Rattle.tt_family.specs.Places.{IsLess, states_of}
 use Rattle.tt_abs.specs.Spots.{spot_of}
 use Rattle.tt_abs.specs.declared.refusal.Refusal.{Refusal}
-use Rattle.tt_abs.specs.declared.refusal.Refusal.TheVariants.{Refused, OutOfMemory}
+use Rattle.tt_abs.specs.declared.refusal.Refusal.TheVariants.{Refused, Exhausted}
 
 -- a place as its context's number and its offset
 abbrev pub point_key_of : Contents → Place → ℕ × ℕ
@@ -43,21 +43,21 @@ IsGap family MayBeLeftOut q t NotCovered =
     (u : State) × (family q ≡ Some u) × (state_order.Below t u → ⊥)
 IsGap family MayBeLeftOut q t _ = ⊥
 
--- the fault names the place and such a reason, or it is out of memory, which names none
+-- the fault names the place and such a reason, or memory or the budget ran out, which names none
 abbrev pub NamesAt : Place → (Reason → Type 0) → Refusal → Type 0
 NamesAt p Is (Refused spot offset failed) =
     (spot ≡ spot_of p.0) × (offset ≡ saturated_offset p.1) × Is (reason_of failed)
-NamesAt p Is (OutOfMemory e) = Unit {0}
+NamesAt p Is (Exhausted by) = Unit {0}
 
 -- the fault names the place, at which the family doesn't cover the state, and says why
 abbrev pub NamesGap : (Place → Option State) → Type 0 → Place → State → Refusal → Type 0
 NamesGap family MayBeLeftOut q t = NamesAt q (IsGap family MayBeLeftOut q t)
 
--- the fault names such a place and reason, or it is out of memory, which names none
+-- the fault names such a place and reason, or memory or the budget ran out, which names none
 abbrev pub Names : (Place → Reason → Type 0) → Refusal → Type 0
 Names Is (Refused spot offset failed) =
     (p : Place) × (spot ≡ spot_of p.0) × (offset ≡ saturated_offset p.1) × Is p (reason_of failed)
-Names Is (OutOfMemory e) = Unit {0}
+Names Is (Exhausted by) = Unit {0}
 
 -- the place of a next abstract state
 abbrev pub place_of_next : Next → Place
@@ -208,7 +208,7 @@ abbrev pub IsFillingBrokenFirst : Setting → List (ℕ × ℕ) → Contents →
 IsFillingBrokenFirst s functions contents =
     IsBrokenBy s functions contents (IsFirstBreakOnTheWay s (Precedes s) contents)
 
--- the fault is out of memory: a growth of memory was refused, or the budget is exceeded
-abbrev pub IsOutOfMemory : Refusal → Type 0
-IsOutOfMemory (Refused spot offset failed) = ⊥
-IsOutOfMemory (OutOfMemory e) = Unit {0}
+-- nothing is refused: memory ran out, or the budget did
+abbrev pub IsExhausted : Refusal → Type 0
+IsExhausted (Refused spot offset failed) = ⊥
+IsExhausted (Exhausted by) = Unit {0}

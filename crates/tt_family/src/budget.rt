@@ -1,9 +1,9 @@
 //! How many points may be made.
 
 ghost use Rattle.std.specs.Prelude.{◌≡◌, ◌↔◌, IsTrue, OnErr, OnOk};
-ghost use Rattle.tt_family.specs.Budgets.{Counts, IsExceeded, Exceeds, made_by, new_budget, unlimited_budget};
+ghost use Rattle.tt_family.specs.Budgets.{Counts, EndTellsBudget, IsExceeded, Exceeds, made_by, new_budget, unlimited_budget};
 
-use std::alloc::AllocError;
+use tt_abs::Exhausted;
 
 /// A bound on the points that finders and checks make: one is made each time that a state is
 /// carried on. It goes from program to program, and from call to call, as long as it is handed on.
@@ -43,25 +43,25 @@ impl Budget {
         self.most.saturating_sub(self.left)
     }
 
-    /// Whether all points were made that may be, and one more was to be made.
+    /// Whether one more point was to be made than may be.
     pub fn is_exceeded(&self) -> bool
         ensures { IsTrue result ↔ IsExceeded self.now }
     {
-        self.is_over && self.left == 0
+        self.is_over
     }
 
     /// Counts one more point: nothing else does.
     ///
     /// # Errors
-    /// If as many points were made as may be, which is answered as if memory had run out. Then the
-    /// budget is exceeded.
-    pub fn spend(&mut self) -> Result<(), AllocError>
+    /// `Budget` exactly where as many points were made as may be. Then the budget is exceeded.
+    pub fn spend(&mut self) -> Result<(), Exhausted>
         ensures counted { OnOk result (Counts self.old self.new) }
         ensures exceeded { OnErr result (Exceeds self.old self.new) }
+        ensures budget { EndTellsBudget self.old self.new result }
     {
         if self.left == 0 {
             self.is_over = true;
-            return Err(AllocError);
+            return Err(Exhausted::Budget);
         }
         self.left -= 1;
         Ok(())

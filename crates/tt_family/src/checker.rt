@@ -8,10 +8,10 @@ ghost use Rattle.tt_abs.specs.Families.{CoversAt};
 ghost use Rattle.tt_abs.specs.Lines.{EndsAt};
 ghost use Rattle.tt_abs.specs.Settings.{setting_of};
 ghost use Rattle.tt_abs.specs.States.{state_order};
-ghost use Rattle.tt_family.specs.Budgets.{Counts, IsPaidFor, Spends};
-ghost use Rattle.tt_family.specs.CheckedSubjects.{EndsWellFor, HasGoodFillingFor, HasSafeFillingFor, IsGoodFor, IsSafeFor, IsShortFor, NamesBrokenFirst, NamesFillingBrokenFirst};
+ghost use Rattle.tt_family.specs.Budgets.{Counts, IsPaidFor, IsWithinBudget, Spends, TellsBudget};
+ghost use Rattle.tt_family.specs.CheckedSubjects.{EndsWellFor, HasGoodFillingFor, HasSafeFillingFor, IsGoodFor, IsGoodListingFor, IsSafeFor, IsSafeListingFor, IsShortFor, NamesBrokenFirst, NamesFillingBrokenFirst, NamesListingBrokenFirst};
 ghost use Rattle.tt_family.specs.Representation.Cursors.{IsFoundSoundFor, NamesFirstFor, AreToCome, AreUnlisted, IsLeftOutAfter, IsWalk, IsWalkedThrough, NamesBreak, NamesFirstBreak, PassesPoint, to_come};
-ghost use Rattle.tt_family.specs.Checks.{FitOffsetsBefore, IsOutOfMemory, NamesGap};
+ghost use Rattle.tt_family.specs.Checks.{FitOffsetsBefore, IsExhausted, NamesGap};
 ghost use Rattle.tt_family.specs.Contents.{family_of};
 ghost use Rattle.tt_family.specs.Fillings.{HasOneGoodFilling, place_of_point};
 ghost use Rattle.tt_family.specs.GoodFamilies.{HasEnd};
@@ -71,6 +71,7 @@ fn check_start(certificate: &Certificate, walk: &mut Cursor<'_>) -> Result<(), R
     ensures covered { IfOk result (λ _.
         CoversAt state_order (family_of certificate.now) ([], 0) walk.old.made) }
     ensures gap { IfErr result (NamesGap (family_of certificate.now) ⊥ ([], 0) walk.old.made) }
+    ensures within { IfErr result IsWithinBudget }
     ensures walk { IsWalk certificate.now walk.new }
     ensures next { walk.new.next ≡ walk.old.next }
     ensures carried { walk.new.carried ≡ walk.old.carried }
@@ -125,6 +126,7 @@ fn check_point(
     ensures within { offset < 2 ^ 32 }
     ensures counted { OnOk result (Counts budget.old budget.new) }
     ensures spends { Spends budget.old budget.new }
+    ensures budget { TellsBudget budget.old budget.new result }
 {
     budget.spend()?;
     walk.is_next = false;
@@ -149,7 +151,7 @@ fn check_point(
         Err(StepFault::Refused(failed)) => {
             return Err(fault_in(certificate, walk.context, offset, failed));
         }
-        Err(StepFault::OutOfMemory(error)) => return Err(Refusal::OutOfMemory(error)),
+        Err(StepFault::OutOfMemory(error)) => return Err(Refusal::from(error)),
     };
     let after = left_out_after(setting, listing, &point, step.end);
     match check_successors(certificate, walk, step.moves, after) {
@@ -182,6 +184,7 @@ fn check_points<'a>(
     ensures counted { IfOk result (λ _.
         IsPaidFor budget.old budget.new (length certificate.now.states)) }
     ensures spends { Spends budget.old budget.new }
+    ensures budget { TellsBudget budget.old budget.new result }
 {
     certificate.order_facts();
     while let Some(offset) = walk.go_on(certificate, &mut states)? {
@@ -195,7 +198,7 @@ fn check_points<'a>(
 /// Checks that the family is good, or can be filled up to a good one, in the order of the walk.
 ///
 /// # Errors
-/// `Refused` with what is broken first; `OutOfMemory`.
+/// `Refused` with what is broken first; `Exhausted`.
 fn check_listed(
     alloc: Global,
     setting: &Setting<'_>,
@@ -209,6 +212,7 @@ fn check_listed(
     ensures counted { IfOk result (λ _.
         IsPaidFor budget.old budget.new (length certificate.now.states)) }
     ensures spends { Spends budget.old budget.new }
+    ensures budget { TellsBudget budget.old budget.new result }
 {
     certificate.order_facts();
     if !is_short(setting) {
@@ -233,7 +237,11 @@ fn check_listed(
     check_points(setting, listing, certificate, &mut walk, states, budget)
 }
 
-/// Checks that the family itself is good for the program of this setting, with no state left out.
+/// Checks that the family, as it is listed, is good for the program of this setting. In a whole
+/// listing no state is left out. In a sparse one the state at a point, other than the main program's
+/// end, may be left out where only the state at the point just before leads there: it is then what
+/// that one gives, and is checked as if it were listed, but kept only until what it gives is known.
+///
 /// The first fault in the order of the walk is named: a glyph program longer than
 /// maxSizeOfInstructions; a start that isn't covered; a font program or a CVT program without a
 /// state at its end; then, by ascending contexts and by ascending offsets within one, a state that
@@ -243,7 +251,36 @@ fn check_listed(
 /// offset.
 ///
 /// # Errors
-/// `Refused` with what is broken first; `OutOfMemory`.
+/// `Refused` with what is broken first; `Exhausted`, with `Budget` exactly where more points were to
+/// be made than the budget allows.
+pub fn check_listing(
+    alloc: Global,
+    setting: &Setting<'_>,
+    listing: Listing,
+    certificate: &Certificate,
+    budget: &mut Budget,
+) -> Result<(), Refusal>
+    requires ascends { Ascends setting.now.start.now }
+    ensures good { IfOk result (λ _. IsGoodListingFor setting.now listing certificate.now) }
+    ensures safe { IfOk result (λ _. IsSafeListingFor setting.now listing certificate.now) }
+    ensures exact { IsGoodListingFor setting.now listing certificate.now
+        → IfErr result IsExhausted }
+    ensures first { IfErr result (NamesListingBrokenFirst setting.now listing certificate.now) }
+    ensures counted { IfOk result (λ _.
+        IsPaidFor budget.old budget.new (length certificate.now.states)) }
+    ensures spends { Spends budget.old budget.new }
+    ensures budget { TellsBudget budget.old budget.new result }
+{
+    setting.range_facts();
+    certificate.order_facts();
+    check_listed(alloc, setting, listing, certificate, budget)
+}
+
+/// Checks that the family itself is good for the program of this setting, with no state left out, as
+/// `check_listing` checks a whole listing.
+///
+/// # Errors
+/// `Refused` with what is broken first; `Exhausted`.
 pub fn check_full(
     alloc: Global,
     setting: &Setting<'_>,
@@ -252,78 +289,28 @@ pub fn check_full(
     requires ascends { Ascends setting.now.start.now }
     ensures family { IfOk result (λ _. IsGoodFor setting.now certificate.now) }
     ensures safe { IfOk result (λ _. IsSafeFor setting.now certificate.now) }
-    ensures exact { IsGoodFor setting.now certificate.now → IfErr result IsOutOfMemory }
+    ensures exact { IsGoodFor setting.now certificate.now → IfErr result IsExhausted }
     ensures first { IfErr result (NamesBrokenFirst setting.now certificate.now) }
 {
-    check_full_within(alloc, setting, certificate, &mut Budget::unlimited())
-}
-
-/// Checks that the family is good as `check_full` does, and makes at most as many points as the
-/// budget allows.
-///
-/// # Errors
-/// As `check_full`; `OutOfMemory` too where the budget is exceeded.
-pub fn check_full_within(
-    alloc: Global,
-    setting: &Setting<'_>,
-    certificate: &Certificate,
-    budget: &mut Budget,
-) -> Result<(), Refusal>
-    requires ascends { Ascends setting.now.start.now }
-    ensures family { IfOk result (λ _. IsGoodFor setting.now certificate.now) }
-    ensures safe { IfOk result (λ _. IsSafeFor setting.now certificate.now) }
-    ensures exact { IsGoodFor setting.now certificate.now → IfErr result IsOutOfMemory }
-    ensures first { IfErr result (NamesBrokenFirst setting.now certificate.now) }
-    ensures counted { IfOk result (λ _.
-        IsPaidFor budget.old budget.new (length certificate.now.states)) }
-    ensures spends { Spends budget.old budget.new }
-{
-    setting.range_facts();
-    certificate.order_facts();
-    check_listed(alloc, setting, Listing::Whole, certificate, budget)
+    let mut budget = Budget::unlimited();
+    check_listing(alloc, setting, Listing::Whole, certificate, &mut budget)
 }
 
 /// Checks that the family, filled up with the states that it leaves out, is good for the program of
-/// this setting, which is all that a certificate has to be. The state at a point, other than the
-/// main program's end, may be left out where only the state at the point just before leads there:
-/// it is then what that one gives. The order is that of `check_full`, and what is added is checked
-/// as if it were listed, but kept only until what it gives is known.
+/// this setting, which is all that a certificate has to be, as `check_listing` checks a sparse
+/// listing.
 ///
 /// # Errors
-/// `Refused` with what is broken first; `OutOfMemory`.
+/// `Refused` with what is broken first; `Exhausted`.
 pub fn check(alloc: Global, setting: &Setting<'_>, certificate: &Certificate) -> Result<(), Refusal>
     requires ascends { Ascends setting.now.start.now }
     ensures filling { IfOk result (λ _. HasGoodFillingFor setting.now certificate.now) }
     ensures safe { IfOk result (λ _. HasSafeFillingFor setting.now certificate.now) }
-    ensures exact { HasGoodFillingFor setting.now certificate.now → IfErr result IsOutOfMemory }
+    ensures exact { HasGoodFillingFor setting.now certificate.now → IfErr result IsExhausted }
     ensures first { IfErr result (NamesFillingBrokenFirst setting.now certificate.now) }
 {
-    check_within(alloc, setting, certificate, &mut Budget::unlimited())
-}
-
-/// Checks that the family, filled up, is good as `check` does, and makes at most as many points as
-/// the budget allows.
-///
-/// # Errors
-/// As `check`; `OutOfMemory` too where the budget is exceeded.
-pub fn check_within(
-    alloc: Global,
-    setting: &Setting<'_>,
-    certificate: &Certificate,
-    budget: &mut Budget,
-) -> Result<(), Refusal>
-    requires ascends { Ascends setting.now.start.now }
-    ensures filling { IfOk result (λ _. HasGoodFillingFor setting.now certificate.now) }
-    ensures safe { IfOk result (λ _. HasSafeFillingFor setting.now certificate.now) }
-    ensures exact { HasGoodFillingFor setting.now certificate.now → IfErr result IsOutOfMemory }
-    ensures first { IfErr result (NamesFillingBrokenFirst setting.now certificate.now) }
-    ensures counted { IfOk result (λ _.
-        IsPaidFor budget.old budget.new (length certificate.now.states)) }
-    ensures spends { Spends budget.old budget.new }
-{
-    setting.range_facts();
-    certificate.order_facts();
-    check_listed(alloc, setting, Listing::Sparse, certificate, budget)
+    let mut budget = Budget::unlimited();
+    check_listing(alloc, setting, Listing::Sparse, certificate, &mut budget)
 }
 
 /// States that a family has at most one good filling. The function does nothing: its contract is

@@ -11,7 +11,7 @@ pub mod fault;
 mod finish;
 pub mod joined;
 mod landing;
-mod listing;
+pub mod listing;
 mod meeting;
 mod offset_list;
 mod slot_index;
@@ -21,13 +21,11 @@ pub mod states;
 pub use budget::Budget;
 pub use builder::Builder;
 pub use certificate::Certificate;
-pub use checker::{
-    check, check_full, check_full_within, check_within, ends_well, is_short, one_good_filling,
-};
+pub use checker::{check, check_full, check_listing, ends_well, is_short, one_good_filling};
 pub use fault::{ContextFault, JoinFault};
 pub use joined::Joined;
 pub use landing::{Landing, landing_of};
-pub use listing::added_after;
+pub use listing::{Listing, added_after};
 pub use slot_index::PointKey;
 pub use states::States;
 pub use tt_abs::{Refusal, Refusal as CheckFault, Spot};

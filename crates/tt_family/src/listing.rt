@@ -9,7 +9,7 @@ use tt_abs::{Point, Setting};
 
 /// Whether a certificate lists the state of every point, or leaves out those that a filling adds.
 #[derive(Clone, Copy)]
-pub(crate) enum Listing {
+pub enum Listing {
     /// It lists all states.
     Whole,
     /// It may leave out a state that is given by the state at the point just before, and by no

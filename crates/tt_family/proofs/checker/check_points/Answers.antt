@@ -5,7 +5,7 @@ use Rattle.tt_abs.specs.declared.state.State.{State}
 use Rattle.tt_family.specs.Puts.{place_of}
 use Rattle.tt_family.specs.Representation.Cursors.{AreToCome, IsAtNext, MayLeaveOut, to_come}
 use Rattle.tt_family.proofs.FillingLaws.{filled_in_range}
-use Rattle.tt_family.proofs.Spending.{spends_on}
+use Rattle.tt_family.proofs.Spending.{spends_on, tells_on}
 use Rattle.tt_family.proofs.Walking.{first_on_way, line_of, nothing_walked, on_way, told_at, unlisted_after, way_shorter}
 use Rattle.tt_family.proofs.checker.check_points.Goals as goal
 
@@ -14,6 +14,7 @@ loop-offset-init c = record {
   walk = c.requires.walk;
   to_come = c.requires.to_come;
   spends = (refl, omega arith);
+  alike = refl;
   counted = let all = ap length c.requires.all in omega arith;
   way = nothing_walked (setting_of c.args.setting.now) c.args.listing c.args.certificate.now c.order_facts.ensures.0 c.args.walk.now c.args.states c.requires.all c.requires.carried;
 }
@@ -54,6 +55,9 @@ returns-in-Err-clause-broken c =
     first_on_way S c.args.listing v c.order_facts.ensures.0 c.go_on.new.self c.go_on.new.states c.in-Some.offset point c.in_ok-offset.ensures.walk.there c.in-Err.fault
     c.in-Err.ensures.broken
 
+pub returns-in-Err-clause-budget : goal.returns-in-Err-clause-budget
+returns-in-Err-clause-budget c = tells_on c.args.budget.now c.loop-offset.budget c.check_point.new.budget c.loop-offset.invariant.alike c.in-Err.fault c.in-Err.ensures.budget
+
 pub loop-offset-smaller : goal.loop-offset-smaller
 loop-offset-smaller c =
     let S = setting_of c.args.setting.now in
@@ -85,6 +89,7 @@ loop-offset-preserved c =
           let most = c.loop-offset.invariant.spends.1 in
           omega arith;
       spends = spends_on c.args.budget.now c.loop-offset.budget c.check_point.new.budget c.loop-offset.invariant.spends c.check_point.ensures.spends;
+      alike = c.in_default-check_point.ensures.budget ∙ c.loop-offset.invariant.alike;
       way = on_way S c.args.listing v c.order_facts.ensures.0 c.go_on.new.self c.go_on.new.states c.in-Some.offset point c.in_ok-offset.ensures.walk.there
           c.check_point.new.walk c.check_point.ensures.context c.check_point.ensures.next c.in_default-check_point.ensures.passed;
     }

@@ -1,6 +1,6 @@
 use Rattle.std.proofs.Common.{length, ◌+◌, ◌-◌, ◌*◌, ◌≤◌}
 use Rattle.tt_abs.specs.Settings.{setting_of}
-use Rattle.tt_family.specs.Budgets.{Spends}
+use Rattle.tt_family.specs.Budgets.{AreAlike, Spends}
 use Rattle.tt_family.specs.Representation.Cursors.{AreToCome, IsOnWay, IsWalk, to_come}
 use Rattle.tt_family.proofs.Walking.{left_from}
 use Rattle.tt_family.proofs.checker.check_points.Given as goal
@@ -11,6 +11,7 @@ invariant-loop-offset l = record {
   walk : IsWalk l.certificate l.walk;
   to_come : AreToCome l.certificate l.walk.next l.states;
   spends : Spends l.initial.budget l.budget;
+  alike : AreAlike l.initial.budget l.budget;
   way : IsOnWay (setting_of l.setting) l.listing l.certificate l.walk l.states;
 }
 
