@@ -1,6 +1,8 @@
 -- What an answer within a budget tells of the budget, and of the font's first fault. (own)
 use Rattle.std.specs.Prelude.{◌≡◌, ◌≢◌, Some, None, alloc_error, Result, Ok, Err}
-use Rattle.tt_family.specs.Budgets.{IsExceeded}
+use Rattle.tt_abs.specs.declared.exhausted.Exhausted.{Exhausted}
+use Rattle.tt_abs.specs.declared.exhausted.Exhausted.TheVariants as exhausted
+use Rattle.tt_family.specs.Budgets.{AreAlike, IsExceeded}
 use Rattle.tt_family.specs.declared.budget.Budget.{Budget}
 use Rattle.tt_font.specs.Conditions.{Condition}
 use Rattle.tt_font.specs.declared.fault.FontFault.TheVariants.{OutOfMemory}
@@ -49,6 +51,54 @@ FindNextTellsBudget budget (Err find.Budget) = IsExceeded budget
 FindNextTellsBudget budget (Err (find.OutOfMemory error)) = IsNotExceeded budget
 FindNextTellsBudget budget (Err (find.Font font)) = Unit {0}
 FindNextTellsBudget budget (Err find.Write) = Unit {0}
+
+-- the fault of a verdict that had no end
+abbrev pub verdict_ended : Exhausted → VerdictFault
+verdict_ended exhausted.Memory = verdict.Font (OutOfMemory alloc_error)
+verdict_ended exhausted.Budget = verdict.Budget
+
+-- of a check by a certificate
+abbrev pub check_ended : Exhausted → CheckFontFault
+check_ended exhausted.Memory = check.OutOfMemory alloc_error
+check_ended exhausted.Budget = check.Budget
+
+-- and of a search for a certificate
+abbrev pub find_ended : Exhausted → FindFontFault
+find_ended exhausted.Memory = find.OutOfMemory alloc_error
+find_ended exhausted.Budget = find.Budget
+
+-- the fault of a check with the greatest budget, whose end is told as out of memory
+abbrev pub check_unlimited : CheckFontFault → CheckFontFault
+check_unlimited check.Budget = check.OutOfMemory alloc_error
+check_unlimited (check.Font font) = check.Font font
+check_unlimited (check.Form place) = check.Form place
+check_unlimited check.Read = check.Read
+check_unlimited (check.OutOfMemory error) = check.OutOfMemory error
+
+-- the same of a search
+abbrev pub find_unlimited : FindFontFault → FindFontFault
+find_unlimited find.Budget = find.OutOfMemory alloc_error
+find_unlimited (find.Font font) = find.Font font
+find_unlimited find.Write = find.Write
+find_unlimited (find.OutOfMemory error) = find.OutOfMemory error
+
+-- What a check that went from the one budget to the other tells of it: an answer, or that memory ran
+-- out, that it wasn't exceeded in the check, and the fault of the budget that it is.
+abbrev pub CheckTells : {T : Type 0} → Budget → Budget → Result T CheckFontFault → Type 0
+CheckTells old new (Ok done) = AreAlike old new
+CheckTells old new (Err check.Budget) = IsExceeded new
+CheckTells old new (Err (check.OutOfMemory error)) = AreAlike old new
+CheckTells old new (Err (check.Font font)) = Unit {0}
+CheckTells old new (Err (check.Form place)) = Unit {0}
+CheckTells old new (Err check.Read) = Unit {0}
+
+-- the same of a search for a certificate
+abbrev pub FindTells : {T : Type 0} → Budget → Budget → Result T FindFontFault → Type 0
+FindTells old new (Ok done) = AreAlike old new
+FindTells old new (Err find.Budget) = IsExceeded new
+FindTells old new (Err (find.OutOfMemory error)) = AreAlike old new
+FindTells old new (Err (find.Font font)) = Unit {0}
+FindTells old new (Err find.Write) = Unit {0}
 
 -- A fault of the font is the condition that holds on its bytes, unless memory ran out, and a
 -- verdict means that none does; a budget that is exceeded may be told before the font is read.

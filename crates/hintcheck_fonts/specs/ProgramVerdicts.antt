@@ -11,7 +11,7 @@ use Rattle.tt_family.specs.Contents.{Contents, family_of}
 use Rattle.tt_family.specs.Fillings.{HasGoodFilling, IsFilling}
 use Rattle.tt_family.specs.GoodFamilies.{IsGoodFamily}
 use Rattle.tt_abs.specs.declared.refusal.Refusal.{Refusal}
-use Rattle.tt_abs.specs.declared.refusal.Refusal.TheVariants.{Refused, OutOfMemory}
+use Rattle.tt_abs.specs.declared.refusal.Refusal.TheVariants.{Refused, Exhausted}
 use Rattle.tt_find.specs.Found.{IsLeast}
 use Rattle.hintcheck_fonts.specs.Certificates.{IsGoodListing}
 use Rattle.hintcheck_fonts.specs.Programs.{HasGoodFamily, IsCutInto, IsRefusal, Subject}
@@ -45,7 +45,7 @@ pub record IsAccepted (x : Subject) (instructions : List Instruction)
 abbrev pub IfRefused : Name → Refusal → (AnyRefused → Type 0) → Type 0
 IfRefused called (Refused spot offset failed) Is =
     Is (reported_at called spot offset (reason_of failed))
-IfRefused called (OutOfMemory e) Is = Unit {0}
+IfRefused called (Exhausted by) Is = Unit {0}
 
 -- the fault names why the program is refused; out of memory is unspecified
 abbrev pub IsFaultOfProgram : Subject → Refusal → Type 0
@@ -67,7 +67,7 @@ IsListedIn form s family = IsGoodListing form (setting_of s) s.start.now family
 abbrev pub IsAppendedRefusal : Name → Refusal → List AnyRefused → List AnyRefused → Type 0
 IsAppendedRefusal called (Refused spot offset failed) old new =
     new ≡ old ++ reported_at called spot offset (reason_of failed) ∷ []
-IsAppendedRefusal called (OutOfMemory e) old new = ⊥
+IsAppendedRefusal called (Exhausted by) old new = ⊥
 
 -- the search is for the family that a certificate lists
 abbrev pub IsForCertificate : Search → Type 0

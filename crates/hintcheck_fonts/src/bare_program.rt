@@ -18,7 +18,7 @@ use crate::program::{Search, cut};
 use crate::programs::refused as refused_outcome;
 use crate::report::{Name, Refused, Verdict};
 use std::alloc::{AllocError, Global};
-use tt_abs::{Kind, Refusal, Setting};
+use tt_abs::{Exhausted, Kind, Refusal, Setting};
 use tt_code::{CodeFault, Limits, Program};
 use tt_family::Budget;
 use tt_font::{FontFault, GlyphPart, read_maxp};
@@ -49,7 +49,7 @@ pub fn empty_program(alloc: Global) -> Result<Program<'static>, AllocError>
 /// empty.
 ///
 /// # Errors
-/// `Refused`; `OutOfMemory`.
+/// `Refused`; `Exhausted`.
 fn judge_bare(alloc: Global, limits: Limits, cvt: u16, glyph: &GlyphPart<'_>) -> Result<(), Refusal>
     requires { length glyph.now.program.now < 2 ^ 31 }
     ensures least { IfOk result (λ _. HasLeastFamily
@@ -88,7 +88,7 @@ fn refused_programs(
     limits: Limits,
     cvt: u16,
     glyph: &GlyphPart<'_>,
-) -> Result<Vec<Refused>, AllocError>
+) -> Result<Vec<Refused>, Exhausted>
     requires { length glyph.now.program.now < 2 ^ 31 }
     ensures { IfOk result (λ refused. IsJudged
         (glyph_subject (font_around limits cvt) [] 0 (glyph_data glyph.now)) refused.items) }
@@ -136,6 +136,8 @@ pub fn bare(
         contours,
         program,
     };
-    let refused = refused_programs(alloc, limits, cvt, &glyph)?;
-    Ok(Verdict::new(1, refused))
+    match refused_programs(alloc, limits, cvt, &glyph) {
+        Ok(refused) => Ok(Verdict::new(1, refused)),
+        Err(_) => Err(FontFault::OutOfMemory(AllocError)),
+    }
 }

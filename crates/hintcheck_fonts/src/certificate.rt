@@ -4,8 +4,8 @@ ghost use Rattle.std.specs.Prelude.{◌≡◌, ◌⊎◌, [], Err, IfErr, IfOk, 
 ghost use Rattle.tt_family.specs.Budgets.{Spends};
 ghost use Rattle.tt_font.specs.FileFaults.{font_fault};
 ghost use Rattle.tt_font.specs.Reading.{FontData, Reads};
-ghost use Rattle.hintcheck_fonts.specs.BudgetAnswers.{FindTellsBudget, FindWithinTellsFontFault, IsFindFaultOutsideFont};
-ghost use Rattle.hintcheck_fonts.specs.CertificateFaults.{CountsFind, FindTellsFontFault, IsFindFaultOutsideFontAndBudget, WritesNothing};
+ghost use Rattle.hintcheck_fonts.specs.BudgetAnswers.{FindTells, FindTellsBudget, FindWithinTellsFontFault, IsFindFaultOutsideFont, find_unlimited};
+ghost use Rattle.hintcheck_fonts.specs.CertificateFaults.{CountsFind, FindTellsFontFault, WritesNothing};
 ghost use Rattle.hintcheck_fonts.specs.CertificateTexts.{IsPassingCertificate, WritesBeginning, WritesText};
 ghost use Rattle.hintcheck_fonts.specs.FindingSessions.{BeginsCertificate, IsBegunFor, IsCertificateBegun};
 ghost use Rattle.hintcheck_fonts.specs.Representation.FontVerdicts.{AreAllRefused};
@@ -20,6 +20,7 @@ use crate::programs::Programs;
 use crate::report::Verdict;
 use std::alloc::{AllocError, Global};
 use thiserror::Error;
+use tt_abs::Exhausted;
 use tt_cert::{EncodeFault, Encoder, NEWEST_FORM, write_header};
 use tt_family::Budget;
 use tt_font::{Font, FontFault};
@@ -64,6 +65,20 @@ impl From<AllocError> for FindFontFault {
     }
 }
 
+impl From<Exhausted> for FindFontFault {
+    ghost use Rattle.std.specs.Prelude.{◌≡◌};
+    ghost use Rattle.hintcheck_fonts.specs.BudgetAnswers.{find_ended};
+
+    ghost from_gives = { λ by fault. fault ≡ find_ended by };
+
+    fn from(exhausted: Exhausted) -> FindFontFault {
+        match exhausted {
+            Exhausted::Memory => FindFontFault::OutOfMemory(AllocError),
+            Exhausted::Budget => FindFontFault::Budget,
+        }
+    }
+}
+
 impl From<EncodeFault> for FindFontFault {
     ghost use Rattle.std.specs.Prelude.{◌≡◌};
     ghost use Rattle.hintcheck_fonts.specs.CertificateFaults.{fault_of_encoding};
@@ -74,6 +89,19 @@ impl From<EncodeFault> for FindFontFault {
         match fault {
             EncodeFault::Write => FindFontFault::Write,
             EncodeFault::OutOfMemory(error) => FindFontFault::OutOfMemory(error),
+        }
+    }
+}
+
+impl FindFontFault {
+    /// Returns the fault where the budget was the greatest: no font has so many points, and its end is
+    /// told as out of memory.
+    pub fn without_budget(self) -> FindFontFault
+        ensures { result ≡ find_unlimited self.entry }
+    {
+        match self {
+            FindFontFault::Budget => FindFontFault::OutOfMemory(AllocError),
+            fault => fault,
         }
     }
 }
@@ -93,8 +121,9 @@ fn write_sections<W: Sink>(
     ensures begun { OnErr result (WritesBeginning (W.contents sink.old) (W.contents sink.new)
         (AreSomeSections font.now)) }
     ensures failures { CountsFind result (W.failures sink.old) (W.failures sink.new) }
-    ensures font { IfErr result IsFindFaultOutsideFontAndBudget }
+    ensures font { IfErr result IsFindFaultOutsideFont }
     ensures spends { Spends budget.old budget.new }
+    ensures ends { FindTells budget.old budget.new result }
 {
     let mut programs = Programs::new(font);
     let mut judge = Finding::new(alloc, Search::Writing);
@@ -122,43 +151,21 @@ fn write_certificate<W: Sink>(
     ensures begun { OnErr result (WritesBeginning (W.contents sink.old) (W.contents sink.new)
         (IsCertificateBegun font.now)) }
     ensures failures { CountsFind result (W.failures sink.old) (W.failures sink.new) }
-    ensures font { IfErr result IsFindFaultOutsideFontAndBudget }
+    ensures font { IfErr result IsFindFaultOutsideFont }
     ensures spends { Spends budget.old budget.new }
+    ensures ends { FindTells budget.old budget.new result }
 {
     write_header(NEWEST_FORM, u32::from(font.glyph_count()) + 2, sink)?;
     write_sections(alloc, font, sink, budget)
 }
 
 /// Returns the verdict on the programs of a font that was read, as `verdict` makes it. Where it
-/// refuses no program, each is then found once more, and the certificate is written.
+/// refuses no program, each is then found once more, and the certificate is written. At most as many
+/// points are made as the budget allows.
+///
+/// # Errors
+/// As `find_font_within`, but for those of the font.
 pub fn find_programs<W: Sink>(
-    alloc: Global,
-    font: &Font<'_>,
-    sink: &mut W,
-    budget: &mut Budget,
-) -> Result<Verdict, FindFontFault>
-    requires { IsFontInRange font.now }
-    ensures exact { IfOk result (λ v. IsVerdict font.now v) }
-    ensures written { IfOk result (λ v. v.refused ≡ []
-        → WritesText (W.contents sink.old) (W.contents sink.new) (IsPassingCertificate font.now)) }
-    ensures begun { OnErr result ((W.contents sink.new ≡ W.contents sink.old)
-        ⊎ IsBegunFor font.now (W.contents sink.old) (W.contents sink.new)) }
-    ensures unwritten { IfOk result (WritesNothing (W.contents sink.old) (W.contents sink.new)) }
-    ensures write_fault { result ≡ Err FindFontFault.Write → RefusesNone font.now }
-    ensures failures { CountsFind result (W.failures sink.old) (W.failures sink.new) }
-    ensures font { IfErr result IsFindFaultOutsideFontAndBudget }
-    ensures spends { Spends budget.old budget.new }
-{
-    let refused = refused_programs(alloc, font, budget)?;
-    if refused.is_empty() {
-        write_certificate(alloc, font, sink, budget)?;
-    }
-    Ok(Verdict::new(u32::from(font.glyph_count()) + 2, refused))
-}
-
-/// Returns the verdict as `find_programs` does, but answers `Budget` instead of `OutOfMemory` where
-/// the budget is exceeded.
-pub fn find_programs_within<W: Sink>(
     alloc: Global,
     font: &Font<'_>,
     sink: &mut W,
@@ -180,11 +187,11 @@ pub fn find_programs_within<W: Sink>(
     if budget.is_exceeded() {
         return Err(FindFontFault::Budget);
     }
-    let found = find_programs(alloc, font, sink, budget);
-    match found {
-        Err(FindFontFault::OutOfMemory(_)) if budget.is_exceeded() => Err(FindFontFault::Budget),
-        found => found,
+    let refused = refused_programs(alloc, font, budget)?;
+    if refused.is_empty() {
+        write_certificate(alloc, font, sink, budget)?;
     }
+    Ok(Verdict::new(u32::from(font.glyph_count()) + 2, refused))
 }
 
 /// Returns the verdict on the programs of a font file, as `verdict` makes it. Where it refuses no
@@ -220,8 +227,10 @@ pub fn find_font<W: Sink>(
     // means that they have none.
     ensures faults { FindTellsFontFault (font_fault font.now) result }
 {
-    let read = read_font(alloc, font)?;
-    find_programs(alloc, &read, sink, &mut Budget::unlimited())
+    match find_font_within(alloc, font, sink, &mut Budget::unlimited()) {
+        Ok(verdict) => Ok(verdict),
+        Err(fault) => Err(fault.without_budget()),
+    }
 }
 
 /// Returns the verdict on the programs of a font file and writes its certificate, as `find_font`
@@ -254,5 +263,5 @@ pub fn find_font_within<W: Sink>(
     ensures budget { FindTellsBudget budget.new result }
 {
     let read = read_font(alloc, font)?;
-    find_programs_within(alloc, &read, sink, budget)
+    find_programs(alloc, &read, sink, budget)
 }

@@ -1,7 +1,7 @@
 //! The verdict on a font.
 
 ghost use Rattle.std.specs.Prelude.{◌≡◌, [], IfOk, OnOk};
-ghost use Rattle.tt_family.specs.Budgets.{Spends};
+ghost use Rattle.tt_family.specs.Budgets.{EndTellsBudget, Spends};
 ghost use Rattle.tt_font.specs.Conditions.{TestsWithMemory};
 ghost use Rattle.tt_font.specs.FileFaults.{font_fault};
 ghost use Rattle.tt_font.specs.Reading.{FontData, Reads};
@@ -19,6 +19,7 @@ use crate::report::{Refused, Verdict};
 use crate::session::Outcome;
 use std::alloc::{AllocError, Global};
 use thiserror::Error;
+use tt_abs::Exhausted;
 use tt_family::Budget;
 use tt_font::{Font, FontFault};
 
@@ -39,11 +40,12 @@ fn refused_by<'a>(
     programs: &mut FontPrograms<'a>,
     judge: &mut Finding,
     budget: &mut Budget,
-) -> Result<Vec<Refused>, AllocError>
+) -> Result<Vec<Refused>, Exhausted>
     requires range { IsFontInRange programs.old.font.now }
     requires start { stage_of programs.old ≡ at_start }
     ensures refused { IfOk result (λ refused. AreAllRefused programs.old.font.now refused.items) }
     ensures spends { Spends budget.old budget.new }
+    ensures budget { EndTellsBudget budget.old budget.new result }
 {
     let mut refused = Vec::new(alloc);
     while let Some(outcome) = programs.judge_next(alloc, judge, budget)? {
@@ -58,10 +60,11 @@ pub(crate) fn refused_programs(
     alloc: Global,
     font: &Font<'_>,
     budget: &mut Budget,
-) -> Result<Vec<Refused>, AllocError>
+) -> Result<Vec<Refused>, Exhausted>
     requires { IsFontInRange font.now }
     ensures refused { IfOk result (λ refused. AreAllRefused font.now refused.items) }
     ensures spends { Spends budget.old budget.new }
+    ensures budget { EndTellsBudget budget.old budget.new result }
 {
     let mut programs = Programs::new(font);
     let mut judge = Finding::new(alloc, Search::Verdict);
@@ -95,9 +98,12 @@ pub fn verdict(alloc: Global, font: &[u8]) -> Result<Verdict, FontFault>
         × (v.refused ≡ [] → IsSafeFont d)) }
     ensures faults { TestsWithMemory (font_fault font.now) result }
 {
-    let read = read_font(alloc, font)?;
-    let refused = refused_programs(alloc, &read, &mut Budget::unlimited())?;
-    Ok(Verdict::new(u32::from(read.glyph_count()) + 2, refused))
+    match verdict_within(alloc, font, &mut Budget::unlimited()) {
+        Ok(verdict) => Ok(verdict),
+        Err(VerdictFault::Font(fault)) => Err(fault),
+        // No font has so many points.
+        Err(VerdictFault::Budget) => Err(FontFault::OutOfMemory(AllocError)),
+    }
 }
 
 /// Why there is no verdict on a font within a budget.
@@ -119,6 +125,20 @@ impl From<FontFault> for VerdictFault {
 
     fn from(font: FontFault) -> VerdictFault {
         VerdictFault::Font(font)
+    }
+}
+
+impl From<Exhausted> for VerdictFault {
+    ghost use Rattle.std.specs.Prelude.{◌≡◌};
+    ghost use Rattle.hintcheck_fonts.specs.BudgetAnswers.{verdict_ended};
+
+    ghost from_gives = { λ by fault. fault ≡ verdict_ended by };
+
+    fn from(exhausted: Exhausted) -> VerdictFault {
+        match exhausted {
+            Exhausted::Memory => VerdictFault::Font(FontFault::OutOfMemory(AllocError)),
+            Exhausted::Budget => VerdictFault::Budget,
+        }
     }
 }
 
@@ -146,12 +166,6 @@ pub fn verdict_within(
         return Err(VerdictFault::Budget);
     }
     let read = read_font(alloc, font)?;
-    let judged = refused_programs(alloc, &read, budget);
-    if budget.is_exceeded() {
-        return Err(VerdictFault::Budget);
-    }
-    match judged {
-        Ok(refused) => Ok(Verdict::new(u32::from(read.glyph_count()) + 2, refused)),
-        Err(error) => Err(VerdictFault::Font(FontFault::OutOfMemory(error))),
-    }
+    let refused = refused_programs(alloc, &read, budget)?;
+    Ok(Verdict::new(u32::from(read.glyph_count()) + 2, refused))
 }

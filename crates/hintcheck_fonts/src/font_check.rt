@@ -5,7 +5,7 @@ ghost use Rattle.tt_family.specs.Budgets.{Spends};
 ghost use Rattle.tt_font.specs.FileFaults.{font_fault};
 ghost use Rattle.tt_font.specs.Reading.{FontData, Reads};
 ghost use Rattle.tt_stream.specs.Reads.{ConsumesBeginning};
-ghost use Rattle.hintcheck_fonts.specs.BudgetAnswers.{CheckTellsBudget, CheckWithinTellsFontFault, IsCheckFaultOutsideFont};
+ghost use Rattle.hintcheck_fonts.specs.BudgetAnswers.{CheckTells, CheckTellsBudget, CheckWithinTellsFontFault, IsCheckFaultOutsideFont, check_unlimited};
 ghost use Rattle.hintcheck_fonts.specs.CertificateFaults.{CheckTellsFontFault, CountsCheck, IsCheckFaultOutsideFontAndBudget};
 ghost use Rattle.hintcheck_fonts.specs.Certificates.{IsChecked};
 ghost use Rattle.hintcheck_fonts.specs.CheckedFonts.{AnswersFinding, Finds, HasGoodFamilies, IsLeftBy, IsTold, bytes_in};
@@ -20,6 +20,7 @@ use crate::sections::{HEADER, Progress, SECTIONS};
 use crate::session::Session;
 use std::alloc::{AllocError, Global};
 use thiserror::Error;
+use tt_abs::Exhausted;
 use tt_cert::{DecodeFault, read_form};
 use tt_family::Budget;
 use tt_font::{Font, FontFault};
@@ -68,6 +69,20 @@ impl From<AllocError> for CheckFontFault {
     }
 }
 
+impl From<Exhausted> for CheckFontFault {
+    ghost use Rattle.std.specs.Prelude.{◌≡◌};
+    ghost use Rattle.hintcheck_fonts.specs.BudgetAnswers.{check_ended};
+
+    ghost from_gives = { λ by fault. fault ≡ check_ended by };
+
+    fn from(exhausted: Exhausted) -> CheckFontFault {
+        match exhausted {
+            Exhausted::Memory => CheckFontFault::OutOfMemory(AllocError),
+            Exhausted::Budget => CheckFontFault::Budget,
+        }
+    }
+}
+
 impl From<DecodeFault> for CheckFontFault {
     ghost use Rattle.std.specs.Prelude.{◌≡◌};
     ghost use Rattle.hintcheck_fonts.specs.CertificateFaults.{fault_of_decoding};
@@ -79,6 +94,19 @@ impl From<DecodeFault> for CheckFontFault {
             DecodeFault::Form(place) => CheckFontFault::Form(place),
             DecodeFault::Read => CheckFontFault::Read,
             DecodeFault::OutOfMemory(error) => CheckFontFault::OutOfMemory(error),
+        }
+    }
+}
+
+impl CheckFontFault {
+    /// Returns the fault where the budget was the greatest: no font has so many points, and its end is
+    /// told as out of memory.
+    pub fn without_budget(self) -> CheckFontFault
+        ensures { result ≡ check_unlimited self.entry }
+    {
+        match self {
+            CheckFontFault::Budget => CheckFontFault::OutOfMemory(AllocError),
+            fault => fault,
         }
     }
 }
@@ -127,46 +155,24 @@ fn check_programs<S: Source>(
     ensures whole_units { IfErr result
         (HasRead (S.remaining source.old) (S.remaining source.new) (IsUnbroken font.now)) }
     ensures failures { CountsCheck result (S.failures source.old) (S.failures source.new) }
-    ensures font { IfErr result IsCheckFaultOutsideFontAndBudget }
+    ensures font { IfErr result IsCheckFaultOutsideFont }
     ensures spends { Spends budget.old budget.new }
+    ensures ends { CheckTells budget.old budget.new result }
 {
     let mut session = Session::new(font);
     let mut refused = Vec::new(alloc);
-    while let Some(outcome) = session.check_next_spending(alloc, source, budget)? {
+    while let Some(outcome) = session.check_next_within(alloc, source, budget)? {
         list_outcome(&mut refused, outcome)?;
     }
     Ok(refused)
 }
 
-/// Returns the verdict on the programs of a font that was read, by its certificate.
+/// Returns the verdict on the programs of a font that was read, by its certificate, and makes at most
+/// as many points as the budget allows.
+///
+/// # Errors
+/// As `check_font_within`, but for those of the font.
 pub fn check_read_font<S: Source>(
-    alloc: Global,
-    font: &Font<'_>,
-    source: &mut S,
-    budget: &mut Budget,
-) -> Result<Verdict, CheckFontFault>
-    requires { IsFontInRange font.now }
-    ensures safe { IfOk result (λ v. v.refused ≡ [] → IsSafeFont font.now) }
-    ensures programs { IfOk result (λ v. v.programs ≡ length font.now.glyphs + 2) }
-    ensures exact { IsTold (S.remaining source.old) → Finds result
-        (AnswersFinding font.now (bytes_in (S.remaining source.old)))
-        (λ place. IsChecked font.now (bytes_in (S.remaining source.old)) (Err place)) }
-    ensures unread { IsTold (S.remaining source.old) → IfOk result
-        (λ v. IsLeftBy (bytes_in (S.remaining source.old)) v.refused (S.remaining source.new)) }
-    ensures beginning { ConsumesBeginning (S.remaining source.old) (S.remaining source.new) }
-    ensures whole_units { IfErr result
-        (HasRead (S.remaining source.old) (S.remaining source.new) (IsUnbroken font.now)) }
-    ensures failures { CountsCheck result (S.failures source.old) (S.failures source.new) }
-    ensures font { IfErr result IsCheckFaultOutsideFontAndBudget }
-    ensures spends { Spends budget.old budget.new }
-{
-    let refused = check_programs(alloc, font, source, budget)?;
-    Ok(Verdict::new(u32::from(font.glyph_count()) + 2, refused))
-}
-
-/// Returns the verdict as `check_read_font` does, but answers `Budget` where the budget is
-/// exceeded, unless a fault of form or a failed read comes first.
-pub fn check_read_font_within<S: Source>(
     alloc: Global,
     font: &Font<'_>,
     source: &mut S,
@@ -188,13 +194,11 @@ pub fn check_read_font_within<S: Source>(
     ensures spends { Spends budget.old budget.new }
     ensures budget { CheckTellsBudget budget.new result }
 {
-    let checked = check_read_font(alloc, font, source, budget);
-    match checked {
-        Ok(_) | Err(CheckFontFault::OutOfMemory(_)) if budget.is_exceeded() => {
-            Err(CheckFontFault::Budget)
-        }
-        checked => checked,
+    if budget.is_exceeded() {
+        return Err(CheckFontFault::Budget);
     }
+    let refused = check_programs(alloc, font, source, budget)?;
+    Ok(Verdict::new(u32::from(font.glyph_count()) + 2, refused))
 }
 
 /// Returns the verdict on the programs of a font file by its certificate, which is all that is left
@@ -242,8 +246,10 @@ pub fn check_font<S: Source>(
     // means that they have none.
     ensures faults { CheckTellsFontFault (font_fault font.now) result }
 {
-    let read = read_font(alloc, font)?;
-    check_read_font(alloc, &read, source, &mut Budget::unlimited())
+    match check_font_within(alloc, font, source, &mut Budget::unlimited()) {
+        Ok(verdict) => Ok(verdict),
+        Err(fault) => Err(fault.without_budget()),
+    }
 }
 
 /// Returns the verdict on the programs of a font file by its certificate, as `check_font` does, and
@@ -282,5 +288,5 @@ pub fn check_font_within<S: Source>(
     ensures budget { CheckTellsBudget budget.new result }
 {
     let read = read_font(alloc, font)?;
-    check_read_font_within(alloc, &read, source, budget)
+    check_read_font(alloc, &read, source, budget)
 }

@@ -4,7 +4,7 @@ ghost use Rattle.std.specs.Prelude.{List, IfErr, IfOk, OnOk};
 ghost use Rattle.tt_abs.specs.Settings.{setting_of};
 ghost use Rattle.tt_code.specs.Cut.{Instruction};
 ghost use Rattle.tt_code.specs.declared.limits.Limits.{Limits};
-ghost use Rattle.tt_family.specs.Budgets.{Spends};
+ghost use Rattle.tt_family.specs.Budgets.{Spends, TellsBudget};
 ghost use Rattle.hintcheck_fonts.specs.ProgramVerdicts.{IfRefused};
 ghost use Rattle.hintcheck_fonts.specs.Programs.{Subject};
 ghost use Rattle.hintcheck_fonts.specs.Representation.FontVerdicts.{ComesToEnd};
@@ -40,7 +40,7 @@ pub trait Judge {
     /// before it ends.
     ///
     /// # Errors
-    /// `Refused`; `OutOfMemory`.
+    /// `Refused`; `Exhausted`.
     fn judge(
         &mut self,
         alloc: Global,
@@ -55,7 +55,8 @@ pub trait Judge {
         ensures refused { (x : Subject) → IsProgramOf x setting.now
             → IfErr result (λ fault. IfRefused x.name fault (Refuses self.new x start.now)) }
         ensures keeps { Keeps self.old self.new }
-        ensures spends { Spends budget.old budget.new };
+        ensures spends { Spends budget.old budget.new }
+        ensures budget { TellsBudget budget.old budget.new result };
 
     /// States that a program that can't be cut, or isn't structured, is refused.
     fn uncut_facts(&self)

@@ -8,8 +8,8 @@ ghost use Rattle.tt_code.specs.Settings.{GlyphProgram};
 ghost use Rattle.tt_abs.specs.Entries.{Ascends};
 ghost use Rattle.tt_abs.specs.Settings.{setting_of};
 ghost use Rattle.tt_abs.specs.StateFlow.{FunctionsFit};
-ghost use Rattle.tt_family.specs.Budgets.{Spends};
-ghost use Rattle.tt_family.specs.Checks.{IsOutOfMemory};
+ghost use Rattle.tt_family.specs.Budgets.{IsOfNoBudget, Spends, TellsBudget};
+ghost use Rattle.tt_family.specs.Checks.{IsExhausted};
 ghost use Rattle.tt_cert.specs.declared.name.Name.{Name as ProgramName};
 ghost use Rattle.tt_find.specs.Finders.{HasFound};
 ghost use Rattle.tt_find.specs.Found.{IsJustified, IsNeverEnding, NamesPlace, NoneIsGood};
@@ -22,7 +22,7 @@ ghost use Rattle.hintcheck_fonts.specs.Representation.ProgramOrder.{IsUncut};
 use std::alloc::Global;
 use tt_abs::{Failed, Refusal, Setting, Spot};
 use tt_code::{CodeFault, Program, Reason};
-use tt_family::{Budget, Certificate, check_within};
+use tt_family::{Budget, Certificate, Listing, check_listing};
 use tt_find::Finder;
 
 /// Returns the fault of a program that is refused at this offset of its own bytes.
@@ -39,7 +39,7 @@ fn refused_at(offset: u32, reason: Reason) -> Refusal
 /// Cuts the bytes of a program, at most 2^31 - 1, into its instructions.
 ///
 /// # Errors
-/// `Refused` where they can't be cut or their structure is wrong; `OutOfMemory`.
+/// `Refused` where they can't be cut or their structure is wrong; `Exhausted`.
 pub fn cut<'a>(alloc: Global, bytes: &'a [u8]) -> Result<Program<'a>, Refusal>
     requires { length bytes.now < 2 ^ 31 }
     ensures cut { IfOk result (λ program.
@@ -47,20 +47,21 @@ pub fn cut<'a>(alloc: Global, bytes: &'a [u8]) -> Result<Program<'a>, Refusal>
     ensures uncut { (called : ProgramName)
         → IfErr result (λ fault. IfRefused called fault (IsUncut called bytes.entry.now)) }
     ensures only { (instructions : List Instruction) → IsCut bytes.entry.now instructions
-        → IsStructured instructions → IfErr result IsOutOfMemory }
+        → IsStructured instructions → IfErr result IsExhausted }
+    ensures within { IfErr result IsOfNoBudget }
 {
     match Program::cut(alloc, bytes) {
         Ok(program) => Ok(program),
         Err(CodeFault::CannotCut(offset)) => Err(refused_at(offset, Reason::CannotCut)),
         Err(CodeFault::Structure(offset)) => Err(refused_at(offset, Reason::Structure)),
-        Err(CodeFault::OutOfMemory(error)) => Err(Refusal::OutOfMemory(error)),
+        Err(CodeFault::OutOfMemory(error)) => Err(Refusal::from(error)),
     }
 }
 
 /// Checks the family that was found for a program.
 ///
 /// # Errors
-/// `Refused` where it has no good filling; `OutOfMemory`.
+/// `Refused` where it has no good filling; `Exhausted`.
 fn check_found(
     alloc: Global,
     setting: &Setting<'_>,
@@ -70,10 +71,11 @@ fn check_found(
     requires { Ascends setting.now.start.now }
     // The check accepts it: this relies on no promise of the finder's.
     ensures good { OnOk result (IsFilledIn setting.now certificate.now) }
-    ensures exact { IsFilledIn setting.now certificate.now → IfErr result IsOutOfMemory }
+    ensures exact { IsFilledIn setting.now certificate.now → IfErr result IsExhausted }
     ensures spends { Spends budget.old budget.new }
+    ensures budget { TellsBudget budget.old budget.new result }
 {
-    check_within(alloc, setting, certificate, budget)
+    check_listing(alloc, setting, Listing::Sparse, certificate, budget)
 }
 
 /// What a family is searched for.
@@ -105,7 +107,7 @@ impl Search {
 /// that is for a certificate has no state that could be left out. Returns how many updates it took.
 ///
 /// # Errors
-/// As `Finder::find_within`.
+/// As `Finder::find`.
 fn find(
     alloc: Global,
     finder: &mut Finder,
@@ -122,15 +124,14 @@ fn find(
         → OnOk result (IfSome finder.new.found (HasOnlyNeeded setting.now)) }
     ensures justified { IfErr result
         (NamesPlace (IsJustified (setting_of setting.now) setting.now.start.now)) }
-    ensures none_good { IfErr result (λ fault. IsOutOfMemory fault ⊎ IsNeverEnding fault
+    ensures none_good { IfErr result (λ fault. IsExhausted fault ⊎ IsNeverEnding fault
         ⊎ NoneIsGood (setting_of setting.now) setting.now.start.now) }
     ensures spends { Spends budget.old budget.new }
+    ensures budget { TellsBudget budget.old budget.new result }
 {
     match search {
-        Search::Verdict => finder.find_within(alloc, setting, budget),
-        Search::Certificate | Search::Writing => {
-            finder.find_needed_within(alloc, setting, budget)
-        }
+        Search::Verdict => finder.find(alloc, setting, budget),
+        Search::Certificate | Search::Writing => finder.find_needed(alloc, setting, budget),
     }
 }
 
@@ -138,7 +139,7 @@ fn find(
 /// asked. A family that is found passes the check. The finder keeps it.
 ///
 /// # Errors
-/// `Refused` where no family is found; `OutOfMemory`.
+/// `Refused` where no family is found; `Exhausted`.
 pub(crate) fn find_and_check(
     alloc: Global,
     finder: &mut Finder,
@@ -156,6 +157,7 @@ pub(crate) fn find_and_check(
         → (setting_of setting.now).kind ≡ GlyphProgram points contours
         → IfErr result (NoneIsGoodFor x) }
     ensures spends { Spends budget.old budget.new }
+    ensures budget { TellsBudget budget.old budget.new result }
 {
     setting.range_facts();
     find(alloc, finder, setting, search, budget)?;

@@ -4,7 +4,7 @@
 
 ghost use Rattle.std.specs.Prelude.{◌≡◌, ◌↔◌, [], IfErr, IfOk, IfSome, IsTrue, None, Some, false, true};
 ghost use Rattle.tt_abs.specs.Settings.{kind_of};
-ghost use Rattle.tt_family.specs.Budgets.{Spends};
+ghost use Rattle.tt_family.specs.Budgets.{EndTellsBudget, Spends, TellsBudget};
 ghost use Rattle.hintcheck_fonts.specs.FontPrograms.{IsFontInRange};
 ghost use Rattle.hintcheck_fonts.specs.ProgramVerdicts.{IfRefused};
 ghost use Rattle.hintcheck_fonts.specs.Programs.{Subject};
@@ -16,9 +16,9 @@ use crate::judge::Judge;
 use crate::program::cut;
 use crate::report::{Name, Refused};
 use crate::session::Outcome;
-use std::alloc::{AllocError, Global};
+use std::alloc::Global;
 use std::mem;
-use tt_abs::{Kind, Refusal, Setting};
+use tt_abs::{Exhausted, Kind, Refusal, Setting};
 use tt_code::Program;
 use tt_family::Budget;
 use tt_font::Font;
@@ -87,8 +87,8 @@ fn accepted(program: Name) -> Outcome
 /// Returns the outcome of a program that the fault refuses.
 ///
 /// # Errors
-/// If memory ran out, which refuses nothing.
-pub(crate) fn refused(program: Name, fault: Refusal) -> Result<Outcome, AllocError>
+/// What ended the work without an answer, which refuses nothing.
+pub(crate) fn refused(program: Name, fault: Refusal) -> Result<Outcome, Exhausted>
     ensures { TellsOutcome program fault result }
 {
     match fault {
@@ -100,7 +100,7 @@ pub(crate) fn refused(program: Name, fault: Refusal) -> Result<Outcome, AllocErr
             program,
             refused: Some(Refused::at(program, spot, offset, failed.reason())),
         }),
-        Refusal::OutOfMemory(error) => Err(error),
+        Refusal::Exhausted(by) => Err(by),
     }
 }
 
@@ -254,7 +254,7 @@ impl<'a, K: Drop> Programs<'a, K> {
     /// ends, unless it is a glyph's.
     ///
     /// # Errors
-    /// `Refused`; `OutOfMemory`.
+    /// `Refused`; `Exhausted`.
     pub fn judge<J: Judge<Known = K>>(
         &self,
         alloc: Global,
@@ -276,6 +276,7 @@ impl<'a, K: Drop> Programs<'a, K> {
             (J.Refuses judge.new x (start_at (stage_of self.now)))) }
         ensures keeps { J.Keeps judge.old judge.new }
         ensures spends { Spends budget.old budget.new }
+        ensures budget { TellsBudget budget.old budget.new result }
     {
         judge.uncut_facts();
         let program = cut(alloc, next.bytes)?;
@@ -313,13 +314,13 @@ impl<'a, K: Drop> Programs<'a, K> {
     /// none where no program is left. A refused font program or CVT program is the last one.
     ///
     /// # Errors
-    /// If memory ran out; then the program is still the next one.
+    /// What ended the work without an answer; then the program is still the next one.
     pub fn judge_next<J: Judge<Known = K>>(
         &mut self,
         alloc: Global,
         judge: &mut J,
         budget: &mut Budget,
-    ) -> Result<Option<Outcome>, AllocError>
+    ) -> Result<Option<Outcome>, Exhausted>
         requires range { IsFontInRange self.old.font.now }
         requires start { CanGoOn (J.CanStart self.old.font.now.limits) (stage_of self.old) }
         ensures answer { IfOk result (λ answer. IsAnswerBy self.old.font.now (J.Accepts judge.new)
@@ -330,6 +331,7 @@ impl<'a, K: Drop> Programs<'a, K> {
         ensures font { self.new.font ≡ self.old.font }
         ensures keeps { J.Keeps judge.old judge.new }
         ensures spends { Spends budget.old budget.new }
+        ensures budget { EndTellsBudget budget.old budget.new result }
     {
         let Some(next) = self.next() else {
             self.end();

@@ -3,8 +3,8 @@
 ghost use Rattle.std.specs.Prelude.{◌≡◌, IfErr, OnOk, refl};
 ghost use Rattle.tt_abs.specs.Entries.{Ascends};
 ghost use Rattle.tt_abs.specs.Settings.{setting_of};
-ghost use Rattle.tt_family.specs.Budgets.{Spends};
-ghost use Rattle.tt_family.specs.Checks.{IsOutOfMemory, Names};
+ghost use Rattle.tt_family.specs.Budgets.{Spends, TellsBudget};
+ghost use Rattle.tt_family.specs.Checks.{IsExhausted, Names};
 ghost use Rattle.hintcheck_fonts.specs.Certificates.{IsCheckRefusal, IsListingBrokenFirst};
 ghost use Rattle.hintcheck_fonts.specs.ProgramVerdicts.{IsFilledIn, IsListedIn};
 ghost use Rattle.hintcheck_fonts.specs.Representation.Judges.{IsPassedBy, IsPassedToEnd};
@@ -15,7 +15,7 @@ use crate::report::Name;
 use std::alloc::{AllocError, Global};
 use tt_abs::{Refusal, Setting};
 use tt_cert::Form;
-use tt_family::{Budget, Certificate, check_full_within, check_within};
+use tt_family::{Budget, Certificate, Listing, check_listing};
 
 /// Judges a program by the family that its section of a certificate of this form lists.
 #[derive(Clone, Copy)]
@@ -29,7 +29,7 @@ pub(crate) struct SectionCheck<'c> {
 ///
 /// # Errors
 /// `Refused` where the family isn't good in form 1, or has no good filling in a later one;
-/// `OutOfMemory`.
+/// `Exhausted`.
 fn check_section(
     alloc: Global,
     setting: &Setting<'_>,
@@ -42,13 +42,14 @@ fn check_section(
     ensures listing { OnOk result (IsListedIn form setting.now certificate.now) }
     ensures first { IfErr result (Names (IsListingBrokenFirst form (setting_of setting.now)
         setting.now.start.now certificate.now)) }
-    ensures exact { IsListedIn form setting.now certificate.now → IfErr result IsOutOfMemory }
+    ensures exact { IsListedIn form setting.now certificate.now → IfErr result IsExhausted }
     ensures spends { Spends budget.old budget.new }
+    ensures budget { TellsBudget budget.old budget.new result }
 {
     match form {
-        Form::One => check_full_within(alloc, setting, certificate, budget),
+        Form::One => check_listing(alloc, setting, Listing::Whole, certificate, budget),
         Form::Two | Form::Three | Form::Four => {
-            check_within(alloc, setting, certificate, budget)
+            check_listing(alloc, setting, Listing::Sparse, certificate, budget)
         }
     }
 }

@@ -2,9 +2,9 @@
 //! family is found anew. A session holds one certificate at a time.
 
 ghost use Rattle.std.specs.Prelude.{◌≡◌, ◌≢◌, IfErr, IfOk, None, Ok, Err, Some};
-ghost use Rattle.tt_family.specs.Budgets.{Spends};
+ghost use Rattle.tt_family.specs.Budgets.{EndTellsBudget, Spends};
 ghost use Rattle.tt_stream.specs.Reads.{ConsumesBeginning};
-ghost use Rattle.hintcheck_fonts.specs.BudgetAnswers.{CheckTellsBudget, FindNextTellsBudget, IsCheckFaultOutsideFont};
+ghost use Rattle.hintcheck_fonts.specs.BudgetAnswers.{CheckTells, CheckTellsBudget, FindNextTellsBudget, IsCheckFaultOutsideFont, check_ended};
 ghost use Rattle.hintcheck_fonts.specs.CertificateFaults.{CountsCheck, IsCheckFaultOutsideFontAndBudget};
 ghost use Rattle.hintcheck_fonts.specs.CheckedFonts.{Finds, IsTold};
 ghost use Rattle.hintcheck_fonts.specs.FailedReads.{EndsInCall, HasRead};
@@ -26,6 +26,7 @@ use crate::section_check::SectionCheck;
 use crate::sections::{Progress, next_section};
 use std::alloc::{AllocError, Global};
 use std::marker::Model;
+use tt_abs::Exhausted;
 use tt_cert::{Decoder, read_end};
 use tt_family::Budget;
 use tt_find::Found;
@@ -49,17 +50,26 @@ enum SessionFault {
 }
 
 impl SessionFault {
-    /// Returns the fault of a call, which is neither the font's nor a budget's.
+    /// Returns the fault of a call, which isn't the font's.
     fn of(fault: &CheckFontFault) -> Self
-        requires { IsCheckFaultOutsideFontAndBudget fault.now }
+        requires { IsCheckFaultOutsideFont fault.now }
         ensures { fault_of result ≡ fault.now }
     {
         match fault {
             CheckFontFault::Form(place) => SessionFault::Form(*place),
             CheckFontFault::Read => SessionFault::Read,
-            CheckFontFault::OutOfMemory(_) | CheckFontFault::Font(_) | CheckFontFault::Budget => {
-                SessionFault::OutOfMemory
-            }
+            CheckFontFault::OutOfMemory(_) | CheckFontFault::Font(_) => SessionFault::OutOfMemory,
+            CheckFontFault::Budget => SessionFault::Budget,
+        }
+    }
+
+    /// Returns the fault of a call that ended without an answer.
+    fn of_end(by: Exhausted) -> Self
+        ensures { fault_of result ≡ check_ended by }
+    {
+        match by {
+            Exhausted::Memory => SessionFault::OutOfMemory,
+            Exhausted::Budget => SessionFault::Budget,
         }
     }
 
@@ -138,8 +148,9 @@ fn check_section<'a, S: Source>(
     ensures stopped { IfErr result (StopsInSection programs.old.font.now (stage_of programs.old)
         progress.old (S.remaining source.old) (S.remaining source.new)) }
     ensures failures { CountsCheck result (S.failures source.old) (S.failures source.new) }
-    ensures no_font_fault { IfErr result IsCheckFaultOutsideFontAndBudget }
+    ensures no_font_fault { IfErr result IsCheckFaultOutsideFont }
     ensures spends { Spends budget.old budget.new }
+    ensures ends { CheckTells budget.old budget.new result }
 {
     let Some(next) = programs.next() else {
         read_end(source, progress.place)?;
@@ -185,8 +196,9 @@ fn check_from<'a, S: Source>(
     ensures stopped { IfErr result (HasRead (S.remaining source.old) (S.remaining source.new)
         (EndsInCall (standing_of programs.old read.old))) }
     ensures failures { CountsCheck result (S.failures source.old) (S.failures source.new) }
-    ensures no_font_fault { IfErr result IsCheckFaultOutsideFontAndBudget }
+    ensures no_font_fault { IfErr result IsCheckFaultOutsideFont }
     ensures spends { Spends budget.old budget.new }
+    ensures ends { CheckTells budget.old budget.new result }
 {
     let mut progress = progress_of(programs.font, *read, source)?;
     let answer = check_section(alloc, decoder, programs, source, &mut progress, budget)?;
@@ -200,7 +212,7 @@ fn find_from<'a>(
     alloc: Global,
     programs: &mut FontPrograms<'a>,
     budget: &mut Budget,
-) -> Result<Option<(Outcome, Option<Found>)>, AllocError>
+) -> Result<Option<(Outcome, Option<Found>)>, Exhausted>
     requires range { IsFontInRange programs.old.font.now }
     requires known { KeepsKnown programs.old.font.now (stage_of programs.old) }
     ensures found { IfOk result (λ answer. IsFoundAnswer programs.old.font.now
@@ -208,6 +220,7 @@ fn find_from<'a>(
     ensures known { KeepsKnown programs.new.font.now (stage_of programs.new) }
     ensures font { programs.new.font ≡ programs.old.font }
     ensures spends { Spends budget.old budget.new }
+    ensures budget { EndTellsBudget budget.old budget.new result }
 {
     let mut judge = Finding::new(alloc, Search::Certificate);
     let Some(outcome) = programs.judge_next(alloc, &mut judge, budget)? else {
@@ -320,64 +333,16 @@ impl<'a> Session<'a> {
         ensures no_font_fault { self.old.fault ≡ None
             → IfErr result IsCheckFaultOutsideFontAndBudget }
     {
-        self.check_next_spending(alloc, source, &mut Budget::unlimited())
-    }
-
-    /// Checks the next program as `check_next` does, and makes at most as many points as the budget
-    /// allows. A budget that is exceeded is answered as if memory had run out.
-    pub(crate) fn check_next_spending<S: Source>(
-        &mut self,
-        alloc: Global,
-        source: &mut S,
-        budget: &mut Budget,
-    ) -> Result<Option<Outcome>, CheckFontFault>
-        requires { IsForChecking self.old }
-        // The outcome is the next program's, and an accepted one has a good family.
-        ensures sound { IfOk result
-            (λ answer. IsSoundAnswer self.old.font self.old.stage answer self.new.stage) }
-        // Where the source tells its bytes, it comes from the program's section, which is read from
-        // where the call before ended.
-        ensures exact { self.old.fault ≡ None → IsTold (S.remaining source.old) → Finds result
-            (λ answer. IsTold (S.remaining source.new)
-            × AnswersNext self.old (S.remaining source.old)
-            answer self.new (S.remaining source.new))
-            (IsNextFault self.old (S.remaining source.old)) }
-        ensures after_fault { (fault : AnyFault) → self.old.fault ≡ Some fault
-            → (result ≡ Err fault) × (self.new ≡ self.old) × (source.new ≡ source.old) }
-        ensures after_none { self.old.fault ≡ None → self.old.stage ≡ over
-            → (result ≡ Ok None) × (self.new ≡ self.old) × (source.new ≡ source.old) }
-        ensures fault { IfErr result (λ fault. self.new.fault ≡ Some fault) }
-        ensures no_fault { IfOk result (λ _. self.new.fault ≡ None) }
-        ensures font { self.new.font ≡ self.old.font }
-        ensures checking { IsForChecking self.new }
-        ensures beginning { ConsumesBeginning (S.remaining source.old) (S.remaining source.new) }
-        // Where a read failed, no unit that the call read whole breaks a rule.
-        ensures whole_units { self.old.fault ≡ None → IfErr result
-            (HasRead (S.remaining source.old) (S.remaining source.new) (EndsInCall self.old)) }
-        ensures failures { self.old.fault ≡ None
-            → CountsCheck result (S.failures source.old) (S.failures source.new) }
-        ensures no_font_fault { self.old.fault ≡ None
-            → IfErr result IsCheckFaultOutsideFontAndBudget }
-        ensures spends { Spends budget.old budget.new }
-    {
         if let Some(fault) = self.fault {
             return Err(fault.reported());
         }
-        if self.programs.is_over() {
-            return Ok(None);
+        let checked = self.check_next_within(alloc, source, &mut Budget::unlimited());
+        if let Some(SessionFault::Budget) = self.fault {
+            // No font has so many points.
+            self.fault = Some(SessionFault::OutOfMemory);
+            return Err(CheckFontFault::OutOfMemory(AllocError));
         }
-        let answer = check_from(
-            alloc,
-            &mut self.decoder,
-            &mut self.programs,
-            &mut self.progress,
-            source,
-            budget,
-        );
-        if let Err(fault) = &answer {
-            self.fault = Some(SessionFault::of(fault));
-        }
-        answer
+        checked
     }
 
     /// Checks the next program as `check_next` does, and makes at most as many points as the budget
@@ -423,6 +388,7 @@ impl<'a> Session<'a> {
         ensures spends { Spends budget.old budget.new }
         ensures budget { self.old.fault ≡ None → self.old.stage ≢ over
             → CheckTellsBudget budget.new result }
+        ensures ends { self.old.fault ≡ None → CheckTells budget.old budget.new result }
     {
         if let Some(fault) = self.fault {
             return Err(fault.reported());
@@ -430,48 +396,22 @@ impl<'a> Session<'a> {
         if self.programs.is_over() {
             return Ok(None);
         }
-        let answer = self.check_next_spending(alloc, source, budget);
-        match answer {
-            Ok(_) | Err(CheckFontFault::OutOfMemory(_)) if budget.is_exceeded() => {
-                self.fault = Some(SessionFault::Budget);
-                Err(CheckFontFault::Budget)
-            }
-            answer => answer,
+        if budget.is_exceeded() {
+            self.fault = Some(SessionFault::Budget);
+            return Err(CheckFontFault::Budget);
         }
-    }
-
-    /// Finds the next program's family as `find_next` does, and makes at most as many points as the
-    /// budget allows. A budget that is exceeded is answered as if memory had run out.
-    fn find_next_spending(
-        &mut self,
-        alloc: Global,
-        budget: &mut Budget,
-    ) -> Result<Option<(Outcome, Option<Found>)>, FindFontFault>
-        requires { IsForFinding self.old }
-        ensures found { IfOk result
-            (λ answer. IsFoundAnswer self.old.font self.old.stage answer self.new.stage) }
-        ensures after_fault { (fault : AnyFault) → self.old.fault ≡ Some fault
-            → (result ≡ Err (found_fault fault)) × (self.new ≡ self.old) }
-        ensures after_none { self.old.fault ≡ None → self.old.stage ≡ over
-            → (result ≡ Ok None) × (self.new ≡ self.old) }
-        ensures fault { self.old.fault ≡ None → IfErr result
-            (λ fault. (fault ≡ out_of_memory) × (self.new.fault ≡ Some out_of_memory_here)) }
-        ensures no_fault { IfOk result (λ _. self.new.fault ≡ None) }
-        ensures font { self.new.font ≡ self.old.font }
-        ensures finding { IsForFinding self.new }
-        ensures spends { Spends budget.old budget.new }
-    {
-        if let Some(fault) = self.fault {
-            return Err(fault.found());
+        let answer = check_from(
+            alloc,
+            &mut self.decoder,
+            &mut self.programs,
+            &mut self.progress,
+            source,
+            budget,
+        );
+        if let Err(fault) = &answer {
+            self.fault = Some(SessionFault::of(fault));
         }
-        if self.programs.is_over() {
-            return Ok(None);
-        }
-        let answer = find_from(alloc, &mut self.programs, budget);
-        if answer.is_err() {
-            self.fault = Some(SessionFault::OutOfMemory);
-        }
-        Ok(answer?)
+        answer
     }
 
     /// Finds the next program's family, and checks it: returns the program's outcome, and where it
@@ -500,7 +440,17 @@ impl<'a> Session<'a> {
         ensures font { self.new.font ≡ self.old.font }
         ensures finding { IsForFinding self.new }
     {
-        self.find_next_spending(alloc, &mut Budget::unlimited())
+        if let Some(fault) = self.fault {
+            return Err(fault.found());
+        }
+        match self.find_next_within(alloc, &mut Budget::unlimited()) {
+            Ok(found) => Ok(found),
+            Err(_) => {
+                // No font has so many points.
+                self.fault = Some(SessionFault::OutOfMemory);
+                Err(FindFontFault::OutOfMemory(AllocError))
+            }
+        }
     }
 
     /// Finds the next program's family as `find_next` does, and makes at most as many points as the
@@ -538,13 +488,16 @@ impl<'a> Session<'a> {
         if self.programs.is_over() {
             return Ok(None);
         }
-        let answer = self.find_next_spending(alloc, budget);
-        match answer {
-            Ok(_) | Err(FindFontFault::OutOfMemory(_)) if budget.is_exceeded() => {
-                self.fault = Some(SessionFault::Budget);
-                Err(FindFontFault::Budget)
+        if budget.is_exceeded() {
+            self.fault = Some(SessionFault::Budget);
+            return Err(FindFontFault::Budget);
+        }
+        match find_from(alloc, &mut self.programs, budget) {
+            Ok(found) => Ok(found),
+            Err(by) => {
+                self.fault = Some(SessionFault::of_end(by));
+                Err(FindFontFault::from(by))
             }
-            answer => answer,
         }
     }
 }

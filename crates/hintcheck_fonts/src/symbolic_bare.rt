@@ -13,7 +13,7 @@ use crate::programs::refused as refused_outcome;
 use crate::report::{Name, Refused, Verdict};
 use crate::symbolic_check::{check_in_turn, refusal_of};
 use std::alloc::{AllocError, Global};
-use tt_abs::{Kind, Refusal, Setting};
+use tt_abs::{Exhausted, Kind, Refusal, Setting};
 use tt_code::Limits;
 use tt_font::{FontFault, GlyphPart, read_maxp};
 
@@ -21,7 +21,7 @@ use tt_font::{FontFault, GlyphPart, read_maxp};
 /// empty.
 ///
 /// # Errors
-/// `Refused`; `OutOfMemory`.
+/// `Refused`; `Exhausted`.
 fn judge_bare(alloc: Global, limits: Limits, cvt: u16, glyph: &GlyphPart<'_>) -> Result<(), Refusal>
     requires { length glyph.now.program.now < 2 ^ 31 }
     ensures { OnOk result (IsSafeAlone (font_around limits cvt) (glyph_data glyph.now)) }
@@ -62,7 +62,7 @@ fn refused_programs(
     limits: Limits,
     cvt: u16,
     glyph: &GlyphPart<'_>,
-) -> Result<Vec<Refused>, AllocError>
+) -> Result<Vec<Refused>, Exhausted>
     requires { length glyph.now.program.now < 2 ^ 31 }
     ensures safe { IfOk result (λ refused. refused.items ≡ []
         → IsSafeAlone (font_around limits cvt) (glyph_data glyph.now)) }
@@ -108,6 +108,8 @@ pub fn bare_symbolic(
         contours,
         program,
     };
-    let refused = refused_programs(alloc, limits, cvt, &glyph)?;
-    Ok(Verdict::new(1, refused))
+    match refused_programs(alloc, limits, cvt, &glyph) {
+        Ok(refused) => Ok(Verdict::new(1, refused)),
+        Err(_) => Err(FontFault::OutOfMemory(AllocError)),
+    }
 }

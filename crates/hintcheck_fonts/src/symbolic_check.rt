@@ -210,7 +210,7 @@ pub(crate) fn refusal_of(refusal: CheckRefusal) -> Refusal
             offset: 0,
             failed: Failed::Only(Reason::TooManySteps),
         },
-        CheckRefusal::OutOfMemory(error) => Refusal::OutOfMemory(error),
+        CheckRefusal::OutOfMemory(error) => Refusal::from(error),
     }
 }
 

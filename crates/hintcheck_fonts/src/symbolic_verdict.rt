@@ -19,6 +19,7 @@ use crate::report::{Name, Refused, Verdict};
 use crate::session::Outcome;
 use crate::symbolic_check::SymbolicCheck;
 use std::alloc::{AllocError, Global};
+use tt_abs::Exhausted;
 use tt_family::Budget;
 use tt_font::{Font, FontFault};
 use tt_symbolic_font::Ends;
@@ -35,7 +36,7 @@ fn refused_next(
     alloc: Global,
     programs: &mut FontPrograms<'_>,
     judge: &mut SymbolicCheck,
-) -> Result<Option<Refused>, AllocError>
+) -> Result<Option<Refused>, Exhausted>
     requires range { IsFontInRange programs.old.font.now }
     requires start { CanGoOn (λ functions. Ascends functions) (stage_of programs.old) }
     ensures answer { IfOk result (λ refused. TellsRefused programs.old.font.now judge.new
@@ -54,7 +55,7 @@ fn refused_before_glyphs(
     alloc: Global,
     programs: &mut FontPrograms<'_>,
     judge: &mut SymbolicCheck,
-) -> Result<Option<Refused>, AllocError>
+) -> Result<Option<Refused>, Exhausted>
     requires range { IsFontInRange programs.old.font.now }
     requires start { stage_of programs.old ≡ at_start }
     ensures none { IfOk result (λ refused. refused ≡ None
@@ -93,7 +94,7 @@ fn refused_glyphs(
     alloc: Global,
     programs: &mut FontPrograms<'_>,
     judge: &mut SymbolicCheck,
-) -> Result<Vec<Refused>, AllocError>
+) -> Result<Vec<Refused>, Exhausted>
     requires range { IsFontInRange programs.old.font.now }
     requires start { CanGoOn (λ functions. Ascends functions) (stage_of programs.old) }
     requires stage { IsAfterCvt programs.old.font.now judge.old.ends (stage_of programs.old) }
@@ -122,7 +123,7 @@ pub fn refused_programs(
     alloc: Global,
     font: &Font<'_>,
     judge: &mut SymbolicCheck,
-) -> Result<Vec<Refused>, AllocError>
+) -> Result<Vec<Refused>, Exhausted>
     requires { IsFontInRange font.now }
     ensures { IfOk result (λ refused. IsSymbolicVerdict font.now
         (judgement_on font.now refused.items)) }
@@ -169,6 +170,8 @@ pub fn verdict_symbolic_within(alloc: Global, font: &[u8], steps: u64) -> Result
 {
     let read = read_font(alloc, font)?;
     let mut judge = SymbolicCheck::new(alloc, steps);
-    let refused = refused_programs(alloc, &read, &mut judge)?;
-    Ok(Verdict::new(u32::from(read.glyph_count()) + 2, refused))
+    match refused_programs(alloc, &read, &mut judge) {
+        Ok(refused) => Ok(Verdict::new(u32::from(read.glyph_count()) + 2, refused)),
+        Err(_) => Err(FontFault::OutOfMemory(AllocError)),
+    }
 }

@@ -4,7 +4,7 @@ use Rattle.tt_abs.specs.declared.exhausted.Exhausted.{Exhausted as By}
 use Rattle.tt_abs.specs.declared.exhausted.Exhausted.TheVariants.{Memory, Budget as Points}
 use Rattle.tt_abs.specs.declared.refusal.Refusal.{Refusal}
 use Rattle.tt_abs.specs.declared.refusal.Refusal.TheVariants.{Refused, Exhausted}
-use Rattle.tt_family.specs.Budgets.{AreAlike, EndTells, IsWithinBudget, RefusalTells, Spends}
+use Rattle.tt_family.specs.Budgets.{AreAlike, EndTells, IsOfNoBudget, RefusalTells, Spends}
 use Rattle.tt_family.specs.declared.budget.Budget.{Budget}
 
 -- what two calls spend, one after the other
@@ -21,6 +21,6 @@ tells_on a b c alike (Refused spot offset failed) alike' = alike' ∙ alike
 tells_on a b c alike (Exhausted by) tells = end_tells_on a b c alike by tells
 
 -- a call without a budget ends the work
-pub tells_within : (a b : Budget) → AreAlike a b → (fault : Refusal) → IsWithinBudget fault → RefusalTells a b fault
+pub tells_within : (a b : Budget) → AreAlike a b → (fault : Refusal) → IsOfNoBudget fault → RefusalTells a b fault
 tells_within a b alike (Refused spot offset failed) within = alike
 tells_within a b alike (Exhausted Memory) within = alike

@@ -68,8 +68,8 @@ abbrev pub EndTellsBudget : {T : Type 0} → Budget → Budget → Result T Exha
 EndTellsBudget old new (Ok done) = AreAlike old new
 EndTellsBudget old new (Err by) = EndTells old new by
 
--- no budget was exceeded
-abbrev pub IsWithinBudget : Refusal → Type 0
-IsWithinBudget (refusal.Refused spot offset failed) = Unit {0}
-IsWithinBudget (refusal.Exhausted exhausted.Memory) = Unit {0}
-IsWithinBudget (refusal.Exhausted exhausted.Budget) = ⊥
+-- what ends the work isn't a budget
+abbrev pub IsOfNoBudget : Refusal → Type 0
+IsOfNoBudget (refusal.Refused spot offset failed) = Unit {0}
+IsOfNoBudget (refusal.Exhausted exhausted.Memory) = Unit {0}
+IsOfNoBudget (refusal.Exhausted exhausted.Budget) = ⊥

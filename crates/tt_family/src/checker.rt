@@ -8,7 +8,7 @@ ghost use Rattle.tt_abs.specs.Families.{CoversAt};
 ghost use Rattle.tt_abs.specs.Lines.{EndsAt};
 ghost use Rattle.tt_abs.specs.Settings.{setting_of};
 ghost use Rattle.tt_abs.specs.States.{state_order};
-ghost use Rattle.tt_family.specs.Budgets.{Counts, IsPaidFor, IsWithinBudget, Spends, TellsBudget};
+ghost use Rattle.tt_family.specs.Budgets.{Counts, IsPaidFor, IsOfNoBudget, Spends, TellsBudget};
 ghost use Rattle.tt_family.specs.CheckedSubjects.{EndsWellFor, HasGoodFillingFor, HasSafeFillingFor, IsGoodFor, IsGoodListingFor, IsSafeFor, IsSafeListingFor, IsShortFor, NamesBrokenFirst, NamesFillingBrokenFirst, NamesListingBrokenFirst};
 ghost use Rattle.tt_family.specs.Representation.Cursors.{IsFoundSoundFor, NamesFirstFor, AreToCome, AreUnlisted, IsLeftOutAfter, IsWalk, IsWalkedThrough, NamesBreak, NamesFirstBreak, PassesPoint, to_come};
 ghost use Rattle.tt_family.specs.Checks.{FitOffsetsBefore, IsExhausted, NamesGap};
@@ -71,7 +71,7 @@ fn check_start(certificate: &Certificate, walk: &mut Cursor<'_>) -> Result<(), R
     ensures covered { IfOk result (λ _.
         CoversAt state_order (family_of certificate.now) ([], 0) walk.old.made) }
     ensures gap { IfErr result (NamesGap (family_of certificate.now) ⊥ ([], 0) walk.old.made) }
-    ensures within { IfErr result IsWithinBudget }
+    ensures within { IfErr result IsOfNoBudget }
     ensures walk { IsWalk certificate.now walk.new }
     ensures next { walk.new.next ≡ walk.old.next }
     ensures carried { walk.new.carried ≡ walk.old.carried }

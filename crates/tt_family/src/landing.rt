@@ -1,7 +1,7 @@
 //! The landing of a way: the context and the offset to which it leads from a context.
 
 ghost use Rattle.std.specs.Prelude.{◌≡◌, ◌<◌, IfErr, IfOk, None, length};
-ghost use Rattle.tt_family.specs.Budgets.{IsWithinBudget};
+ghost use Rattle.tt_family.specs.Budgets.{IsOfNoBudget};
 ghost use Rattle.tt_family.specs.Checks.{FitOffsetsBefore, HasNextTurn};
 ghost use Rattle.tt_family.specs.Contents.{frames_at};
 ghost use Rattle.tt_family.specs.Landings.{IsLanding, IsMissing, IsPointOf, IsTurnCountable, place_from};
@@ -96,7 +96,7 @@ pub(crate) fn look_up_successor(
         (IsPointOf certificate.now.contexts (place_from certificate.now.contexts context way)) }
     ensures missing { IfErr result
         (IsMissing certificate.now (place_from certificate.now.contexts context way)) }
-    ensures within { IfErr result IsWithinBudget }
+    ensures within { IfErr result IsOfNoBudget }
 {
     certificate.order_facts();
     match landing_of(certificate.builder(), context, way) {

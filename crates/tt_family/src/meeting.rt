@@ -1,7 +1,7 @@
 //! How a state is covered at the places to which it goes, or added there.
 
 ghost use Rattle.std.specs.Prelude.{◌≡◌, ◌<◌, IfErr, IfOk, IsTrue, Some, length};
-ghost use Rattle.tt_family.specs.Budgets.{IsWithinBudget};
+ghost use Rattle.tt_family.specs.Budgets.{IsOfNoBudget};
 ghost use Rattle.tt_family.specs.Checks.{FitOffsetsBefore, HasNextTurn, NamesGap, saturated_offset};
 ghost use Rattle.tt_family.specs.Contents.{family_of, frames_at};
 ghost use Rattle.tt_family.specs.Puts.{place_of};
@@ -78,7 +78,7 @@ pub(crate) fn check_covered(
         next.entry (place_of certificate.now context offset) state.now) }
     ensures gap { IfErr result (NamesGap (family_of certificate.now) (IsTrue may_be_left_out)
         (place_of certificate.now context offset) state.now) }
-    ensures within { IfErr result IsWithinBudget }
+    ensures within { IfErr result IsOfNoBudget }
 {
     certificate.order_facts();
     if may_be_left_out && is_coming_after(next, context, offset) {
@@ -124,7 +124,7 @@ fn check_offset(
         walk.now.next (point_of certificate.now walk.now offset) walk.now.made) }
     ensures gap { IfErr result (NamesGap (family_of certificate.now) (after ≡ Some offset)
         (point_of certificate.now walk.now offset) walk.now.made) }
-    ensures within { IfErr result IsWithinBudget }
+    ensures within { IfErr result IsOfNoBudget }
 {
     check_covered(
         certificate,
@@ -157,7 +157,7 @@ fn check_successor(
         (IsMadeMet certificate.now walk.now after (place_of_move certificate.now walk.now way)) }
     ensures gap { IfErr result
         (NamesGapMade certificate.now walk.now after (place_of_move certificate.now walk.now way)) }
-    ensures within { IfErr result IsWithinBudget }
+    ensures within { IfErr result IsOfNoBudget }
 {
     if let Move::To(offset) = way {
         return check_offset(certificate, walk, offset, after);
@@ -189,7 +189,7 @@ pub(crate) fn check_successors(
     requires forward { IsPastStart after }
     ensures met { IfOk result (AreMadeMet certificate.now walk.now after moves) }
     ensures gap { IfErr result (NamesFirstGapMade certificate.now walk.now after moves) }
-    ensures within { IfErr result IsWithinBudget }
+    ensures within { IfErr result IsOfNoBudget }
 {
     let mut met = match check_successor(certificate, walk, moves.first(), after) {
         Ok(met) => met,

@@ -16,7 +16,7 @@ use Rattle.tt_abs.specs.StateFlow.{FitsLimits, GivesState, Place, flow_of, heigh
 use Rattle.tt_abs.specs.States.{state_laws, state_order}
 use Rattle.tt_abs.proofs.FunctionBodies.{derived_bodies}
 use Rattle.tt_abs.proofs.LineLaws.{precedes_one, precedes_ascends}
-use Rattle.tt_family.specs.Checks.{IsOutOfMemory, point_key_of}
+use Rattle.tt_family.specs.Checks.{IsExhausted, point_key_of}
 use Rattle.tt_family.specs.Contents.{HasContext, family_of, number_of}
 use Rattle.tt_family.specs.Fillings.{IsFilling}
 use Rattle.tt_family.specs.GoodFamilies.{EndsWell, HasEnd, HasFewContexts, IsGoodFamily, IsShortEnough}
@@ -25,7 +25,7 @@ use Rattle.tt_family.specs.Places.{has_point}
 use Rattle.tt_family.specs.Ascending.{family_without}
 use Rattle.tt_family.proofs.FillingLaws.{ends_kept, ends_listed, some_or_none}
 use Rattle.tt_abs.specs.declared.refusal.Refusal.{Refusal}
-use Rattle.tt_abs.specs.declared.refusal.Refusal.TheVariants.{Refused, OutOfMemory}
+use Rattle.tt_abs.specs.declared.refusal.Refusal.TheVariants.{Refused, Exhausted}
 use Rattle.tt_find.specs.declared.solver.Solver.{Solver}
 use Rattle.tt_find.specs.Found.{AreDerivedContexts, AreLeastContexts, HasLeastFilling, KeepsBodies, IsDerived, IsJustified, IsLeast, IsNeverEnding, LacksEnd, NamesPlace, NeedsAll, NoneIsGood, too_long, refused, apart, too_many, never_ends}
 use Rattle.tt_find.specs.Representation.Solvers.{HasLaws, IsAmong, IsListed, IsWhole, MayLead}
@@ -278,9 +278,9 @@ module _ (s : Setting) (functions : List (ℕ × ℕ)) (laws : HasLaws s functio
   none_or_endless p r (too_many q h) = inr (λ family short good few. none_where_many h.contexts h.derived h.many family good few)
   none_or_endless p r (never_ends family h) = inl refl
 
-  pub none_good_from : (fault : Refusal) → NamesPlace (IsJustified s functions) fault → IsOutOfMemory fault ⊎ IsNeverEnding fault ⊎ NoneIsGood s functions
+  pub none_good_from : (fault : Refusal) → NamesPlace (IsJustified s functions) fault → IsExhausted fault ⊎ IsNeverEnding fault ⊎ NoneIsGood s functions
   none_good_from (Refused spot offset failed) (p, e, f, h) = elim (none_or_endless p (reason_of failed) h) [ inl ends ↦ inr (inl ends) | inr none ↦ inr (inr none) ]
-  none_good_from (OutOfMemory e) h = inl tt
+  none_good_from (Exhausted by) h = inl tt
 
   -- a family that lacks an end is of a program that may be long
   lacks_short : (kind : Kind) (family : Place → Option State) → (EndsWell s kind family → ⊥) → IsShortEnough s kind
@@ -288,7 +288,7 @@ module _ (s : Setting) (functions : List (ℕ × ℕ)) (laws : HasLaws s functio
   lacks_short CvtProgram family endless = tt
   lacks_short (GlyphProgram points contours) family endless = absurd (endless tt)
 
-  pub never_ends_from : (family : Place → Option State) → LacksEnd s functions family → (fault : Refusal) → NamesPlace (IsJustified s functions) fault → IsOutOfMemory fault ⊎ IsNeverEnding fault
+  pub never_ends_from : (family : Place → Option State) → LacksEnd s functions family → (fault : Refusal) → NamesPlace (IsJustified s functions) fault → IsExhausted fault ⊎ IsNeverEnding fault
   never_ends_from family lacks fault h = elim (none_good_from fault h) [
     | inl memory ↦ inl memory
     | inr (inl ends) ↦ inr ends

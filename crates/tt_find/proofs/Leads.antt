@@ -17,11 +17,11 @@ use Rattle.tt_family.specs.Contents.{AddsContext, Contents, HasContext, IsFamily
 use Rattle.tt_family.specs.Places.{states_of}
 use Rattle.tt_family.specs.Puts.{place_of}
 use Rattle.tt_abs.specs.Spots.{spot_of}
-use Rattle.tt_family.specs.Checks.{IsOutOfMemory}
+use Rattle.tt_family.specs.Checks.{IsExhausted}
 use Rattle.tt_family.specs.declared.fault.ContextFault.{ContextFault}
 use Rattle.tt_family.specs.declared.fault.ContextFault.TheVariants.{TooManyContexts as TooMany, OutOfMemory as NoMemory}
 use Rattle.tt_abs.specs.declared.refusal.Refusal.{Refusal}
-use Rattle.tt_abs.specs.declared.refusal.Refusal.TheVariants.{Refused, OutOfMemory}
+use Rattle.tt_abs.specs.declared.refusal.Refusal.TheVariants.{Refused, Exhausted}
 use Rattle.tt_find.specs.Found.{IsJustified, NamesPlace}
 use Rattle.tt_family.specs.Fillings.{IsJustAfter}
 use Rattle.tt_find.specs.Representation.Solvers.{ComesFrom, IsCountable, HasLaws, IsLeading, IsLeadingAt, IsLeadingOn, IsLeadingTo, IsOnWay, IsStored, IsWalk, IsWhole, TellsSource, calls_of, here_of, place_of_way, place_over, places_from}
@@ -79,14 +79,14 @@ module _ (s : Setting) (functions : List (ℕ × ℕ)) (laws : HasLaws s functio
       leading_ends s functions laws new p t (leading_put s functions laws old new p c off t [] source leading lt stored comes)
 
   -- the fault that tells of a context too many
-  pub not_entered : (p : Place) (fault : ContextFault) (result : Refusal) → (fault ≡ TooMany → result ≡ Refused (spot_of p.0) p.1 (Only TooManyContexts)) → (fault ≡ NoMemory → IsOutOfMemory result)
+  pub not_entered : (p : Place) (fault : ContextFault) (result : Refusal) → (fault ≡ TooMany → result ≡ Refused (spot_of p.0) p.1 (Only TooManyContexts)) → (fault ≡ NoMemory → IsExhausted result)
       → (fault ≡ TooMany → IsJustified s functions p TooManyContexts) → NamesPlace (IsJustified s functions) result
   not_entered p TooMany result full memory just = names_at (IsJustified s functions) p (Only TooManyContexts) result (full refl) (just refl)
   not_entered p NoMemory result full memory just = no_memory result (memory refl)
     where
-      no_memory : (result : Refusal) → IsOutOfMemory result → NamesPlace (IsJustified s functions) result
+      no_memory : (result : Refusal) → IsExhausted result → NamesPlace (IsJustified s functions) result
       no_memory (Refused spot offset failed) never = absurd never
-      no_memory (OutOfMemory e) h = tt
+      no_memory (Exhausted by) h = tt
 
   -- The state is led to one place after the other.
 

@@ -27,7 +27,7 @@ use Rattle.tt_abs.specs.Spots.{spot_of}
 use Rattle.tt_abs.specs.declared.spot.Spot.{Spot}
 use Rattle.tt_family.proofs.Puts.{cases_place}
 use Rattle.tt_abs.specs.declared.refusal.Refusal.{Refusal}
-use Rattle.tt_abs.specs.declared.refusal.Refusal.TheVariants.{Refused, OutOfMemory}
+use Rattle.tt_abs.specs.declared.refusal.Refusal.TheVariants.{Refused, Exhausted}
 use Rattle.tt_find.specs.Representation.OffsetMarks.{SetsMark, mark_of}
 use Rattle.tt_find.specs.declared.marks.Mark.TheVariants.{Kept, Passed}
 use Rattle.tt_find.specs.declared.marks.OffsetMarks.{OffsetMarks}
@@ -48,7 +48,7 @@ use Rattle.tt_find.proofs.Ways.{end_gives, end_safe, ways_give, ways_safe}
 
 pub names_map : (A B : Place → Reason → Type 0) → ((p : Place) (r : Reason) → A p r → B p r) → (fault : Refusal) → NamesPlace A fault → NamesPlace B fault
 names_map A B turn (Refused spot offset failed) (p, e, f, h) = (p, e, f, turn p (reason_of failed) h)
-names_map A B turn (OutOfMemory e) h = tt
+names_map A B turn (Exhausted by) h = tt
 
 pub stop_map : (A B : Place → Reason → Type 0) (everywhere everywhere' : Bool) → everywhere ≡ everywhere' → ((p : Place) (r : Reason) → A p r → B p r) → (stop : Stop)
     → NamesStop A everywhere stop → NamesStop B everywhere' stop

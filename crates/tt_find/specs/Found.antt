@@ -20,7 +20,7 @@ use Rattle.tt_family.specs.Fillings.{HasGoodFilling, IsFilling}
 use Rattle.tt_family.specs.GoodFamilies.{EndsWell, HasFewContexts, IsGoodFamily, IsShortEnough}
 use Rattle.tt_abs.specs.Spots.{spot_of}
 use Rattle.tt_abs.specs.declared.refusal.Refusal.{Refusal}
-use Rattle.tt_abs.specs.declared.refusal.Refusal.TheVariants.{Refused, OutOfMemory}
+use Rattle.tt_abs.specs.declared.refusal.Refusal.TheVariants.{Refused, Exhausted}
 use Rattle.tt_find.specs.declared.stop.Stop.{Stop}
 use Rattle.tt_find.specs.declared.stop.Stop.TheVariants.{Fault, Restart}
 
@@ -175,7 +175,7 @@ pub data IsJustified (s : Setting) (functions : List (ℕ × ℕ)) : Place → R
 abbrev pub NamesPlace : (Place → Reason → Type 0) → Refusal → Type 0
 NamesPlace Is (Refused spot offset failed) =
     (p : Place) × (spot ≡ spot_of p.0) × (offset ≡ p.1) × Is p (reason_of failed)
-NamesPlace Is (OutOfMemory e) = Unit {0}
+NamesPlace Is (Exhausted by) = Unit {0}
 
 -- The stop is a fault that names such a place; or the finder starts again, since a state was to be
 -- kept where states had passed, which can't be where they are kept everywhere.
@@ -186,4 +186,4 @@ NamesStop Is everywhere Restart = everywhere ≡ false
 -- the fault is that the end isn't reached
 abbrev pub IsNeverEnding : Refusal → Type 0
 IsNeverEnding (Refused spot offset failed) = reason_of failed ≡ NeverEnds
-IsNeverEnding (OutOfMemory e) = ⊥
+IsNeverEnding (Exhausted by) = ⊥

@@ -6,7 +6,7 @@ use Rattle.tt_abs.specs.declared.state.State.{State}
 use Rattle.tt_abs.specs.Settings.{setting_of}
 use Rattle.tt_abs.specs.StateFlow.{Place}
 use Rattle.tt_family.specs.Budgets.{counted_from}
-use Rattle.tt_family.specs.Checks.{IsOutOfMemory}
+use Rattle.tt_family.specs.Checks.{IsExhausted}
 use Rattle.tt_family.specs.declared.budget.Budget.{Budget}
 use Rattle.tt_family.specs.Contents.{family_of}
 use Rattle.tt_abs.specs.declared.refusal.Refusal.{Refusal}
@@ -37,10 +37,10 @@ IsJustifiedFor x = NamesPlace (IsJustified (setting_of x) x.start.now)
 -- no family is good (`NoneIsGood`), unless memory ran out, or the end alone isn't reached
 abbrev pub TellsNoneIsGood : Subject → Refusal → Type 0
 TellsNoneIsGood x fault =
-    IsOutOfMemory fault ⊎ IsNeverEnding fault ⊎ NoneIsGood (setting_of x) x.start.now
+    IsExhausted fault ⊎ IsNeverEnding fault ⊎ NoneIsGood (setting_of x) x.start.now
 
 -- where the least family is good except for the end, the answer says so, unless memory ran out
 abbrev pub TellsNoEnd : {A : Type 0} → Subject → Result A Refusal → Type 0
 TellsNoEnd x answer =
     (family : Place → Option State) → LacksEnd (setting_of x) x.start.now family
-    → IfOk answer (λ _. ⊥) × IfErr answer (λ fault. IsOutOfMemory fault ⊎ IsNeverEnding fault)
+    → IfOk answer (λ _. ⊥) × IfErr answer (λ fault. IsExhausted fault ⊎ IsNeverEnding fault)

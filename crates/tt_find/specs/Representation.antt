@@ -1,5 +1,6 @@
 -- How the code keeps what the definitions speak of: private contracts cite these, and no public one
 -- does.
+pub mod BudgetStops
 pub mod OffsetMarks
 pub mod SolverSubjects
 pub mod Solvers

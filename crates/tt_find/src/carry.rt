@@ -3,8 +3,9 @@
 
 ghost use Rattle.std.specs.Prelude.{◌≡◌, ◌<◌, ◌*◌, IfErr, IfOk, IfSome, IsTrue, OnOk, length};
 ghost use Rattle.tt_abs.specs.States.{state_order};
-ghost use Rattle.tt_family.specs.Budgets.{Counts, Spends, counted_from};
-ghost use Rattle.tt_family.specs.Checks.{IsOutOfMemory};
+ghost use Rattle.tt_family.specs.Budgets.{Counts, IsOfNoBudget, Spends, counted_from};
+ghost use Rattle.tt_family.specs.Checks.{IsExhausted};
+ghost use Rattle.tt_find.specs.Representation.BudgetStops.{IsStopOfNoBudget, StopTellsBudget};
 ghost use Rattle.tt_find.specs.Representation.SolverSubjects.{EndsJustBefore, GoesOnFor, HasLawsFor, IsNextAfter, IsOnWayFor, IsPoppedFor, IsSteppedAt, IsWholeFor, LeadsAlong, LeadsOver, NamesRefusalAt, StopsFor};
 ghost use Rattle.tt_find.specs.Representation.Solvers.{HasRisen, IsStored, IsWalk, KeepsEverywhere, MakesAtMost, StopsApart, TellsSource, refused_in};
 
@@ -13,8 +14,7 @@ use crate::solver::{Solver, refused_at};
 use crate::stop::Stop;
 use crate::successor::resolve_successor;
 use crate::walk::Walk;
-use std::alloc::AllocError;
-use tt_abs::{Failed, Moves, Point, Refusal, Setting, StepFault, Stepped, step_at};
+use tt_abs::{Exhausted, Failed, Moves, Point, Refusal, Setting, StepFault, Stepped, step_at};
 use tt_code::Reason;
 use tt_family::{Budget, Builder, ContextFault, added_after};
 
@@ -22,7 +22,7 @@ use tt_family::{Budget, Builder, ContextFault, added_after};
 /// leads there. None at the main program's end.
 ///
 /// # Errors
-/// `Refused`, if the state is refused there; `OutOfMemory`.
+/// `Refused`, if the state is refused there; `Exhausted`.
 fn step_state(
     builder: &Builder,
     walk: &mut Walk,
@@ -35,6 +35,7 @@ fn step_state(
     ensures walk { IfOk result (λ _. IsWalk builder.now walk.new) }
     ensures context { IfOk result (λ _. walk.new.context ≡ walk.old.context) }
     ensures refused { IfErr result (NamesRefusalAt setting.now builder.now walk.old offset) }
+    ensures within { IfErr result IsOfNoBudget }
 {
     let point = Point {
         frames: walk.frames.as_slice(),
@@ -47,7 +48,7 @@ fn step_state(
     match step_at(setting, &point, &mut walk.state) {
         Ok(step) => Ok(Some(step)),
         Err(StepFault::Refused(failed)) => Err(refused_at(builder, walk.context, offset, failed)),
-        Err(StepFault::OutOfMemory(error)) => Err(Refusal::OutOfMemory(error)),
+        Err(StepFault::OutOfMemory(error)) => Err(Refusal::from(error)),
     }
 }
 
@@ -65,7 +66,7 @@ fn origin_of(here: u32, context: u32, after: Option<u32>, next: u32) -> Origin
 /// Puts the walk's state at a point. From then on states are kept there.
 ///
 /// # Errors
-/// `Fault` with `Refused` for a state of another depth, at the point, or with `OutOfMemory`;
+/// `Fault` with `Refused` for a state of another depth, at the point, or with `Exhausted`;
 /// `Restart` where states went over that offset.
 pub(crate) fn store(
     solver: &mut Solver,
@@ -81,6 +82,7 @@ pub(crate) fn store(
     ensures stored { IfOk result (λ _.
         IsStored solver.old solver.new context offset walk.old.state source) }
     ensures stops { IfErr result (StopsApart solver.old context offset walk.old.state) }
+    ensures within { IfErr result IsStopOfNoBudget }
     ensures state { IfOk result (λ _. walk.new.state ≡ walk.old.state) }
     ensures context { IfOk result (λ _. walk.new.context ≡ walk.old.context) }
     ensures walk { IfOk result (λ _. IsWalk solver.new.builder walk.new) }
@@ -94,7 +96,7 @@ pub(crate) fn store(
         Err(fault) => return Err(Stop::Fault(fault)),
     };
     if let Err(error) = solver.note(context, offset, source, joined) {
-        return Err(Stop::Fault(Refusal::OutOfMemory(error)));
+        return Err(Stop::from(error));
     }
     Ok(())
 }
@@ -113,7 +115,7 @@ fn goes_over(solver: &Solver, walk: &Walk, source: Origin, next: u32) -> bool
 /// offset where the state passes it without being kept; otherwise the state is stored there.
 ///
 /// # Errors
-/// As `store`; `Fault` with `OutOfMemory` too where a pass can't be counted any more.
+/// As `store`; `Fault` with `Exhausted` too where a pass can't be counted any more.
 fn step_over(
     solver: &mut Solver,
     walk: &mut Walk,
@@ -131,12 +133,13 @@ fn step_over(
     ensures walk { IfOk result (λ _. IsWalk solver.new.builder walk.new) }
     ensures few { IfOk result (λ _. MakesAtMost 1 solver.old solver.new) }
     ensures stops { IfErr result (StopsFor setting.now solver.old.marks.everywhere) }
+    ensures within { IfErr result IsStopOfNoBudget }
     ensures everywhere { IfOk result (λ _. KeepsEverywhere solver.old solver.new) }
 {
     let context = walk.context;
     if solver.may_pass(context, walk.spot, next) {
         if let Err(error) = solver.pass(walk.spot, next) {
-            return Err(Stop::Fault(Refusal::OutOfMemory(error)));
+            return Err(Stop::from(error));
         }
         return Ok(Some(next));
     }
@@ -151,14 +154,15 @@ fn not_entered(builder: &Builder, context: u32, offset: u32, fault: ContextFault
     requires { context < length builder.now.contexts }
     ensures full { fault ≡ ContextFault.TooManyContexts
         → result ≡ refused_in builder.now context offset (Failed.Only Reason.TooManyContexts) }
-    ensures memory { fault ≡ ContextFault.OutOfMemory → IsOutOfMemory result }
+    ensures memory { fault ≡ ContextFault.OutOfMemory → IsExhausted result }
+    ensures within { IsOfNoBudget result }
 {
     match fault {
         ContextFault::TooManyContexts => {
             let failed = Failed::Only(Reason::TooManyContexts);
             refused_at(builder, context, offset, failed)
         }
-        ContextFault::OutOfMemory => Refusal::OutOfMemory(AllocError),
+        ContextFault::OutOfMemory => Refusal::Exhausted(Exhausted::Memory),
     }
 }
 
@@ -186,6 +190,7 @@ fn store_successors(
     ensures walk { IfOk result (λ _. IsWalk solver.new.builder walk.new) }
     ensures few { IfOk result (λ _. MakesAtMost 2 solver.old solver.new) }
     ensures stops { IfErr result (StopsFor setting.now solver.old.marks.everywhere) }
+    ensures within { IfErr result IsStopOfNoBudget }
     ensures everywhere { IfOk result (λ _. KeepsEverywhere solver.old solver.new) }
 {
     let here = walk.context;
@@ -217,7 +222,7 @@ fn store_successors(
 ///
 /// # Errors
 /// `Fault` with `Refused`, if the state is refused there, or enters one context too many; or for
-/// two states of different depths, where they meet; or with `OutOfMemory`, also where the budget is
+/// two states of different depths, where they meet; or with `Exhausted`, also where the budget is
 /// exceeded. `Restart` where a state is to be kept at an offset over which states went.
 fn step_point(
     solver: &mut Solver,
@@ -238,6 +243,7 @@ fn step_point(
     ensures everywhere { IfOk result (λ _. KeepsEverywhere solver.old solver.new) }
     ensures counted { OnOk result (Counts budget.old budget.new) }
     ensures spends { Spends budget.old budget.new }
+    ensures budget { StopTellsBudget budget.old budget.new result }
 {
     budget.spend()?;
     let step = match step_state(&solver.builder, walk, setting, offset) {
@@ -276,6 +282,7 @@ pub(crate) fn carry_on(
     ensures stops { IfErr result (StopsFor setting.now solver.old.marks.everywhere) }
     ensures everywhere { IfOk result (λ _. KeepsEverywhere solver.old solver.new) }
     ensures spends { Spends budget.old budget.new }
+    ensures budget { StopTellsBudget budget.old budget.new result }
 {
     walk.go_to(&solver.builder, context)?;
     if !walk.take(&solver.builder, context, offset)? {

@@ -6,8 +6,9 @@ ghost use Rattle.std.specs.Option.{option_copied};
 ghost use Rattle.tt_abs.specs.Entries.{Ascends};
 ghost use Rattle.tt_abs.specs.Settings.{setting_of};
 ghost use Rattle.tt_abs.specs.StateFlow.{FunctionsFit};
-ghost use Rattle.tt_family.specs.Budgets.{Spends};
+ghost use Rattle.tt_family.specs.Budgets.{Spends, TellsBudget};
 ghost use Rattle.tt_find.specs.FoundSubjects.{AreCounted, HasLeastContexts, HasOnlyNeeded, IsJustifiedFor, IsLeastFor, TellsNoEnd, TellsNoneIsGood};
+ghost use Rattle.tt_find.specs.Representation.BudgetStops.{StopTellsBudget};
 ghost use Rattle.tt_find.specs.Representation.Solvers.{updates_of};
 ghost use Rattle.tt_find.specs.Representation.SolverSubjects.{HasLawsFor, IsFoundFor, IsWholeFor, StopsFor};
 ghost use Rattle.tt_find.specs.Finders.{HasFound, IsEmptySolver};
@@ -20,7 +21,7 @@ use crate::walk::Walk;
 use std::alloc::{AllocError, Global};
 use std::mem;
 use tt_abs::laws::flow_laws;
-use tt_abs::{Failed, Refusal, Setting, Spot};
+use tt_abs::{Exhausted, Failed, Refusal, Setting, Spot};
 use tt_code::Reason;
 use tt_family::{Budget, Builder, Certificate, ends_well, is_short};
 
@@ -105,6 +106,7 @@ fn run_to_fixpoint(
         AreCounted budget.old budget.new (updates_of solver.new)) }
     ensures stops { IfErr result (StopsFor setting.now solver.old.marks.everywhere) }
     ensures spends { Spends budget.old budget.new }
+    ensures budget { StopTellsBudget budget.old budget.new result }
 {
     let mut walk = Walk::start(alloc, setting.start)?;
     solver.builder.family_facts();
@@ -122,7 +124,7 @@ fn run_to_fixpoint(
 /// Fills a solver anew, with states kept everywhere.
 ///
 /// # Errors
-/// As `Finder::find_within`, but not for a program that is too long or never ends.
+/// As `Finder::find`, but not for a program that is too long or never ends.
 fn fill_everywhere(
     alloc: Global,
     solver: &mut Solver,
@@ -137,6 +139,7 @@ fn fill_everywhere(
         AreCounted budget.old budget.new (updates_of solver.new)) }
     ensures justified { IfErr result (IsJustifiedFor setting.now) }
     ensures spends { Spends budget.old budget.new }
+    ensures budget { TellsBudget budget.old budget.new result }
 {
     solver.clear();
     solver.marks.everywhere = true;
@@ -151,7 +154,7 @@ fn fill_everywhere(
 /// ways meet elsewhere; after `STARTS` such starts, with states kept everywhere.
 ///
 /// # Errors
-/// As `Finder::find_within`, but not for a program that is too long or never ends.
+/// As `Finder::find`, but not for a program that is too long or never ends.
 fn restart_to_fixpoint(
     alloc: Global,
     solver: &mut Solver,
@@ -166,6 +169,7 @@ fn restart_to_fixpoint(
         AreCounted budget.old budget.new (updates_of solver.new)) }
     ensures justified { IfErr result (IsJustifiedFor setting.now) }
     ensures spends { Spends budget.old budget.new }
+    ensures budget { TellsBudget budget.old budget.new result }
 {
     solver.marks.begin(setting)?;
     for _ in 0..STARTS {
@@ -182,7 +186,7 @@ fn restart_to_fixpoint(
 /// Fills a solver anew, with states kept everywhere or where ways meet.
 ///
 /// # Errors
-/// As `Finder::find_within`, but not for a program that is too long or never ends.
+/// As `Finder::find`, but not for a program that is too long or never ends.
 fn fill(
     alloc: Global,
     solver: &mut Solver,
@@ -198,6 +202,7 @@ fn fill(
         AreCounted budget.old budget.new (updates_of solver.new)) }
     ensures justified { IfErr result (IsJustifiedFor setting.now) }
     ensures spends { Spends budget.old budget.new }
+    ensures budget { TellsBudget budget.old budget.new result }
 {
     match kept {
         KeptStates::WhereWaysMeet => restart_to_fixpoint(alloc, solver, setting, budget),
@@ -219,7 +224,7 @@ fn refused_in_main(offset: u32, reason: Reason) -> Refusal
 /// Fills a solver with the least good family, and returns how many updates that took.
 ///
 /// # Errors
-/// As `Finder::find_within`.
+/// As `Finder::find`.
 fn find_fixpoint(
     alloc: Global,
     solver: &mut Solver,
@@ -234,6 +239,7 @@ fn find_fixpoint(
     ensures counted { IfOk result (AreCounted budget.old budget.new) }
     ensures justified { IfErr result (IsJustifiedFor setting.now) }
     ensures spends { Spends budget.old budget.new }
+    ensures budget { TellsBudget budget.old budget.new result }
 {
     law_facts(setting);
     if !is_short(setting) {
@@ -248,7 +254,7 @@ fn find_fixpoint(
     }
     match solver.changes.checked_add(solver.passes) {
         Some(updates) => Ok(updates),
-        None => Err(Refusal::OutOfMemory(AllocError)),
+        None => Err(Refusal::Exhausted(Exhausted::Memory)),
     }
 }
 
@@ -335,31 +341,12 @@ impl Finder {
     }
 
     /// Finds the least family as `find` does, with the states that the search has kept besides
-    /// those that a filling needs. The finder keeps it in place of the one before. Returns how many
-    /// updates made its filling.
+    /// those that a filling needs, and makes at most as many points as the budget allows. The finder
+    /// keeps it in place of the one before. Returns how many updates made its filling.
     ///
     /// # Errors
     /// As `find`; then the finder keeps no family.
-    pub fn find(&mut self, alloc: Global, setting: &Setting<'_>) -> Result<u64, Refusal>
-        requires ascends { Ascends setting.now.start.now }
-        requires fits { FunctionsFit (setting_of setting.now) setting.now.start.now }
-        ensures kept { IfOk result (HasFound self.new) }
-        ensures filling { OnOk result (IfSome self.new.found (IsLeastFor setting.now)) }
-        ensures contexts { OnOk result (IfSome self.new.found (HasLeastContexts setting.now)) }
-        ensures none { OnErr result (self.new.found ≡ None) }
-        ensures justified { IfErr result (IsJustifiedFor setting.now) }
-        ensures none_good { IfErr result (TellsNoneIsGood setting.now) }
-        ensures never_ends { TellsNoEnd setting.now result }
-    {
-        self.find_within(alloc, setting, &mut Budget::unlimited())
-    }
-
-    /// Finds the least family as `Finder::find` does, and makes at most as many points as the
-    /// budget allows.
-    ///
-    /// # Errors
-    /// As `Finder::find`; `OutOfMemory` too where the budget is exceeded.
-    pub fn find_within(
+    pub fn find(
         &mut self,
         alloc: Global,
         setting: &Setting<'_>,
@@ -376,6 +363,7 @@ impl Finder {
         ensures none_good { IfErr result (TellsNoneIsGood setting.now) }
         ensures never_ends { TellsNoEnd setting.now result }
         ensures spends { Spends budget.old budget.new }
+        ensures budget { TellsBudget budget.old budget.new result }
     {
         self.reuse_memory();
         let kept = KeptStates::WhereWaysMeet;
@@ -394,36 +382,15 @@ impl Finder {
                 });
                 Ok(updates)
             }
-            Err(_) => Err(Refusal::OutOfMemory(AllocError)),
+            Err(_) => Err(Refusal::Exhausted(Exhausted::Memory)),
         }
     }
 
-    /// Finds the least family as `find` does, without the states that a filling adds. The finder
-    /// keeps it in place of the one before. Returns how many updates made its filling.
+    /// Finds the least family as `Finder::find` does, without the states that a filling adds.
     ///
     /// # Errors
-    /// As `find`; then the finder keeps no family.
-    pub fn find_needed(&mut self, alloc: Global, setting: &Setting<'_>) -> Result<u64, Refusal>
-        requires ascends { Ascends setting.now.start.now }
-        requires fits { FunctionsFit (setting_of setting.now) setting.now.start.now }
-        ensures kept { IfOk result (HasFound self.new) }
-        ensures filling { OnOk result (IfSome self.new.found (IsLeastFor setting.now)) }
-        ensures contexts { OnOk result (IfSome self.new.found (HasLeastContexts setting.now)) }
-        ensures needed { OnOk result (IfSome self.new.found (HasOnlyNeeded setting.now)) }
-        ensures none { OnErr result (self.new.found ≡ None) }
-        ensures justified { IfErr result (IsJustifiedFor setting.now) }
-        ensures none_good { IfErr result (TellsNoneIsGood setting.now) }
-        ensures never_ends { TellsNoEnd setting.now result }
-    {
-        self.find_needed_within(alloc, setting, &mut Budget::unlimited())
-    }
-
-    /// Finds the least family as `Finder::find_needed` does, and makes at most as many points as
-    /// the budget allows.
-    ///
-    /// # Errors
-    /// As `Finder::find_needed`; `OutOfMemory` too where the budget is exceeded.
-    pub fn find_needed_within(
+    /// As `Finder::find`.
+    pub fn find_needed(
         &mut self,
         alloc: Global,
         setting: &Setting<'_>,
@@ -441,6 +408,7 @@ impl Finder {
         ensures none_good { IfErr result (TellsNoneIsGood setting.now) }
         ensures never_ends { TellsNoEnd setting.now result }
         ensures spends { Spends budget.old budget.new }
+        ensures budget { TellsBudget budget.old budget.new result }
     {
         self.reuse_memory();
         let kept = KeptStates::WhereWaysMeet;
@@ -459,7 +427,7 @@ impl Finder {
                 });
                 Ok(updates)
             }
-            Err(_) => Err(Refusal::OutOfMemory(AllocError)),
+            Err(_) => Err(Refusal::Exhausted(Exhausted::Memory)),
         }
     }
 }
@@ -473,7 +441,7 @@ impl Finder {
 /// `Refused`, for a glyph program longer than maxSizeOfInstructions, at that offset; for a state
 /// that an instruction refuses, with its reason, at that instruction; for two states of different
 /// depths, where they meet; for more than 65,535 contexts, at the instruction that enters one more;
-/// for a font program or a CVT program that never comes to its end, at its start. `OutOfMemory`.
+/// for a font program or a CVT program that never comes to its end, at its start. `Exhausted`.
 pub fn find(alloc: Global, setting: &Setting<'_>) -> Result<Found, Refusal>
     requires ascends { Ascends setting.now.start.now }
     requires fits { FunctionsFit (setting_of setting.now) setting.now.start.now }
@@ -485,7 +453,7 @@ pub fn find(alloc: Global, setting: &Setting<'_>) -> Result<Found, Refusal>
     ensures never_ends { TellsNoEnd setting.now result }
 {
     let mut finder = Finder::new(alloc);
-    match finder.find_needed(alloc, setting) {
+    match finder.find_needed(alloc, setting, &mut Budget::unlimited()) {
         Ok(_) => Ok(finder.into_found().unwrap()),
         Err(fault) => Err(fault),
     }
@@ -524,7 +492,7 @@ pub fn explore(alloc: Global, setting: &Setting<'_>) -> Result<Explored, AllocEr
             },
             fault: None,
         }),
-        Err(Refusal::OutOfMemory(error)) => Err(error),
+        Err(Refusal::Exhausted(_)) => Err(AllocError),
         Err(fault) => Ok(Explored {
             found: Found {
                 certificate,

@@ -14,7 +14,7 @@ use crate::origin::Origin;
 use crate::worklist::Worklist;
 use std::alloc::{AllocError, Global};
 use std::collections::BTreeSet;
-use tt_abs::{Failed, Refusal, Spot, State};
+use tt_abs::{Exhausted, Failed, Refusal, Spot, State};
 use tt_family::{Builder, JoinFault, Joined, PointKey};
 
 /// The family so far. Its states are kept at the points where ways meet; those in between are made
@@ -96,7 +96,7 @@ impl Solver {
     /// has changed, the point waits, and one change is counted.
     ///
     /// # Errors
-    /// `Refused`, which names the point, if a state of another depth is there; `OutOfMemory`.
+    /// `Refused`, which names the point, if a state of another depth is there; `Exhausted`.
     pub(crate) fn put(
         &mut self,
         context: u32,
@@ -112,6 +112,7 @@ impl Solver {
             → state_at self.new.builder context offset ≡ Some state.now) }
         ensures tells { IfOk result (TellsNewAt self.old.builder context offset) }
         ensures apart { IfErr result (NamesApart self.old.builder context offset state.now) }
+        ensures within { IfErr result IsOfNoBudget }
     {
         let joined = match self.builder.put_state(context, offset, state) {
             Ok(joined) => joined,
@@ -124,13 +125,13 @@ impl Solver {
                     Failed::OtherDepth { depth },
                 ));
             }
-            Err(JoinFault::OutOfMemory) => return Err(Refusal::OutOfMemory(AllocError)),
+            Err(JoinFault::OutOfMemory) => return Err(Refusal::Exhausted(Exhausted::Memory)),
         };
         if !joined.is_change() {
             return Ok(joined);
         }
         if let Err(_) = self.worklist.insert((context, offset)) {
-            return Err(Refusal::OutOfMemory(AllocError));
+            return Err(Refusal::Exhausted(Exhausted::Memory));
         }
         self.changes += 1;
         Ok(joined)

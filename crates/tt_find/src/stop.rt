@@ -1,7 +1,7 @@
 //! Why the finder stops.
 
 use std::alloc::AllocError;
-use tt_abs::Refusal;
+use tt_abs::{Exhausted, Refusal};
 
 /// Why the finder stops before it is done.
 #[derive(Drop)]
@@ -24,14 +24,27 @@ impl From<Refusal> for Stop {
     }
 }
 
-impl From<AllocError> for Stop {
+impl From<Exhausted> for Stop {
     ghost use Rattle.std.specs.Prelude.{◌≡◌};
     ghost use Rattle.tt_abs.specs.declared.refusal.Refusal.{Refusal};
     ghost use Rattle.tt_find.specs.declared.stop.Stop.{Stop};
 
-    ghost from_gives = { λ error stop. stop ≡ Stop.Fault (Refusal.OutOfMemory error) };
+    ghost from_gives = { λ by stop. stop ≡ Stop.Fault (Refusal.Exhausted by) };
 
-    fn from(error: AllocError) -> Stop {
-        Stop::Fault(Refusal::OutOfMemory(error))
+    fn from(exhausted: Exhausted) -> Stop {
+        Stop::Fault(Refusal::Exhausted(exhausted))
+    }
+}
+
+impl From<AllocError> for Stop {
+    ghost use Rattle.std.specs.Prelude.{◌≡◌};
+    ghost use Rattle.tt_abs.specs.declared.exhausted.Exhausted.{Exhausted as By};
+    ghost use Rattle.tt_abs.specs.declared.refusal.Refusal.{Refusal};
+    ghost use Rattle.tt_find.specs.declared.stop.Stop.{Stop};
+
+    ghost from_gives = { λ error stop. stop ≡ Stop.Fault (Refusal.Exhausted By.Memory) };
+
+    fn from(_error: AllocError) -> Stop {
+        Stop::Fault(Refusal::Exhausted(Exhausted::Memory))
     }
 }

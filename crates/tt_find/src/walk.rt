@@ -140,6 +140,7 @@ impl Walk {
         ensures rest { IfOk result (λ _. KeepsRest solver.old solver.new) }
         ensures tells { IfOk result (TellsNewAt solver.old.builder context offset) }
         ensures apart { IfErr result (NamesApart solver.old.builder context offset self.old.state) }
+        ensures within { IfErr result IsOfNoBudget }
         ensures state { self.new.state ≡ self.old.state }
         ensures context { self.new.context ≡ self.old.context }
         ensures walk { IfOk result (λ _. IsWalk solver.new.builder self.new) }

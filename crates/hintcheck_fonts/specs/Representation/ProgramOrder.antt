@@ -1,7 +1,7 @@
 -- The programs of a font in their order, and what comes of each where a judge decides on it.
 -- (Representation: no public clause cites it.)
 use Rattle.std.specs.Prelude.{◌≡◌, ℕ, ◌+◌, ◌<◌, ◌^◌, List, [], Option, Some, None, Result, Ok, Err, option_map, length, slice_get}
-use Rattle.std.specs.declared.alloc.AllocError.{AllocError}
+use Rattle.tt_abs.specs.declared.exhausted.Exhausted.{Exhausted}
 use Rattle.tt_code.specs.Cut.{CannotBeCut, Instruction, IsCut}
 use Rattle.tt_code.specs.Grammar.{IsFault}
 use Rattle.tt_code.specs.declared.reason.Reason.TheVariants as reason
@@ -118,12 +118,12 @@ pub data IsUncut (called : Name) (bytes : List ℕ) : Refused → Type 0 where
   no_structure : (is : List Instruction) (offset : ℕ) → IsCut bytes is → IsFault is offset
       → IsUncut called bytes (reported_at called spot.Main offset reason.Structure)
 
--- the answer is the outcome of a program of this name that the fault refuses; or that memory ran
--- out, where it did
-abbrev pub TellsOutcome : Name → Refusal → Result Outcome AllocError → Type 0
+-- the answer is the outcome of a program of this name that the fault refuses; or what ended the work
+-- without one
+abbrev pub TellsOutcome : Name → Refusal → Result Outcome Exhausted → Type 0
 TellsOutcome called (fault.Refused spot offset failed) answer =
     answer ≡ Ok (refused_as called (reported_at called spot offset (reason_of failed)))
-TellsOutcome called (fault.OutOfMemory e) answer = answer ≡ Err e
+TellsOutcome called (fault.Exhausted by) answer = answer ≡ Err by
 
 -- an accepted program: what is known at its end, where a next one starts with that
 abbrev pub IsAcceptedTo : {K : Type 0} → (List Instruction → Type 0)

@@ -4,6 +4,7 @@ use Rattle.tt_code.specs.Cut.{Instruction}
 use Rattle.tt_code.specs.Fonts.{Font, cvt_setting, font_setting}
 use Rattle.tt_code.specs.Settings.{Setting}
 use Rattle.tt_code.specs.declared.reason.Reason.TheVariants as reason
+use Rattle.tt_abs.specs.declared.exhausted.Exhausted.TheVariants.{Memory}
 use Rattle.tt_abs.specs.declared.failed.Failed.TheVariants.{Only}
 use Rattle.tt_abs.specs.declared.refusal.Refusal.{Refusal}
 use Rattle.tt_abs.specs.declared.refusal.Refusal.TheVariants as fault
@@ -56,7 +57,7 @@ abbrev pub refusal_as : CheckRefusal → Refusal
 refusal_as (told.Refused spot offset r) = fault.Refused spot offset (Only r)
 refusal_as (told.KeptEntry spot offset) = fault.Refused spot offset (Only reason.KeptEntry)
 refusal_as told.BudgetMet = fault.Refused spot.Main 0 (Only reason.TooManySteps)
-refusal_as (told.OutOfMemory e) = fault.OutOfMemory e
+refusal_as (told.OutOfMemory e) = fault.Exhausted Memory
 
 -- what comes of the next program, and which one is next then
 abbrev pub AnswersBySymbols : FontData → SymbolicCheck → Stage → Option Outcome → Stage → Type 0

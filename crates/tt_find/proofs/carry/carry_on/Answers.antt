@@ -18,5 +18,6 @@ loop-next-init c =
       risen = record { worklist = omega arith; changes = omega arith };
       few = omega arith;
       spends = (refl, omega arith);
+      alike = refl;
       everywhere = refl;
     }

@@ -1,6 +1,6 @@
 use Rattle.std.proofs.Common.{◌≡◌, ◌+◌, ◌-◌, ◌*◌, ◌≤◌}
 use Rattle.tt_abs.specs.Settings.{setting_of}
-use Rattle.tt_family.specs.Budgets.{Spends}
+use Rattle.tt_family.specs.Budgets.{AreAlike, Spends}
 use Rattle.tt_find.specs.Representation.Solvers.{HasRisen, IsOnWay, IsWalk, here_of, updates_of}
 use Rattle.tt_find.proofs.carry.carry_on.Given as goal
 
@@ -11,6 +11,7 @@ invariant-loop-next l = record {
   risen : HasRisen l.initial.solver l.solver;
   few : updates_of l.solver ≤ updates_of l.initial.solver + 2 * (l.initial.budget.left - l.budget.left);
   spends : Spends l.initial.budget l.budget;
+  alike : AreAlike l.initial.budget l.budget;
   everywhere : l.solver.marks.everywhere ≡ l.initial.solver.marks.everywhere;
 }
 

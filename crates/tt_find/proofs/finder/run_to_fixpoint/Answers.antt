@@ -19,6 +19,7 @@ loop-context-init c = record {
       let passes = c.requires.empty.passes in
       omega arith;
   spends = (refl, omega arith);
+  alike = refl;
   everywhere = refl;
 }
 

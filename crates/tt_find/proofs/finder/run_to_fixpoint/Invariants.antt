@@ -1,7 +1,7 @@
 use Rattle.std.proofs.Common.{◌≡◌, ◌+◌, ◌*◌, ◌-◌, ◌≤◌, length}
 use Rattle.tt_abs.specs.Settings.{setting_of}
 use Rattle.tt_abs.specs.StateFlow.{height_of}
-use Rattle.tt_family.specs.Budgets.{Spends}
+use Rattle.tt_family.specs.Budgets.{AreAlike, Spends}
 use Rattle.tt_find.specs.Representation.Solvers.{IsWalk, IsWhole, updates_of}
 use Rattle.tt_find.proofs.finder.run_to_fixpoint.Given as goal
 
@@ -11,6 +11,7 @@ invariant-loop-context l = record {
   walk : IsWalk l.solver.builder l.walk;
   few : updates_of l.solver ≤ 1 + 2 * (l.initial.budget.left - l.budget.left);
   spends : Spends l.initial.budget l.budget;
+  alike : AreAlike l.initial.budget l.budget;
   everywhere : l.solver.marks.everywhere ≡ l.initial.solver.marks.everywhere;
 }
 

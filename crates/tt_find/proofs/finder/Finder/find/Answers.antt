@@ -3,7 +3,7 @@ use Rattle.tt_abs.specs.Settings.{setting_of}
 use Rattle.tt_family.specs.Contents.{Contents, family_of}
 use Rattle.tt_family.specs.Ascending.{SameContents}
 use Rattle.tt_find.proofs.Finished.{contexts_left, found_left, keeps_same, lists_same, never_both_left, never_ends_from, none_good_from}
-use Rattle.tt_find.proofs.finder.Finder.find_within.Goals as goal
+use Rattle.tt_find.proofs.finder.Finder.find.Goals as goal
 
 pub returns-in-Err-clause-none_good : goal.returns-in-Err-clause-none_good
 returns-in-Err-clause-none_good c =
