@@ -68,7 +68,7 @@ pub(crate) fn explain_uncut<O: Sink>(
             explain_unread(asked, bytes, offset, failed.reason(), out)?;
             Ok(())
         }
-        Refusal::OutOfMemory(AllocError) => Err(CommandFault::OutOfMemory),
+        Refusal::Exhausted(_) => Err(CommandFault::OutOfMemory),
     }
 }
 

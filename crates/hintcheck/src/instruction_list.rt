@@ -200,7 +200,7 @@ fn list_named<O: Sink>(alloc: Global, named: Named<'_>, out: &mut O) -> Result<u
             writeln!(out, "{refused}")?;
             Ok(UNLISTED)
         }
-        Err(Refusal::OutOfMemory(AllocError)) => Err(CommandFault::OutOfMemory),
+        Err(Refusal::Exhausted(_)) => Err(CommandFault::OutOfMemory),
     }
 }
 

@@ -88,7 +88,7 @@ fn cut_before<'a>(alloc: Global, bytes: &'a [u8]) -> Result<Program<'a>, Command
             Ok(program) => Ok(program),
             Err(AllocError) => Err(CommandFault::OutOfMemory),
         },
-        Err(Refusal::OutOfMemory(AllocError)) => Err(CommandFault::OutOfMemory),
+        Err(Refusal::Exhausted(_)) => Err(CommandFault::OutOfMemory),
     }
 }
 

@@ -14,7 +14,7 @@ use crate::needs::tell_needs;
 use crate::reached::tell_contexts;
 use crate::refusal::tell_refusal;
 use hintcheck_report::{Place, Refused};
-use std::alloc::Global;
+use std::alloc::{AllocError, Global};
 use tt_abs::{Failed, Refusal, Setting, Spot};
 use tt_find::explore;
 use tt_stream::Sink;
@@ -116,6 +116,6 @@ pub fn explain<O: Sink>(
             tell_needs(alloc, setting, asked, failed.reason(), out)?;
             Ok(Explained::Refused)
         }
-        Some(Refusal::OutOfMemory(error)) => Err(ExplainFault::OutOfMemory(error)),
+        Some(Refusal::Exhausted(_)) => Err(ExplainFault::OutOfMemory(AllocError)),
     }
 }

@@ -158,6 +158,6 @@ pub(crate) fn tell_needs<O: Sink>(
             )?;
             Ok(())
         }
-        Some(Refusal::OutOfMemory(error)) => Err(ExplainFault::OutOfMemory(error)),
+        Some(Refusal::Exhausted(_)) => Err(ExplainFault::OutOfMemory(AllocError)),
     }
 }

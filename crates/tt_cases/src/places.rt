@@ -56,7 +56,7 @@ pub(crate) fn refusal_text(alloc: Global, refusal: &Refusal) -> Result<String, A
             offset,
             failed,
         } => (*spot, *offset, failed.reason()),
-        Refusal::OutOfMemory(_) => return String::from_str(alloc, "9"),
+        Refusal::Exhausted(_) => return String::from_str(alloc, "9"),
     };
     let program = match spot {
         Spot::Main => "",

@@ -11,7 +11,7 @@ ghost use Rattle.hintcheck_fonts.specs.FontAnswers.{HoldSafeFont};
 use super::faults::CommandFault;
 use super::files::{file_bytes, of_certificate, opened};
 use crate::font_file::font_in;
-use hintcheck_fonts::font_check::{check_read_font, check_read_font_within};
+use hintcheck_fonts::font_check::check_read_font;
 use hintcheck_fonts::report::Verdict;
 use std::alloc::Global;
 use std::io::Read;
@@ -42,11 +42,13 @@ fn verdict_by_file<F: Read + Drop>(
     let Ok(mut source) = Buffered::new(alloc, Counted::new(file)) else {
         return Err(CommandFault::OutOfMemory);
     };
-    let verdict = match budget {
-        Some(most) => check_read_font_within(alloc, font, &mut source, &mut Budget::of(most)),
-        None => check_read_font(alloc, font, &mut source, &mut Budget::unlimited()),
+    let Some(most) = budget else {
+        return match check_read_font(alloc, font, &mut source, &mut Budget::unlimited()) {
+            Ok(verdict) => Ok(verdict),
+            Err(fault) => Err(CommandFault::from(fault.without_budget())),
+        };
     };
-    Ok(verdict?)
+    Ok(check_read_font(alloc, font, &mut source, &mut Budget::of(most))?)
 }
 
 /// Returns the verdict on the font file with the first name by the certificate in the file with the

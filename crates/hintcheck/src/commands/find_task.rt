@@ -13,7 +13,7 @@ ghost use Rattle.hintcheck_fonts.specs.FontAnswers.{HoldRefusedFont, HoldSafeFon
 use super::faults::CommandFault;
 use super::files::{ROOM, file_bytes, file_numbers, is_same_file, write_rest};
 use crate::font_file::font_in;
-use hintcheck_fonts::certificate::{FindFontFault, find_programs, find_programs_within};
+use hintcheck_fonts::certificate::{FindFontFault, find_programs};
 use hintcheck_fonts::report::Verdict;
 use std::alloc::Global;
 use std::fs;
@@ -40,8 +40,11 @@ fn find_within_points<W: Sink>(
     ensures within { IfErr result (λ fault. fault ≡ FindFontFault.Budget → budget ≢ None) }
 {
     match budget {
-        Some(most) => find_programs_within(alloc, font, sink, &mut Budget::of(most)),
-        None => find_programs(alloc, font, sink, &mut Budget::unlimited()),
+        Some(most) => find_programs(alloc, font, sink, &mut Budget::of(most)),
+        None => match find_programs(alloc, font, sink, &mut Budget::unlimited()) {
+            Ok(verdict) => Ok(verdict),
+            Err(fault) => Err(fault.without_budget()),
+        },
     }
 }
 
