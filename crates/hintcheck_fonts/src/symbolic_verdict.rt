@@ -132,8 +132,10 @@ pub fn refused_programs(
     match refused_before_glyphs(alloc, &mut programs, judge)? {
         Some(one) => {
             let mut refused = Vec::new(alloc);
-            refused.push(one)?;
-            Ok(refused)
+            match refused.push(one) {
+                Ok(()) => Ok(refused),
+                Err(_) => Err(Exhausted::Memory),
+            }
         }
         None => refused_glyphs(alloc, &mut programs, judge),
     }

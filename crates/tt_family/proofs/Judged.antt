@@ -170,9 +170,9 @@ module _ (x : Subject) (v : Contents) (family : IsFamily v) where
   listing_safe range short ascends Sparse = safe_filling (setting_of x) x.start.now v family range short ascends
 
   pub listing_broken : (listing : Listing) (fault : Refusal) → NamesFirstFor x listing v fault → NamesListingBrokenFirst x listing v fault
-  listing_broken Whole = broken_whole (setting_of x) x.start.now v family
+  listing_broken Whole fault broken = broken_whole (setting_of x) x.start.now v family fault broken
   listing_broken Sparse fault broken = broken
 
   pub listing_exhausted : (listing : Listing) → IsGoodListingFor x listing v → (fault : Refusal) → NamesFirstFor x listing v fault → IsExhausted fault
   listing_exhausted Whole good fault broken = whole_exhausted (setting_of x) x.start.now v family good fault (listing_broken Whole fault broken)
-  listing_exhausted Sparse good = filling_exhausted (setting_of x) x.start.now v family good
+  listing_exhausted Sparse good fault broken = filling_exhausted (setting_of x) x.start.now v family good fault broken

@@ -24,3 +24,4 @@ tells_on a b c alike (Exhausted by) tells = end_tells_on a b c alike by tells
 pub tells_within : (a b : Budget) → AreAlike a b → (fault : Refusal) → IsOfNoBudget fault → RefusalTells a b fault
 tells_within a b alike (Refused spot offset failed) within = alike
 tells_within a b alike (Exhausted Memory) within = alike
+tells_within a b alike (Exhausted Points) within = elim within [ ]

@@ -19,6 +19,7 @@ returns-in-Ok c =
     record {
       met = elsewhere_met (family_of v) (IsAfter fs c.args.after q) c.args.walk.now.next p q c.args.walk.now.made c.check_covered.result same c.check_covered.ensures.met;
       gap = elsewhere_gap (family_of v) (IsAfter fs c.args.after q) c.args.walk.now.next p q c.args.walk.now.made c.check_covered.result same none c.check_covered.ensures.gap;
+      within = c.check_covered.ensures.within;
     }
 
 pub returns-in-Err-clause-gap : goal.returns-in-Err-clause-gap
