@@ -1,6 +1,6 @@
 -- What the list of refused programs tells of the only program.
 use Rattle.std.proofs.Common.{◌≡◌, ℕ, List, [], ◌∷◌, Result, Ok, Err, OnOk, IfOk, sym, subst}
-use Rattle.std.specs.declared.alloc.AllocError.{AllocError}
+use Rattle.tt_abs.specs.declared.exhausted.Exhausted.{Exhausted}
 use Rattle.tt_code.specs.Cut.{Instruction}
 use Rattle.tt_code.specs.Settings.{GlyphProgram}
 use Rattle.tt_abs.specs.Failures.{reason_of}
@@ -26,7 +26,7 @@ if_ok (Err e) P Q f h = tt
 -- a program that can't be cut
 pub uncut_refusal : (x : Subject) (f : Refusal) → IfRefused x.name f (IsUncut x.name x.bytes) → IfRefused x.name f (IsRefusedFor x)
 uncut_refusal x (fault.Refused spot offset failed) is = uncut_is_refused x (reported_at x.name spot offset (reason_of failed)) is
-uncut_refusal x (fault.OutOfMemory e) is = tt
+uncut_refusal x (fault.Exhausted e) is = tt
 
 -- the fault refuses the program, a glyph's, which is listed
 pub judged_refused : (x : Subject) (points contours : ℕ) (f : Refusal) (o : Outcome) (old rs : List Refused) → ((is : List Instruction) → (x.setting is).kind ≡ GlyphProgram points contours)
@@ -39,9 +39,9 @@ judged_refused x points contours (fault.Refused spot offset failed) o old rs gly
     let one : rs ≡ q ∷ [] = subst O none (subst L (sym same) listed) in
     let J : List Refused → Type 0 = λ l. IsJudged x l in
     subst J (sym one) (is.refusal, λ good. is.no_good good points contours (glyph good.instructions))
-judged_refused x points contours (fault.OutOfMemory e) o old rs glyph is told none listed = absurd (no o e told)
+judged_refused x points contours (fault.Exhausted e) o old rs glyph is told none listed = absurd (no o e told)
   where
-    no : (a : Outcome) (b : AllocError) → ◌≡◌ {A = Result Outcome AllocError} (Ok a) (Err b) → ⊥
+    no : (a : Outcome) (b : Exhausted) → ◌≡◌ {A = Result Outcome Exhausted} (Ok a) (Err b) → ⊥
     no a b e = absurd cc
 
 pub least_where_none : (x : Subject) (rs : List Refused) → IsJudged x rs → rs ≡ [] → HasLeastFamily x

@@ -11,7 +11,7 @@ use Rattle.tt_code.proofs.ProgramLemmas.{no_fault}
 use Rattle.tt_abs.specs.declared.setting.Setting.{Setting}
 use Rattle.tt_abs.specs.Settings.{setting_of}
 use Rattle.tt_abs.specs.StateFlow.{Place}
-use Rattle.tt_family.specs.Checks.{IsOutOfMemory, Names}
+use Rattle.tt_family.specs.Checks.{IsExhausted, Names}
 use Rattle.tt_family.specs.Contents.{Contents, family_of}
 use Rattle.tt_abs.specs.Spots.{spot_of}
 use Rattle.tt_abs.specs.declared.refusal.Refusal.{Refusal}
@@ -50,8 +50,8 @@ has_fault form x family is offset cut at instructions p = no_fault x.bytes is in
 -- the family isn't good for the program
 pub broken_listing : (form : Form) (x : Subject) (s : Setting) (family : Contents) (f : Refusal) → IsSubjectOf x s
     → Names (IsListingBrokenFirst form (setting_of s) s.start.now family) f
-    → (IsGoodListing form (setting_of s) s.start.now family → IsOutOfMemory f) → IsRefusedBy form x family f
-broken_listing form x s family (fault.OutOfMemory e) subject names exact = tt
+    → (IsGoodListing form (setting_of s) s.start.now family → IsExhausted f) → IsRefusedBy form x family f
+broken_listing form x s family (fault.Exhausted e) subject names exact = tt
 broken_listing form x s family (fault.Refused spot offset failed) subject (at, es, eo, first) exact =
     let r = reason_of failed in
     let is = s.main.now in
@@ -70,7 +70,7 @@ broken_listing form x s family (fault.Refused spot offset failed) subject (at, e
 -- the same of what a check returns
 pub broken_result : {T : Type 0} (form : Form) (x : Subject) (s : Setting) (family : Contents) (r : Result T Refusal) → IsSubjectOf x s
     → IfErr r (Names (IsListingBrokenFirst form (setting_of s) s.start.now family))
-    → (IsGoodListing form (setting_of s) s.start.now family → IfErr r IsOutOfMemory) → IfErr r (IsRefusedBy form x family)
+    → (IsGoodListing form (setting_of s) s.start.now family → IfErr r IsExhausted) → IfErr r (IsRefusedBy form x family)
 broken_result form x s family (Ok y) subject names exact = tt
 broken_result form x s family (Err f) subject names exact = broken_listing form x s family f subject names exact
 

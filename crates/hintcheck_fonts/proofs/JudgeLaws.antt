@@ -58,7 +58,7 @@ starts x s start p = record { cut = record { is_cut = p.cut.is_cut; structured =
 -- the finder's refusal, and that no family of a glyph program is good
 refused_for : (x : Subject) (s : Setting) (f : Refusal) → IsSubjectOf x s → IsFaultOfProgram x f
     → ((points contours : ℕ) → (setting_of s).kind ≡ GlyphProgram points contours → NoneIsGoodFor x f) → IfRefused x.name f (IsRefusedFor x)
-refused_for x s (fault.OutOfMemory e) subject refusal none = tt
+refused_for x s (fault.Exhausted e) subject refusal none = tt
 refused_for x s (fault.Refused spot offset failed) subject refusal none = record {
   refusal = refusal;
   no_good = λ good points contours k.

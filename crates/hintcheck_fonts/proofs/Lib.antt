@@ -11,6 +11,8 @@ pub mod CertificateWriting
 pub mod OneFinding
 pub mod OneFont
 pub mod CheckedTexts
+pub mod BudgetTells
+pub mod UnlimitedFaults
 pub mod UnreadBytes
 pub mod UpgradeChecks
 pub mod TextBeginnings

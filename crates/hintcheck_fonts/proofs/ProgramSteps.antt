@@ -1,7 +1,7 @@
 -- From a font's program to the one after it, whatever decides on them.
 use Rattle.std.proofs.Common.{◌≡◌, ℕ, ◌+◌, ◌-◌, ◌≤◌, ◌<◌, List, [], length, Option, Some, None, Result, Ok, Err, refl, sym, ◌∙◌, ap, subst, arith, inl, inr}
 use Rattle.std.specs.Prelude.{slice_get, option_map}
-use Rattle.std.specs.declared.alloc.AllocError.{AllocError}
+use Rattle.tt_abs.specs.declared.exhausted.Exhausted.{Exhausted}
 use Rattle.std.proofs.lemmas.Bool.{cases_lt}
 use Rattle.std.proofs.lemmas.Option.{slice_get-get_or, slice_get_within}
 use Rattle.tt_code.specs.Cut.{Instruction, IsCut}
@@ -62,7 +62,7 @@ uncut_next d stage x n f Refuses next (y, is_next, told) uncut refuses =
   where
     go : (g : Refusal) → IfRefused x.name g (IsUncut x.name x.bytes) → IfRefused x.name g Refuses
     go (fault.Refused spot offset failed) is = refuses (reported_at x.name spot offset (reason_of failed)) is
-    go (fault.OutOfMemory e) is = tt
+    go (fault.Exhausted e) is = tt
 
 -- a program that has no end to come to is a glyph's
 pub accepted_glyph : {K : Type 0} (d : FontData) (s : StageOf K) (x : Subject) (n : Next) (Accepts : List Instruction → Type 0) (Ends : List Instruction → List K → Type 0) (is : List Instruction)
@@ -132,9 +132,9 @@ module _ {K : Type 0} (d : FontData) (Accepts : Subject → List K → List Inst
       let P : Outcome → Type 0 = λ q. IsOutcomeBy d Accepts Ends Refuses s q (stage_after s None) in
       let same : refused_as x.name (reported_at x.name spot offset (reason_of failed)) ≡ o = cc in
       subst P same (refused_stage s x (reported_at x.name spot offset (reason_of failed)) next is)
-  refused_next s x (fault.OutOfMemory e) o next is told = absurd (no o e told)
+  refused_next s x (fault.Exhausted e) o next is told = absurd (no o e told)
     where
-      no : (a : Outcome) (f : AllocError) → ◌≡◌ {A = Result Outcome AllocError} (Ok a) (Err f) → ⊥
+      no : (a : Outcome) (f : Exhausted) → ◌≡◌ {A = Result Outcome Exhausted} (Ok a) (Err f) → ⊥
       no a f e = absurd cc
 
   -- the same as the code tells it

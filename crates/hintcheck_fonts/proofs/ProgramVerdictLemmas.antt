@@ -26,7 +26,7 @@ use Rattle.tt_abs.specs.StateFlow.{AreProgramsShort, FitsLimits, FunctionsFit, P
 use Rattle.tt_abs.specs.States.{state_laws, state_order}
 use Rattle.tt_abs.proofs.FlowOfStates.{state_flow_laws}
 use Rattle.tt_abs.proofs.Soundness.{good_is_safe}
-use Rattle.tt_family.specs.Checks.{IsOutOfMemory}
+use Rattle.tt_family.specs.Checks.{IsExhausted}
 use Rattle.tt_family.specs.Contents.{Contents, HasContext, family_of, frames_at}
 use Rattle.tt_family.specs.Puts.{number_at}
 use Rattle.tt_family.specs.Ascending.{IsFinished}
@@ -233,9 +233,9 @@ lent_filled (Some found) lent s least is_lent =
     subst F same (least.filling, least.fills, least.good)
 
 -- so the check refuses nothing
-pub only_memory : {T : Type 0} (r : Result T Refusal) (called : Name) (Is : AnyRefused → Type 0) → IfErr r IsOutOfMemory → IfErr r (λ f. IfRefused called f Is)
+pub only_memory : {T : Type 0} (r : Result T Refusal) (called : Name) (Is : AnyRefused → Type 0) → IfErr r IsExhausted → IfErr r (λ f. IfRefused called f Is)
 only_memory (Ok x) called Is h = tt
-only_memory (Err (fault.OutOfMemory e)) called Is h = tt
+only_memory (Err (fault.Exhausted e)) called Is h = tt
 only_memory (Err (fault.Refused spot offset failed)) called Is h = absurd h
 
 -- what holds of the finder holds whatever the check says
@@ -256,7 +256,7 @@ passed_on (Err x) f P is h = subst P (sym is) h
 -- what the finder tells, in a subject's words
 
 abbrev pub IsUnfound : Setting → List (ℕ × ℕ) → Refusal → Type 0
-IsUnfound s fs f = IsOutOfMemory f ⊎ (IsNeverEnding f ⊎ NoneIsGood s fs)
+IsUnfound s fs f = IsExhausted f ⊎ (IsNeverEnding f ⊎ NoneIsGood s fs)
 
 no_family_at : (s : Setting) (fs : List (ℕ × ℕ)) (spot : Spot) (offset : ℕ) (failed : Failed) → IsUnfound s fs (fault.Refused spot offset failed) → IsNoFamily s fs (reason_of failed)
 no_family_at s fs spot offset failed (inl h) = absurd h
@@ -264,7 +264,7 @@ no_family_at s fs spot offset failed (inr none) = none
 
 pub found_refusal : (x : Subject) (is : List Instruction) (s : Setting) (fs : List (ℕ × ℕ)) (f : Refusal) → IsCutInto x is → x.setting is ≡ s → x.functions ≡ fs → HasFlow s fs
     → NamesPlace (IsJustified s fs) f → IsUnfound s fs f → IfRefused x.name f (IsRefusal x)
-found_refusal x is s fs (fault.OutOfMemory e) c es ef h names unfound = tt
+found_refusal x is s fs (fault.Exhausted e) c es ef h names unfound = tt
 found_refusal x is s fs (fault.Refused spot offset failed) c es ef h (p, at_spot, at_offset, justified) unfound =
     let r = reason_of failed in
     let h' = of_subject HasFlow x is s fs es ef h in
@@ -274,7 +274,7 @@ found_refusal x is s fs (fault.Refused spot offset failed) c es ef h (p, at_spot
 
 pub glyph_without_good : (x : Subject) (is : List Instruction) (s : Setting) (fs : List (ℕ × ℕ)) (points contours : ℕ) (f : Refusal) → IsCutInto x is → x.setting is ≡ s
     → x.functions ≡ fs → s.kind ≡ GlyphProgram points contours → HasFlow s fs → NamesPlace (IsJustified s fs) f → IsUnfound s fs f → IfRefused x.name f (λ _. HasGoodFamily x → ⊥)
-glyph_without_good x is s fs points contours (fault.OutOfMemory e) c es ef k h names unfound = tt
+glyph_without_good x is s fs points contours (fault.Exhausted e) c es ef k h names unfound = tt
 glyph_without_good x is s fs points contours (fault.Refused spot offset failed) c es ef k h (p, at_spot, at_offset, justified) unfound =
     let r = reason_of failed in
     glyph_no_good x is points contours (ap (λ (t : Setting). t.kind) es ∙ k) c (of_subject HasFlow x is s fs es ef h) p r

@@ -37,7 +37,7 @@ use Rattle.hintcheck_fonts.proofs.VerdictSteps.{listed_first, none_dropped}
 
 pub of_program : (called : Name) (f : Refusal) → IfRefused called f (λ r. r.program ≡ called)
 of_program called (fault.Refused spot offset failed) = refl
-of_program called (fault.OutOfMemory e) = tt
+of_program called (fault.Exhausted e) = tt
 
 pub uncut_program : (called : Name) (bytes : List ℕ) (r : Refused) → IsUncut called bytes r → r.program ≡ called
 uncut_program called bytes r (no_cut offset cannot) = refl

@@ -6,12 +6,12 @@ use Rattle.hintcheck_fonts.proofs.certificate.find_font_within.Goals as goal
 pub returns-clause-exact : goal.returns-clause-exact
 returns-clause-exact g c =
     let d = c.in_ok-read.read in
-    IfOk-weaker c.find_programs_within.result _ _ (λ v is. (d, c.in_ok-read.ensures.reads, is, font_is_safe d c.in_ok-read.ensures.range v is)) c.find_programs_within.ensures.exact
+    IfOk-weaker c.find_programs.result _ _ (λ v is. (d, c.in_ok-read.ensures.reads, is, font_is_safe d c.in_ok-read.ensures.range v is)) c.find_programs.ensures.exact
 
 pub returns-clause-written : goal.returns-clause-written
 returns-clause-written g c =
     let d = c.in_ok-read.read in
-    IfOk-weaker c.find_programs_within.result _ _ (λ v writes none. (d, c.in_ok-read.ensures.reads, writes none)) c.find_programs_within.ensures.written
+    IfOk-weaker c.find_programs.result _ _ (λ v writes none. (d, c.in_ok-read.ensures.reads, writes none)) c.find_programs.ensures.written
 
 pub returns-in_err-read-clause-begun : goal.returns-in_err-read-clause-begun
 returns-in_err-read-clause-begun g c =
@@ -19,10 +19,10 @@ returns-in_err-read-clause-begun g c =
 
 pub returns-clause-begun : goal.returns-clause-begun
 returns-clause-begun g c =
-    on_err_weaker c.find_programs_within.result (λ begun. elim begun [
+    on_err_weaker c.find_programs.result (λ begun. elim begun [
       | inl same ↦ inl same
       | inr begun_for ↦ inr (c.in_ok-read.read, c.in_ok-read.ensures.reads, begun_for)
-    ]) c.find_programs_within.ensures.begun
+    ]) c.find_programs.ensures.begun
 
 pub returns-clause-write_fault : goal.returns-clause-write_fault
-returns-clause-write_fault g c = λ failed. (c.in_ok-read.read, c.in_ok-read.ensures.reads, c.find_programs_within.ensures.write_fault failed)
+returns-clause-write_fault g c = λ failed. (c.in_ok-read.read, c.in_ok-read.ensures.reads, c.find_programs.ensures.write_fault failed)

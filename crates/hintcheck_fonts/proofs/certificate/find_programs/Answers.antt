@@ -33,3 +33,6 @@ pub returns-in_err-write_certificate-clause-write_fault : goal.returns-in_err-wr
 returns-in_err-write_certificate-clause-write_fault g c = λ _.
     refuses_none c.args.font.now c.in_ok-refused.refused.items c.in_ok-refused.refused.len c.in_ok-refused.refused.ok.0 c.in_ok-refused.ensures.refused
     (eqb-true _ _ (sym c.if-is_empty.ensures))
+
+pub returns-then-is_exceeded-clause-begun : goal.returns-then-is_exceeded-clause-begun
+returns-then-is_exceeded-clause-begun g c = inl refl

@@ -26,6 +26,7 @@ loop-encoder-init g c =
       written = nothing_found d (g.W.Sink.contents c.args.sink.now) (stage_of c.new-programs.result) none c.new-programs.ensures.stage;
       failures = refl;
       spends = (refl, omega arith);
+      alike = refl;
     }
 
 pub judge_next-requires-clause-range : goal.judge_next-requires-clause-range
@@ -61,6 +62,7 @@ loop-encoder-preserved g c =
           c.in_ok-encode.ensures.written);
       failures = c.in_ok-encode.ensures.failures ∙ i.failures;
       spends = spends_on c.args.budget.now c.loop-encoder.budget c.judge_next.new.budget i.spends c.judge_next.ensures.spends;
+      alike = e.budget ∙ i.alike;
     }
 
 pub unwrap-certificate-requires : goal.unwrap-certificate-requires

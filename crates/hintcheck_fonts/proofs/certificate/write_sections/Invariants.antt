@@ -1,5 +1,5 @@
 use Rattle.std.proofs.Common.{◌≡◌}
-use Rattle.tt_family.specs.Budgets.{Spends}
+use Rattle.tt_family.specs.Budgets.{AreAlike, Spends}
 use Rattle.hintcheck_fonts.specs.ProgramVerdicts.{IsForCertificate}
 use Rattle.hintcheck_fonts.specs.Representation.ProgramOrder.{stage_of}
 use Rattle.hintcheck_fonts.proofs.CertificateWriting.{IsWrittenSoFar}
@@ -13,6 +13,7 @@ invariant-loop-encoder g l = record {
   written : IsWrittenSoFar l.programs.font.now (g.W.Sink.contents l.fn.sink) (stage_of l.programs) (g.W.Sink.contents l.sink);
   failures : g.W.Sink.failures l.sink ≡ g.W.Sink.failures l.fn.sink;
   spends : Spends l.fn.budget l.budget;
+  alike : AreAlike l.fn.budget l.budget;
 }
 
 abbrev pub decreases-loop-encoder : goal.decreases-loop-encoder

@@ -13,7 +13,7 @@ use Rattle.hintcheck_fonts.proofs.font.refused_by.Goals as goal
 pub loop-refused-init : goal.loop-refused-init
 loop-refused-init c =
     let yet = none_refused_yet c.args.programs.now.font.now (stage_of c.args.programs.now) c.new-refused.result.items c.requires.start c.new-refused.ensures.items in
-    record { font = refl; known = yet.0; till = yet.1; spends = (refl, omega arith) }
+    record { font = refl; known = yet.0; till = yet.1; spends = (refl, omega arith); alike = refl }
 
 pub judge_next-requires-clause-range : goal.judge_next-requires-clause-range
 judge_next-requires-clause-range c = subst IsFontInRange (sym c.loop-refused.invariant.font) c.requires.range
@@ -43,6 +43,7 @@ loop-refused-preserved c =
       till = subst (λ (f : Bor FontData). AreRefusedTill f.now t c.list_outcome.new.refused.items) (sym e.font)
           (refused_till d j s t c.in_ok-outcome.field-0 c.in-Some.outcome c.loop-refused.refused.items c.list_outcome.new.refused.items c.in-Some.is e.answer c.in_ok-list_outcome.ensures i.till);
       spends = spends_on c.args.budget.now c.loop-refused.budget c.judge_next.new.budget i.spends c.judge_next.ensures.spends;
+      alike = e.budget ∙ i.alike;
     }
 
 pub returns-clause-refused : goal.returns-clause-refused

@@ -1,5 +1,5 @@
 use Rattle.std.proofs.Common.{◌≡◌}
-use Rattle.tt_family.specs.Budgets.{Spends}
+use Rattle.tt_family.specs.Budgets.{AreAlike, Spends}
 use Rattle.hintcheck_fonts.specs.Representation.ProgramOrder.{stage_of}
 use Rattle.hintcheck_fonts.specs.Representation.SessionStages.{KeepsKnown}
 use Rattle.hintcheck_fonts.proofs.ProgramSteps.{calls_left}
@@ -12,6 +12,7 @@ invariant-loop-refused l = record {
   known : KeepsKnown l.programs.font.now (stage_of l.programs);
   till : AreRefusedTill l.programs.font.now (stage_of l.programs) l.refused.items;
   spends : Spends l.fn.budget l.budget;
+  alike : AreAlike l.fn.budget l.budget;
 }
 
 abbrev pub decreases-loop-refused : goal.decreases-loop-refused

@@ -1,22 +1,19 @@
-use Rattle.std.proofs.KnownBytes.{Consumes-nil}
-use Rattle.tt_stream.proofs.Beginnings.{consumes_beginning}
+use Rattle.std.specs.Prelude.{Err}
 use Rattle.hintcheck_fonts.specs.CheckedFonts.{bytes_in}
-use Rattle.hintcheck_fonts.proofs.OneFont.{check_accepts}
-use Rattle.std.proofs.lemmas.Result.{IfErr-weaker}
-use Rattle.hintcheck_fonts.proofs.FailedReads.{has_read_weaker}
+use Rattle.hintcheck_fonts.proofs.UnlimitedFaults.{counts_unlimited, finds_unlimited, font_unlimited, read_unlimited}
 use Rattle.hintcheck_fonts.proofs.font_check.check_font.Goals as goal
 
-pub returns-clause-accepts : goal.returns-clause-accepts
-returns-clause-accepts g c = λ told.
-    check_accepts c.args.font.now (bytes_in (g.S.Source.remaining c.args.source.now)) c.in_ok-read.read c.check_read_font.result c.in_ok-read.ensures.reads
-    (c.check_read_font.ensures.exact told)
+pub returns-in-Err-clause-exact : goal.returns-in-Err-clause-exact
+returns-in-Err-clause-exact g c = λ told. rw c.without_budget.ensures (finds_unlimited _ _ c.in-Err.fault (c.in-Err.ensures.exact told))
 
-pub returns-in_err-read-clause-beginning : goal.returns-in_err-read-clause-beginning
-returns-in_err-read-clause-beginning g c = consumes_beginning _ _ _ (Consumes-nil (g.S.Source.remaining c.args.source.now))
+pub returns-in-Err-clause-accepts : goal.returns-in-Err-clause-accepts
+returns-in-Err-clause-accepts g c = λ told d reads checked. rw c.without_budget.ensures (finds_unlimited _ _ c.in-Err.fault (c.in-Err.ensures.accepts told d reads checked))
 
-pub returns-clause-whole_units : goal.returns-clause-whole_units
-returns-clause-whole_units g c =
-    let d = c.in_ok-read.read in
-    let old = g.S.Source.remaining c.args.source.now in
-    let new = g.S.Source.remaining c.check_read_font.new.source in
-    IfErr-weaker c.check_read_font.result _ _ (λ e. has_read_weaker old new _ _ e (λ front is. (d, c.in_ok-read.ensures.reads, is))) c.check_read_font.ensures.whole_units
+pub returns-in-Err-clause-whole_units : goal.returns-in-Err-clause-whole_units
+returns-in-Err-clause-whole_units g c = rw c.without_budget.ensures (read_unlimited _ _ _ c.in-Err.fault c.in-Err.ensures.whole_units)
+
+pub returns-in-Err-clause-failures : goal.returns-in-Err-clause-failures
+returns-in-Err-clause-failures g c = rw c.without_budget.ensures (counts_unlimited _ _ c.in-Err.fault c.in-Err.ensures.failures)
+
+pub returns-in-Err-clause-faults : goal.returns-in-Err-clause-faults
+returns-in-Err-clause-faults g c = rw c.without_budget.ensures (font_unlimited _ c.in-Err.fault c.in-Err.ensures.faults)

@@ -8,8 +8,8 @@ use Rattle.hintcheck_fonts.proofs.font_check.check_font_within.Goals as goal
 
 pub returns-clause-accepts : goal.returns-clause-accepts
 returns-clause-accepts g c = λ told.
-    check_accepts c.args.font.now (bytes_in (g.S.Source.remaining c.args.source.now)) c.in_ok-read.read c.check_read_font_within.result c.in_ok-read.ensures.reads
-    (c.check_read_font_within.ensures.exact told)
+    check_accepts c.args.font.now (bytes_in (g.S.Source.remaining c.args.source.now)) c.in_ok-read.read c.check_read_font.result c.in_ok-read.ensures.reads
+    (c.check_read_font.ensures.exact told)
 
 pub returns-in_err-read-clause-beginning : goal.returns-in_err-read-clause-beginning
 returns-in_err-read-clause-beginning g c = consumes_beginning _ _ _ (Consumes-nil (g.S.Source.remaining c.args.source.now))
@@ -18,5 +18,5 @@ pub returns-clause-whole_units : goal.returns-clause-whole_units
 returns-clause-whole_units g c =
     let d = c.in_ok-read.read in
     let old = g.S.Source.remaining c.args.source.now in
-    let new = g.S.Source.remaining c.check_read_font_within.new.source in
-    IfErr-weaker c.check_read_font_within.result _ _ (λ e. has_read_weaker old new _ _ e (λ front is. (d, c.in_ok-read.ensures.reads, is))) c.check_read_font_within.ensures.whole_units
+    let new = g.S.Source.remaining c.check_read_font.new.source in
+    IfErr-weaker c.check_read_font.result _ _ (λ e. has_read_weaker old new _ _ e (λ front is. (d, c.in_ok-read.ensures.reads, is))) c.check_read_font.ensures.whole_units

@@ -1,5 +1,5 @@
 use Rattle.std.proofs.Common.{◌≡◌}
-use Rattle.tt_family.specs.Budgets.{Spends}
+use Rattle.tt_family.specs.Budgets.{AreAlike, Spends}
 use Rattle.tt_stream.specs.Reads.{ConsumesBeginning}
 use Rattle.hintcheck_fonts.proofs.ProgramSteps.{calls_left}
 use Rattle.hintcheck_fonts.proofs.SessionRuns.{IsCheckedSoFar}
@@ -13,6 +13,7 @@ invariant-loop-refused g l =
     × ConsumesBeginning (g.S.Source.remaining l.fn.source) (g.S.Source.remaining l.source)
     × Spends l.fn.budget l.budget
     × IsUnreadSoFar (g.S.Source.remaining l.fn.source) l.session (g.S.Source.remaining l.source) l.refused.items
+    × AreAlike l.fn.budget l.budget
 
 abbrev pub decreases-loop-refused : goal.decreases-loop-refused
 decreases-loop-refused g l = calls_left l.session.font l.session.stage
