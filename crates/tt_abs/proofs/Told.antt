@@ -3,8 +3,6 @@ use Rattle.std.specs.Prelude.{Result, IfErr, ℤ}
 use Rattle.std.specs.Result.{IsErrAnd}
 use Rattle.std.proofs.Common.{◌≡◌, ◌∙◌, ◌<◌, ℕ, List, ◌∷◌, Ok, Err, ap, drop, length, refl, subst, sym}
 use Rattle.tt_code.specs.Computing.{element}
-use Rattle.tt_code.specs.Settings.{Setting as AnySetting}
-use Rattle.tt_code.specs.declared.machine.Frame.{Frame}
 use Rattle.tt_code.specs.declared.reason.Reason.TheVariants as reason
 use Rattle.tt_abs.specs.declared.cells.Cell.TheVariants as cell
 use Rattle.tt_abs.specs.declared.failed.Failed.TheVariants as failed
@@ -67,6 +65,11 @@ step_told setting point state r f left other h e =
 pub stack_step_told : {A : Type 0} (setting : Setting) (point : Point) (state : State) (r : Result A StepFault) (f : Failed) (left : ℕ)
     → TellsOfStack state.stack f → IsErrAnd r (λ x. x ≡ Refused f) → IfErr r (TellsWhatFails setting point state left)
 stack_step_told setting point state r f left h = step_told setting point state r f left left (stack_state setting state f h (frames_of point) point.offset left) refl
+
+-- the same where it is passed on
+pub stack_fault_told : (setting : Setting) (point : Point) (state : State) (e : StepFault) (left : ℕ) → ForFailed e (TellsOfStack state.stack) → TellsWhatFails setting point state left e
+stack_fault_told setting point state e left =
+    for_failed e (TellsOfStack state.stack) (Tells (setting_of setting) (frames_of point) point.offset (abstract_of state) left) (λ f h. stack_state setting state f h (frames_of point) point.offset left)
 
 -- the tests of a stack
 
