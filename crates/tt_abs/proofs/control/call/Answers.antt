@@ -14,6 +14,5 @@ returns-in_err-callee-clause-told c =
 
 pub returns-in_err-moves-clause-told : goal.returns-in_err-moves-clause-told
 returns-in_err-moves-clause-told c =
-    let named = (on_top _ _ _ _ c.in_ok-top.ensures.ok c.in_ok-callee.ensures.number, c.in_ok-callee.ensures.named) in
-    let told = c.in_err-moves.ensures.told (abstract_of c.args.state.now) named in
+    let told = c.in_err-moves.ensures.told (abstract_of c.args.state.now) (on_top _ _ _ _ c.in_ok-top.ensures.ok c.in_ok-callee.ensures.number, c.in_ok-callee.ensures.named) in
     step_told c.args.setting.now c.args.point.now c.args.state.now _ _ _ _ told c.len.ensures.value c.from_residual-in_err-moves.ensures.1
