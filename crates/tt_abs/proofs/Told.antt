@@ -3,22 +3,21 @@ use Rattle.std.specs.Prelude.{Result, IfErr, ℤ}
 use Rattle.std.specs.Result.{IsErrAnd}
 use Rattle.std.proofs.Common.{◌≡◌, ◌∙◌, ◌<◌, ℕ, List, ◌∷◌, Ok, Err, ap, drop, length, refl, subst, sym}
 use Rattle.tt_code.specs.Computing.{element}
-use Rattle.tt_code.specs.Settings.{Setting as AnySetting}
-use Rattle.tt_code.specs.declared.machine.Frame.{Frame}
 use Rattle.tt_code.specs.declared.reason.Reason.TheVariants as reason
 use Rattle.tt_abs.specs.declared.cells.Cell.TheVariants as cell
 use Rattle.tt_abs.specs.declared.failed.Failed.TheVariants as failed
 use Rattle.tt_abs.specs.declared.failed.Role.{Role}
 use Rattle.tt_abs.specs.declared.cells.Cell.{Cell}
 use Rattle.tt_abs.specs.declared.failed.Failed.{Failed}
+use Rattle.tt_abs.specs.declared.setting.Point.{Point}
 use Rattle.tt_abs.specs.declared.setting.Setting.{Setting}
 use Rattle.tt_abs.specs.declared.state.State.{State}
 use Rattle.tt_abs.specs.declared.step_fault.StepFault.{StepFault}
 use Rattle.tt_abs.specs.declared.step_fault.StepFault.TheVariants.{Refused, OutOfMemory}
 use Rattle.tt_abs.specs.Cells.{Abstract, Cells}
-use Rattle.tt_abs.specs.Failures.{Tells, reason_of}
-use Rattle.tt_abs.specs.Moves.{ForFailed}
-use Rattle.tt_abs.specs.Settings.{setting_of}
+use Rattle.tt_abs.specs.Failures.{IsOnTop, Tells, reason_of}
+use Rattle.tt_abs.specs.Moves.{ForFailed, TellsWhatFails}
+use Rattle.tt_abs.specs.Settings.{frames_of, setting_of}
 use Rattle.tt_abs.specs.States.{abstract_of}
 use Rattle.tt_abs.specs.Representation.Steps.{TellsOfState}
 use Rattle.tt_abs.specs.Representation.Taken.{TellsOfGraphics, TellsOfGraphicsIn, TellsOfOperands, TellsOfStack, TellsOfStackIn}
@@ -57,7 +56,25 @@ pub refused_told : {A : Type 0} (r : Result A StepFault) (f : Failed) (P : Faile
 refused_told (Ok a) f P h k = tt
 refused_told (Err x) f P h k = let E : StepFault → Type 0 = λ y. ForFailed y P in subst E (sym k) h
 
+-- the same of an instruction: a test of the depth that it leaves, and then one of its stack
+pub step_told : {A : Type 0} (setting : Setting) (point : Point) (state : State) (r : Result A StepFault) (f : Failed) (left other : ℕ)
+    → Tells (setting_of setting) (frames_of point) point.offset (abstract_of state) left f → left ≡ other → IsErrAnd r (λ x. x ≡ Refused f) → IfErr r (TellsWhatFails setting point state other)
+step_told setting point state r f left other h e =
+    let P : ℕ → Failed → Type 0 = Tells (setting_of setting) (frames_of point) point.offset (abstract_of state) in refused_told r f (P other) (subst (λ (n : ℕ). P n f) e h)
+
+pub stack_step_told : {A : Type 0} (setting : Setting) (point : Point) (state : State) (r : Result A StepFault) (f : Failed) (left : ℕ)
+    → TellsOfStack state.stack f → IsErrAnd r (λ x. x ≡ Refused f) → IfErr r (TellsWhatFails setting point state left)
+stack_step_told setting point state r f left h = step_told setting point state r f left left (stack_state setting state f h (frames_of point) point.offset left) refl
+
+-- the same where it is passed on
+pub stack_fault_told : (setting : Setting) (point : Point) (state : State) (e : StepFault) (left : ℕ) → ForFailed e (TellsOfStack state.stack) → TellsWhatFails setting point state left e
+stack_fault_told setting point state e left =
+    for_failed e (TellsOfStack state.stack) (Tells (setting_of setting) (frames_of point) point.offset (abstract_of state) left) (λ f h. stack_state setting state f h (frames_of point) point.offset left)
+
 -- the tests of a stack
+
+pub on_top : (stack below : List Cell) (k : Cell) (number : ℤ) → stack ≡ k ∷ below → k ≡ cell.Known number → IsOnTop stack number
+on_top stack below k number d u = (below, d ∙ ap (λ c. c ∷ below) u)
 
 pub too_few_told : (stack : List Cell) (f : Failed) → f ≡ failed.TooFew (length stack) → TellsOfStack stack f
 too_few_told stack f e = let P : Failed → Type 0 = λ x. TellsOfStack stack x in subst P (sym e) (λ s fs at a left. refl)
@@ -70,16 +87,13 @@ pub low_told : (stack below : List Cell) (k : Cell) (index : ℤ) (f : Failed) �
     → f ≡ failed.LowIndex index → TellsOfStack stack f
 low_told stack below k index f d u h e =
     let P : Failed → Type 0 = λ x. ((cells : List Cell) → element index cells ≡ Err (reason_of x)) → TellsOfStack stack x in
-    subst P (sym e) (λ g s fs at a left. ((below, d ∙ ap (λ c. c ∷ below) u), g)) h
+    subst P (sym e) (λ g s fs at a left. (on_top stack below k index d u, g)) h
 
 -- the tests of control instructions
 
-pub too_deep_told : (s : AnySetting) (fs : List Frame) (at : ℕ) (a : Abstract) (left : ℕ) (f : Failed) → f ≡ failed.TooDeep left → s.limits.stack < left → Tells s fs at a left f
-too_deep_told s fs at a left f e h = let P : Failed → Type 0 = λ x. Tells s fs at a left x in subst P (sym e) (refl, h)
+pub too_deep_told : (setting : Setting) (point : Point) (a : Abstract) (left : ℕ) (f : Failed) → f ≡ failed.TooDeep left → setting.limits.stack < left
+    → Tells (setting_of setting) (frames_of point) point.offset a left f
+too_deep_told setting point a left f e h = let P : Failed → Type 0 = Tells (setting_of setting) (frames_of point) point.offset a left in subst P (sym e) (refl, h)
 
-pub only_told : (s : AnySetting) (fs : List Frame) (at : ℕ) (a : Abstract) (left : ℕ) (f : Failed) → f ≡ failed.Only reason.Target → Tells s fs at a left f
-only_told s fs at a left f e = let P : Failed → Type 0 = λ x. Tells s fs at a left x in subst P (sym e) tt
-
--- as much as is left of a stack of the same depth
-pub left_told : (s : AnySetting) (fs : List Frame) (at : ℕ) (a : Abstract) (left other : ℕ) (f : Failed) → left ≡ other → Tells s fs at a left f → Tells s fs at a other f
-left_told s fs at a left other f e h = let P : ℕ → Type 0 = λ n. Tells s fs at a n f in subst P e h
+pub only_told : (stack : List Cell) (f : Failed) → f ≡ failed.Only reason.Target → TellsOfStack stack f
+only_told stack f e = let P : Failed → Type 0 = TellsOfStack stack in subst P (sym e) (λ s fs at a left. tt)

@@ -1,30 +1,8 @@
-use Rattle.std.proofs.Common.{length}
-use Rattle.tt_abs.specs.Failures.{Tells}
-use Rattle.tt_abs.specs.Settings.{frames_of, setting_of}
-use Rattle.tt_abs.specs.States.{abstract_of}
-use Rattle.tt_abs.proofs.Told.{only_told, refused_told, too_few_told}
+use Rattle.tt_abs.proofs.Told.{only_told, stack_step_told, too_few_told}
 use Rattle.tt_abs.proofs.control.branch.Goals as goal
 
 pub returns-in_err-condition-clause-told : goal.returns-in_err-condition-clause-told
-returns-in_err-condition-clause-told c =
-    let S = setting_of c.args.setting.now in
-    let fs = frames_of c.args.point.now in
-    let at = c.args.point.now.offset in
-    let stack = c.args.state.now.stack in
-    let a = abstract_of c.args.state.now in
-    let f = c.in_err-condition.field-0.0 in
-    refused_told c.from_residual.result f (Tells S fs at a (length stack))
-    (too_few_told stack f c.in_err-condition.ensures.told S fs at a (length stack))
-    c.from_residual.ensures.1
+returns-in_err-condition-clause-told c = stack_step_told c.args.setting.now c.args.point.now c.args.state.now _ _ _ (too_few_told _ _ c.in_err-condition.ensures.told) c.from_residual.ensures.1
 
 pub returns-in_err-moves-clause-told : goal.returns-in_err-moves-clause-told
-returns-in_err-moves-clause-told c =
-    let S = setting_of c.args.setting.now in
-    let fs = frames_of c.args.point.now in
-    let at = c.args.point.now.offset in
-    let stack = c.args.state.now.stack in
-    let a = abstract_of c.args.state.now in
-    let f = c.in_err-moves.field-0.0 in
-    refused_told c.from_residual-in_err-moves.result f (Tells S fs at a (length stack))
-    (only_told S fs at a (length stack) f c.in_err-moves.ensures.told)
-    c.from_residual-in_err-moves.ensures.1
+returns-in_err-moves-clause-told c = stack_step_told c.args.setting.now c.args.point.now c.args.state.now _ _ _ (only_told _ _ c.in_err-moves.ensures.told) c.from_residual-in_err-moves.ensures.1

@@ -1,4 +1,4 @@
-use Rattle.std.proofs.Common.{◌∙◌, ◌∷◌, ap, sym, rules, Some, None}
+use Rattle.std.proofs.Common.{◌∙◌, sym, rules, Some, None}
 use Rattle.std.specs.Prelude.{FitsSigned}
 use Rattle.std.specs.Int.{w32}
 use Rattle.std.proofs.lemmas.Int.{to_z-of_z}
@@ -8,7 +8,7 @@ use Rattle.tt_abs.specs.States.{abstract_of}
 use Rattle.tt_abs.specs.declared.failed.Role.TheVariants as role
 use Rattle.tt_abs.specs.Representation.Steps.{TellsOfCall}
 use Rattle.tt_abs.proofs.Fronts.{told_by}
-use Rattle.tt_abs.proofs.Told.{unknown_told}
+use Rattle.tt_abs.proofs.Told.{on_top, unknown_told}
 use Rattle.tt_abs.proofs.control.called.Goals as goal
 
 pub returns-in-Some-clause-ok : goal.returns-in-Some-clause-ok
@@ -32,7 +32,7 @@ returns-in-Some-clause-named c =
 pub returns-in-None-clause-told : goal.returns-in-None-clause-told
 returns-in-None-clause-told c = λ fs at below left e.
     let fits : FitsSigned w32 c.in_ok-function.function = search rules in simp to_z-of_z (
-      (below, e ∙ ap (λ x. x ∷ below) c.in_ok-function.ensures.ok),
+      on_top _ below _ _ e c.in_ok-function.ensures.ok,
       rw c.from.ensures at (simp to_z-of_z at (sym c.is_index.ensures ∙ c.if-not-is_index.false)),
       named_is c.args.state.now.functions c.in_ok-function.function c.from.result None
           (simp to_z-of_z at (sym c.is_index.ensures ∙ c.if-not-is_index.false)) (simp to_z-of_z at c.in-None.ensures),
@@ -40,17 +40,15 @@ returns-in-None-clause-told c = λ fs at below left e.
 
 pub returns-in_err-function-clause-told : goal.returns-in_err-function-clause-told
 returns-in_err-function-clause-told c =
-    let state = c.args.state.now in
-    let f = c.in_err-function.field-0.0 in
-    told_by c.from_residual.result f (TellsOfCall c.args.setting.now state c.args.cell)
+    told_by c.from_residual.result _ (TellsOfCall c.args.setting.now c.args.state.now c.args.cell)
     (λ fs at below left e.
-    unknown_told state.stack below c.args.cell role.Function 0 f e c.in_err-function.ensures.unknown c.in_err-function.ensures.told (setting_of c.args.setting.now) fs at (abstract_of state) left)
+    unknown_told _ below _ role.Function 0 _ e c.in_err-function.ensures.unknown c.in_err-function.ensures.told (setting_of c.args.setting.now) fs at (abstract_of c.args.state.now) left)
     c.from_residual.ensures.1
 
 pub returns-then-not-is_index-clause-told : goal.returns-then-not-is_index-clause-told
 returns-then-not-is_index-clause-told c =
     λ fs at below left e.
     let fits : FitsSigned w32 c.in_ok-function.function = search rules in simp to_z-of_z (
-      (below, e ∙ ap (λ x. x ∷ below) c.in_ok-function.ensures.ok),
+      on_top _ below _ _ e c.in_ok-function.ensures.ok,
       rw c.from.ensures at (simp to_z-of_z at (sym c.is_index.ensures ∙ c.if-not-is_index.true)),
     )

@@ -2,7 +2,6 @@ use Rattle.std.proofs.Common.{◌∙◌, rules, sym}
 use Rattle.std.specs.Prelude.{FitsSigned}
 use Rattle.std.specs.Int.{w32}
 use Rattle.std.proofs.lemmas.Int.{to_z-of_z}
-use Rattle.tt_abs.specs.Settings.{frames_of, setting_of}
 use Rattle.tt_abs.specs.Representation.Steps.{TellsOfEntry}
 use Rattle.tt_abs.proofs.Fronts.{told_by}
 use Rattle.tt_abs.proofs.Told.{too_deep_told}
@@ -10,9 +9,8 @@ use Rattle.tt_abs.proofs.control.enter.Goals as goal
 
 pub returns-in_err-test_depth-clause-told : goal.returns-in_err-test_depth-clause-told
 returns-in_err-test_depth-clause-told c =
-    let f = c.in_err-test_depth.field-0.0 in
-    told_by c.from_residual.result f (TellsOfEntry c.args.setting.now c.args.point.now c.args.callee c.args.depth)
-    (λ a named. too_deep_told (setting_of c.args.setting.now) (frames_of c.args.point.now) c.args.point.now.offset a c.args.depth f c.in_err-test_depth.ensures.told c.in_err-test_depth.ensures.deep)
+    told_by c.from_residual.result _ (TellsOfEntry c.args.setting.now c.args.point.now c.args.callee c.args.depth)
+    (λ a named. too_deep_told c.args.setting.now c.args.point.now a c.args.depth _ c.in_err-test_depth.ensures.told c.in_err-test_depth.ensures.deep)
     c.from_residual.ensures.1
 
 pub returns-then-is_running-clause-told : goal.returns-then-is_running-clause-told

@@ -1,5 +1,4 @@
 use Rattle.std.proofs.Common.{◌∙◌, ◌∷◌, ap}
-use Rattle.tt_abs.specs.Settings.{frames_of, setting_of}
 use Rattle.tt_abs.specs.Representation.Steps.{TellsOfJump}
 use Rattle.tt_abs.proofs.Fronts.{told_by}
 use Rattle.tt_abs.proofs.Told.{too_deep_told}
@@ -7,9 +6,8 @@ use Rattle.tt_abs.proofs.control.jump_target.Goals as goal
 
 pub returns-in_err-test_depth-clause-told : goal.returns-in_err-test_depth-clause-told
 returns-in_err-test_depth-clause-told c =
-    let f = c.in_err-test_depth.field-0.0 in
-    told_by c.from_residual.result f (TellsOfJump c.args.setting.now c.args.point.now c.args.distance c.args.depth)
-    (λ a below e. too_deep_told (setting_of c.args.setting.now) (frames_of c.args.point.now) c.args.point.now.offset a c.args.depth f c.in_err-test_depth.ensures.told c.in_err-test_depth.ensures.deep)
+    told_by c.from_residual.result _ (TellsOfJump c.args.setting.now c.args.point.now c.args.distance c.args.depth)
+    (λ a below e. too_deep_told c.args.setting.now c.args.point.now a c.args.depth _ c.in_err-test_depth.ensures.told c.in_err-test_depth.ensures.deep)
     c.from_residual.ensures.1
 
 pub returns-in-Unknown-clause-told : goal.returns-in-Unknown-clause-told

@@ -8,7 +8,7 @@ use Rattle.tt_abs.specs.Transfers.{pushed_cells, plain_cells, shuffled_cells, co
 use Rattle.tt_abs.proofs.TableRows.{rows_of_one_kind, rows_tested}
 use Rattle.tt_abs.proofs.StepLemmas.{push_done, acts, acts_not, first_code, for_reason, passed_on}
 use Rattle.tt_abs.proofs.instruction.dispatch.Goals.{in-Plain+in_ok-execute_plain-in-Plain, in-Push+in_ok-push_data-in-Push, in-Stack+in_ok-shuffle-in-Stack, in-Arithmetic+in_ok-compute-in-Arithmetic}
-use Rattle.tt_abs.proofs.Told.{for_failed}
+use Rattle.tt_abs.proofs.Told.{for_failed, stack_fault_told}
 use Rattle.tt_abs.proofs.instruction.dispatch.Goals as goal
 
 pub execute_plain-requires : goal.execute_plain-requires
@@ -66,30 +66,18 @@ returns-clause-ok c = λ code rest e.
 
 pub returns-in_err-execute_plain-in-Plain-clause-told : goal.returns-in_err-execute_plain-in-Plain-clause-told
 returns-in_err-execute_plain-in-Plain-clause-told c =
-    let S = setting_of c.args.setting.now in
-    let fs = frames_of c.args.point.now in
-    let at = c.args.point.now.offset in
-    let a = abstract_of c.args.state.now in
     passed_on c.from_residual.result c.in_err-execute_plain-in-Plain.field-0.0 _
-    (for_failed c.in_err-execute_plain-in-Plain.field-0.0 _ _ (λ f h. h fs at _) c.in_err-execute_plain-in-Plain.ensures.told)
+    (for_failed c.in_err-execute_plain-in-Plain.field-0.0 _ _ (λ f h. h (frames_of c.args.point.now) c.args.point.now.offset _) c.in_err-execute_plain-in-Plain.ensures.told)
     c.from_residual.ensures.1
 
 pub returns-in_err-shuffle-in-Stack-clause-told : goal.returns-in_err-shuffle-in-Stack-clause-told
 returns-in_err-shuffle-in-Stack-clause-told c =
-    let S = setting_of c.args.setting.now in
-    let fs = frames_of c.args.point.now in
-    let at = c.args.point.now.offset in
-    let a = abstract_of c.args.state.now in
     passed_on c.from_residual-in_err-shuffle-in-Stack.result c.in_err-shuffle-in-Stack.field-0.0 _
-    (for_failed c.in_err-shuffle-in-Stack.field-0.0 _ _ (λ f h. h S fs at a _) c.in_err-shuffle-in-Stack.ensures.told)
+    (stack_fault_told c.args.setting.now c.args.point.now c.args.state.now _ _ c.in_err-shuffle-in-Stack.ensures.told)
     c.from_residual-in_err-shuffle-in-Stack.ensures.1
 
 pub returns-in_err-compute-in-Arithmetic-clause-told : goal.returns-in_err-compute-in-Arithmetic-clause-told
 returns-in_err-compute-in-Arithmetic-clause-told c =
-    let S = setting_of c.args.setting.now in
-    let fs = frames_of c.args.point.now in
-    let at = c.args.point.now.offset in
-    let a = abstract_of c.args.state.now in
     passed_on c.from_residual-in_err-compute-in-Arithmetic.result c.in_err-compute-in-Arithmetic.field-0.0 _
-    (for_failed c.in_err-compute-in-Arithmetic.field-0.0 _ _ (λ f h. h S fs at a _) c.in_err-compute-in-Arithmetic.ensures.told)
+    (stack_fault_told c.args.setting.now c.args.point.now c.args.state.now _ _ c.in_err-compute-in-Arithmetic.ensures.told)
     c.from_residual-in_err-compute-in-Arithmetic.ensures.1
