@@ -3,7 +3,7 @@
 use crate::arrivals::{Edge, START};
 use crate::element::Element;
 use crate::explored_program::ExploredProgram;
-use crate::sources::{Source, source_of};
+use crate::provenance::{Provenance, provenance_of};
 use crate::stepping::{StepOutcome, outcome_at};
 use std::alloc::{AllocError, Global};
 use tt_abs::Cell;
@@ -77,7 +77,7 @@ fn brought_from(
     subject: &ExploredProgram<'_>,
     from: PointKey,
     element: Element,
-) -> Result<Option<(Cell, Source)>, AllocError> {
+) -> Result<Option<(Cell, Provenance)>, AllocError> {
     let Some(state) = subject.certificate.state(from.0, from.1) else {
         return Ok(None);
     };
@@ -90,8 +90,8 @@ fn brought_from(
             moves: _,
             state: next,
         } => {
-            let source = source_of(state, &instruction, element);
-            Ok(Some((element.known_in(&next), source)))
+            let provenance = provenance_of(state, &instruction, element);
+            Ok(Some((element.known_in(&next), provenance)))
         }
         _ => Ok(None),
     }
@@ -105,7 +105,7 @@ fn add_way(
     traced: Traced,
     from: PointKey,
     cell: Cell,
-    source: Source,
+    provenance: Provenance,
 ) -> Result<Option<CellOrigin>, AllocError> {
     let second = Brought { from, cell };
     if let Cell::Known(_) = cell {
@@ -123,8 +123,8 @@ fn add_way(
         });
     }
     meeting.unknown = Some(second);
-    match source {
-        Source::Kept(element) => {
+    match provenance {
+        Provenance::Kept(element) => {
             note(
                 &mut trace.numbers,
                 Traced {
@@ -134,7 +134,7 @@ fn add_way(
             )?;
             Ok(None)
         }
-        Source::Made => Ok(Some(CellOrigin::Made(from))),
+        Provenance::Made => Ok(Some(CellOrigin::Made(from))),
     }
 }
 
@@ -152,8 +152,8 @@ fn look_back(
     };
     for edge in edges {
         if edge.to == traced.point {
-            if let Some((cell, source)) = brought_from(alloc, subject, edge.from, traced.element)? {
-                let origin = add_way(trace, &mut meeting, traced, edge.from, cell, source)?;
+            if let Some((cell, provenance)) = brought_from(alloc, subject, edge.from, traced.element)? {
+                let origin = add_way(trace, &mut meeting, traced, edge.from, cell, provenance)?;
                 if origin.is_some() {
                     return Ok(origin);
                 }

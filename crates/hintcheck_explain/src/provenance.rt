@@ -9,7 +9,7 @@ use tt_code::{Instr, entry};
 
 /// Where a number was kept before an instruction, or that the instruction makes it.
 #[derive(Clone, Copy)]
-pub(crate) enum Source {
+pub(crate) enum Provenance {
     /// It was kept here before, or is computed from what was kept here.
     Kept(Element),
     /// The instruction makes it.
@@ -17,10 +17,10 @@ pub(crate) enum Source {
 }
 
 /// Returns where the number under this many others is kept, on a stack of this depth.
-fn under(depth: usize, taken: usize) -> Source {
+fn under(depth: usize, taken: usize) -> Provenance {
     match place_under(depth, taken) {
-        Some(place) => Source::Kept(Element::Stack(place)),
-        None => Source::Made,
+        Some(place) => Provenance::Kept(Element::Stack(place)),
+        None => Provenance::Made,
     }
 }
 
@@ -37,7 +37,7 @@ fn top_index(state: &State) -> usize {
 }
 
 /// Returns where a number was kept that is under this many others after a stack instruction.
-fn source_of_shuffled(state: &State, operation: StackOp, taken: usize, place: usize) -> Source {
+fn provenance_of_shuffled(state: &State, operation: StackOp, taken: usize, place: usize) -> Provenance {
     let depth = state.depth();
     match (operation, taken) {
         (StackOp::Dup, 0) => under(depth, 0),
@@ -48,14 +48,14 @@ fn source_of_shuffled(state: &State, operation: StackOp, taken: usize, place: us
         (StackOp::Roll, 2) => under(depth, 1),
         (StackOp::CopyIndexed, 0) | (StackOp::MoveIndexed, 0) => under(depth, top_index(state)),
         (StackOp::MoveIndexed, above) if above < top_index(state) => under(depth, above),
-        (StackOp::Depth, 0) => Source::Made,
-        _ => Source::Kept(Element::Stack(place)),
+        (StackOp::Depth, 0) => Provenance::Made,
+        _ => Provenance::Kept(Element::Stack(place)),
     }
 }
 
 /// Returns where an operand of an arithmetic instruction was kept that isn't known: the top of the
 /// stack, or the other operand, where there are two and the top is known.
-fn source_of_result(state: &State, operation: Arithmetic) -> Source {
+fn provenance_of_result(state: &State, operation: Arithmetic) -> Provenance {
     let depth = state.depth();
     if is_of_one(operation) {
         return under(depth, 0);
@@ -87,38 +87,38 @@ fn storage_index(state: &State, taken: usize) -> Option<u16> {
 }
 
 /// Returns where the number comes from that a plain line pushes at this index.
-fn source_of_pushed(state: &State, row: &Row, index: usize) -> Source {
+fn provenance_of_pushed(state: &State, row: &Row, index: usize) -> Provenance {
     match row.pushes.get(index) {
         Some(Pushed::Stored(position)) => match storage_index(state, usize::from(*position)) {
-            Some(index) => Source::Kept(Element::Storage(index)),
-            None => Source::Made,
+            Some(index) => Provenance::Kept(Element::Storage(index)),
+            None => Provenance::Made,
         },
-        _ => Source::Made,
+        _ => Provenance::Made,
     }
 }
 
 /// Returns where a number on the stack, above this many others, comes from.
-fn source_on_stack(state: &State, instr: &Instr<'_>, place: usize) -> Source {
+fn provenance_on_stack(state: &State, instr: &Instr<'_>, place: usize) -> Provenance {
     let exchange = exchange_of(View::Strict(state), instr);
     let left = state.depth().saturating_sub(exchange.takes);
     let depth_after = left.saturating_add(exchange.pushes);
     let effect = entry(instr.code());
     if let Effect::Stack(operation) = effect {
         let taken = depth_after.saturating_sub(place).saturating_sub(1);
-        return source_of_shuffled(state, *operation, taken, place);
+        return provenance_of_shuffled(state, *operation, taken, place);
     }
     if place < left {
-        return Source::Kept(Element::Stack(place));
+        return Provenance::Kept(Element::Stack(place));
     }
     match effect {
-        Effect::Plain(row) => source_of_pushed(state, row, place.saturating_sub(left)),
-        Effect::Arithmetic(operation) => source_of_result(state, *operation),
-        _ => Source::Made,
+        Effect::Plain(row) => provenance_of_pushed(state, row, place.saturating_sub(left)),
+        Effect::Arithmetic(operation) => provenance_of_result(state, *operation),
+        _ => Provenance::Made,
     }
 }
 
 /// Returns where an element's number comes from after a change, if the change sets that element.
-fn source_by_update(state: &State, update: Update, element: Element) -> Option<Source> {
+fn provenance_by_update(state: &State, update: Update, element: Element) -> Option<Provenance> {
     let depth = state.depth();
     match update {
         Update::SetReference(reference, source) => {
@@ -127,13 +127,13 @@ fn source_by_update(state: &State, update: Update, element: Element) -> Option<S
             }
             Some(match source {
                 Register::Taken(position) => under(depth, usize::from(position)),
-                Register::Same(other) => Source::Kept(Element::of_reference(other)),
+                Register::Same(other) => Provenance::Kept(Element::of_reference(other)),
             })
         }
         Update::SetLoop(position) if element == Element::Loop => {
             Some(under(depth, usize::from(position)))
         }
-        Update::LoopIsOne if element == Element::Loop => Some(Source::Made),
+        Update::LoopIsOne if element == Element::Loop => Some(Provenance::Made),
         Update::Store(at, value) => {
             let index = storage_index(state, usize::from(at))?;
             if Element::Storage(index) == element {
@@ -147,23 +147,23 @@ fn source_by_update(state: &State, update: Update, element: Element) -> Option<S
 }
 
 /// Returns where a number that isn't on the stack comes from.
-fn source_in_register(state: &State, instr: &Instr<'_>, element: Element) -> Source {
-    let mut source = Source::Kept(element);
+fn provenance_in_register(state: &State, instr: &Instr<'_>, element: Element) -> Provenance {
+    let mut provenance = Provenance::Kept(element);
     if let Effect::Plain(row) = entry(instr.code()) {
         for update in row.updates {
-            if let Some(changed) = source_by_update(state, *update, element) {
-                source = changed;
+            if let Some(changed) = provenance_by_update(state, *update, element) {
+                provenance = changed;
             }
         }
     }
-    source
+    provenance
 }
 
 /// Returns where a number that is kept after an instruction was kept before it: the state is the
 /// one before.
-pub(crate) fn source_of(state: &State, instr: &Instr<'_>, element: Element) -> Source {
+pub(crate) fn provenance_of(state: &State, instr: &Instr<'_>, element: Element) -> Provenance {
     match element {
-        Element::Stack(place) => source_on_stack(state, instr, place),
-        _ => source_in_register(state, instr, element),
+        Element::Stack(place) => provenance_on_stack(state, instr, place),
+        _ => provenance_in_register(state, instr, element),
     }
 }
