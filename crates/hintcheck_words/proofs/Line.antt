@@ -131,6 +131,10 @@ scan_rule : IsLongNumberRule scan_built.rules (codes "POINTS") (rule_at scan_bui
 unfolding hintcheck scan_built rule_at clap_on_literals
 scan_rule = record { found = refl; named = refl; parser = refl }
 
+explain_rule : IsLongNumberRule explain_built.rules (codes "POINTS") (rule_at explain_built (codes "POINTS"))
+unfolding hintcheck explain_built rule_at clap_on_literals
+explain_rule = record { found = refl; named = refl; parser = refl }
+
 find_rule : IsLongNumberRule find_built.rules (codes "POINTS") (rule_at find_built (codes "POINTS"))
 unfolding hintcheck find_built rule_at clap_on_literals
 find_rule = record { found = refl; named = refl; parser = refl }
@@ -166,6 +170,9 @@ meets_one words name rows e found =
       of_scan = λ scan.
           let at_scan = level_at (built hintcheck) name (codes "scan") rows scan_built named scan scan_found in
           long_number_if_any scan_built rows (codes "POINTS") (rule_at scan_built (codes "POINTS")) at_scan scan_rule;
+      of_explain = λ explain.
+          let at_explain = level_at (built hintcheck) name (codes "explain") rows explain_built named explain explain_found in
+          long_number_if_any explain_built rows (codes "POINTS") (rule_at explain_built (codes "POINTS")) at_explain explain_rule;
       of_find = λ find.
           let at_find = level_at (built hintcheck) name (codes "find") rows find_built named find find_found in
           long_number_if_any find_built rows (codes "POINTS") (rule_at find_built (codes "POINTS")) at_find find_rule;

@@ -2,7 +2,7 @@
 --     hintcheck bare [--symbolic] MAXP CVT POINTS CONTOURS [PROGRAM]
 --     hintcheck verdict [--symbolic] [--points POINTS] [--json] FONT
 --     hintcheck scan [--symbolic] [--points POINTS] [--fail-on CLASS] [--json] FONT..
---     hintcheck explain [--symbolic] FONT PROGRAM [OFFSET]
+--     hintcheck explain [--symbolic] [--points POINTS] FONT PROGRAM [OFFSET]
 --     hintcheck find [--points POINTS] FONT CERT
 --     hintcheck check [--points POINTS] FONT CERT
 --     hintcheck list FONT PROGRAM
@@ -94,8 +94,9 @@ scan = with_rule (with_rule (with_rule (with_rule (with_rule (new_app (codes "sc
 
 -- the subcommand `explain`, which tells how one program is checked
 abbrev pub explain : App
-explain = with_rule (with_rule (with_rule (with_rule (new_app (codes "explain"))
-    (needed (codes "FONT"))) (needed (codes "PROGRAM"))) (optional_number (codes "OFFSET"))) symbolic
+explain = with_rule (with_rule (with_rule (with_rule (with_rule (new_app (codes "explain"))
+    (needed (codes "FONT"))) (needed (codes "PROGRAM"))) (optional_number (codes "OFFSET"))) points)
+    symbolic
 
 -- the subcommand `find`, which writes the certificate of a font file
 abbrev pub find : App

@@ -33,7 +33,7 @@ pub data Request : Type 0 where
   bare : Text → ℕ → ℕ → ℕ → Option Text → Profile → Request
   verdict : Text → Option ℕ → Profile → Request
   scan : List Text → ScanOptions → Request
-  explain : Text → Text → Option ℕ → Profile → Request
+  explain : Text → Text → Option ℕ → Option ℕ → Profile → Request
   find : Text → Text → Option ℕ → Request
   check : Text → Text → Option ℕ → Request
   list : Text → Text → Request
@@ -119,7 +119,7 @@ bare_request rows =
 -- what `explain` asks for, by what its arguments got
 unfoldable pub explain_request : List Row → Request
 explain_request rows = explain (text_in rows (codes "FONT")) (text_in rows (codes "PROGRAM"))
-    (optional_number_in rows (codes "OFFSET")) (profile_in rows)
+    (optional_number_in rows (codes "OFFSET")) (points_in rows) (profile_in rows)
 
 -- the verdict on one font as an object of JSON, which is a scan of that font
 abbrev pub json_request : List Row → Request
@@ -217,6 +217,7 @@ pub record IsReadable (found : Text × List Row) : Type 0 where
   pub offset : found.0 ≡ codes "explain" → HasOffset found.1
   pub of_verdict : found.0 ≡ codes "verdict" → HasPoints found.1
   pub of_scan : found.0 ≡ codes "scan" → HasPoints found.1
+  pub of_explain : found.0 ≡ codes "explain" → HasPoints found.1
   pub of_find : found.0 ≡ codes "find" → HasPoints found.1
   pub of_check : found.0 ≡ codes "check" → HasPoints found.1
   pub profile_of_bare : found.0 ≡ codes "bare" → HasProfile found.1
@@ -237,8 +238,8 @@ asked (task.Bare maxp cvt points contours program profile) =
 asked (task.Verdict font budget profile) = verdict (string_bytes font) budget profile
 asked (task.Scan fonts options) =
     scan (map (λ s. string_bytes s) fonts.items) options
-asked (task.Explain font program offset profile) =
-    explain (string_bytes font) (string_bytes program) offset profile
+asked (task.Explain font program offset budget profile) =
+    explain (string_bytes font) (string_bytes program) offset budget profile
 asked (task.Find font certificate budget) =
     find (string_bytes font) (string_bytes certificate) budget
 asked (task.Check font certificate budget) =

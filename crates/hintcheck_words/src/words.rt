@@ -94,6 +94,8 @@ pub enum Task {
         program: String,
         /// At which of its offsets; None where it is left out.
         offset: Option<u32>,
+        /// How many points may be made; None where that isn't limited.
+        budget: Option<u64>,
         /// By which profile it is checked.
         profile: Profile,
     },
@@ -422,6 +424,10 @@ fn explain_command<'a>(alloc: Global) -> Result<Command<'a>, AllocError>
         .arg(needed(alloc, font, font_help))?
         .arg(needed(alloc, program, program_help))?
         .arg(offset_argument(alloc))?
+        .arg(points_option(
+            alloc,
+            "How many points may be made; without it, as many as it takes",
+        ))?
         .arg(symbolic_option(alloc))
 }
 
@@ -592,6 +598,7 @@ fn bare_task(alloc: Global, values: &ArgMatches<'_>) -> Result<Task, AllocError>
 /// If memory runs out.
 fn explain_task(alloc: Global, values: &ArgMatches<'_>) -> Result<Task, AllocError>
     requires offset { HasOffset (rows_in values.now) }
+    requires points { HasPoints (rows_in values.now) }
     requires profile { HasProfile (rows_in values.now) }
     ensures { IfOk result (λ t. asked t ≡ explain_request (rows_in values.now)) }
 {
@@ -599,6 +606,7 @@ fn explain_task(alloc: Global, values: &ArgMatches<'_>) -> Result<Task, AllocErr
         font: text(alloc, values, "FONT")?,
         program: text(alloc, values, "PROGRAM")?,
         offset: optional_number(values, "OFFSET"),
+        budget: points(values),
         profile: asked_profile(values),
     })
 }

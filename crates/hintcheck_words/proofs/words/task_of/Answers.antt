@@ -26,7 +26,7 @@ unfolding request_of requests
 returns-in-scan c = IfOk-weaker c.scan_task.result _ _ (λ t h. rw c.in-scan.is (ap (λ (r : Request). Some r) (sym h))) c.scan_task.ensures
 
 pub explain_task-requires : goal.explain_task-requires
-explain_task-requires c = record { offset = c.requires.offset c.in-explain.is; profile = c.requires.profile_of_explain c.in-explain.is }
+explain_task-requires c = record { offset = c.requires.offset c.in-explain.is; points = c.requires.of_explain c.in-explain.is; profile = c.requires.profile_of_explain c.in-explain.is }
 
 pub returns-in-explain : goal.returns-in-explain
 unfolding request_of requests
