@@ -77,10 +77,20 @@ abbrev pub fault_of_verdict : VerdictFault → CommandFault
 fault_of_verdict (judging.Font font) = fault.Font (record { 0 = font; 1 = Other })
 fault_of_verdict judging.Budget = fault.Budget
 
+-- what ended the work without an answer
+abbrev pub fault_of_end : Exhausted → CommandFault
+fault_of_end exhausted.Memory = fault.OutOfMemory
+fault_of_end exhausted.Budget = fault.Budget
+
+-- the fault where no budget was given: the greatest one's end is told as out of memory
+abbrev pub unlimited : CommandFault → CommandFault
+unlimited fault.Budget = fault.OutOfMemory
+unlimited other = other
+
 -- the fault of a program that isn't explained
 abbrev pub fault_of_explain : ExplainFault → CommandFault
 fault_of_explain (explaining.Write failed) = fault_of_print failed
-fault_of_explain (explaining.OutOfMemory error) = fault.OutOfMemory
+fault_of_explain (explaining.Exhausted by) = fault_of_end by
 
 -- the fault of a certificate that isn't upgraded
 abbrev pub fault_of_upgrade : UpgradeFault → CommandFault

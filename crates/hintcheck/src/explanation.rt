@@ -6,7 +6,7 @@ ghost use Rattle.tt_abs.specs.Settings.{setting_of};
 ghost use Rattle.tt_abs.specs.StateFlow.{FunctionsFit};
 ghost use Rattle.hintcheck_explain.specs.Faults.{AsksForInstruction};
 ghost use Rattle.hintcheck.specs.Commands.{TellsFailure};
-ghost use Rattle.hintcheck.specs.CommandFaults.{IsFaultOfExplaining, IsFaultOfLines};
+ghost use Rattle.hintcheck.specs.CommandFaults.{IsFaultOfExplaining, IsFaultOfExplanation, IsFaultOfLines, IsWithin};
 ghost use Rattle.hintcheck.specs.Explanations.{HasPlace, HasPlaceIn, HoldAcceptedProgram, HoldPlace, HoldRefusedProgram, IsAnswered, IsRefusedIn, Refuses, TellsProgram};
 ghost use Rattle.hintcheck_fonts.specs.FontPrograms.{IsFontInRange};
 ghost use Rattle.hintcheck.specs.Listing.{program_in};
@@ -38,6 +38,7 @@ fn explain_in<O: Sink>(
     alloc: Global,
     setting: &Setting<'_>,
     asked: Asked,
+    budget: &mut Budget,
     out: &mut O,
 ) -> Result<Explained, CommandFault>
     requires ascends { Ascends setting.now.start.now }
@@ -45,10 +46,10 @@ fn explain_in<O: Sink>(
     requires place { AsksForInstruction setting.now asked }
     ensures answered { (x : Subject) → IsSubjectOf x setting.now → IfOk result (IsAnswered x) }
     ensures failures { TellsFailure result (O.failures out.old) (O.failures out.new) }
-    ensures faults { IfErr result IsFaultOfLines }
+    ensures faults { IfErr result IsFaultOfExplanation }
 {
     setting.range_facts();
-    let explained = explain(alloc, setting, asked, out)?;
+    let explained = explain(alloc, setting, asked, budget, out)?;
     Ok(explained)
 }
 
@@ -78,6 +79,7 @@ fn tell_next<O: Sink>(
     programs: &FontPrograms<'_>,
     next: Next<'_>,
     offset: Option<u32>,
+    budget: &mut Budget,
     out: &mut O,
 ) -> Result<Explained, CommandFault>
     requires next { IsNext programs.now.font.now (stage_of programs.now) next }
@@ -87,7 +89,7 @@ fn tell_next<O: Sink>(
         → next_program programs.now.font.now (stage_of programs.now) ≡ Some x → IfOk result
         (IsAnswered (with_start x (start_at (stage_of programs.now)))) }
     ensures failures { TellsFailure result (O.failures out.old) (O.failures out.new) }
-    ensures faults { IfErr result IsFaultOfLines }
+    ensures faults { IfErr result IsFaultOfExplanation }
 {
     let asked = Asked {
         program: next.name,
@@ -99,7 +101,7 @@ fn tell_next<O: Sink>(
                 start: programs.start(),
                 ..programs.setting(next.kind, &program)
             };
-            explain_in(alloc, &started, asked, out)
+            explain_in(alloc, &started, asked, budget, out)
         }
         Err(fault) => {
             explain_uncut(asked, next.bytes, fault, out)?;
@@ -155,12 +157,13 @@ fn refused_by(outcome: Option<Outcome>) -> Option<Refused>
 /// the refused one among them, if one is.
 ///
 /// # Errors
-/// `OutOfMemory`.
+/// `OutOfMemory`; `Budget`.
 fn refused_before<'a>(
     alloc: Global,
     programs: &mut FontPrograms<'a>,
     judge: &mut Finding,
     called: Name,
+    budget: &mut Budget,
 ) -> Result<Option<Refused>, CommandFault>
     requires range { IsFontInRange programs.old.font.now }
     requires start { stage_of programs.old ≡ at_start }
@@ -170,13 +173,10 @@ fn refused_before<'a>(
         (λ refused. IfSome refused (λ _. IsRefusedIn programs.new.font.now called)) }
     ensures there { IfOk result (λ refused. refused ≡ None
         → IsAt programs.new.font.now called (stage_of programs.new)) }
-    ensures faults { IfErr result (λ fault. fault ≡ CommandFault.OutOfMemory) }
+    ensures faults { IfErr result IsFaultOfExplanation }
 {
-    let mut budget = Budget::unlimited();
     while !programs.is_at(called) {
-        let Ok(outcome) = programs.judge_next(alloc, judge, &mut budget) else {
-            return Err(CommandFault::OutOfMemory);
-        };
+        let outcome = programs.judge_next(alloc, judge, budget)?;
         if let Some(refused) = refused_by(outcome) {
             return Ok(Some(refused));
         }
@@ -192,6 +192,7 @@ fn explain_judged<'a, O: Sink>(
     judge: &mut Finding,
     called: Name,
     offset: Option<u32>,
+    budget: &mut Budget,
     out: &mut O,
 ) -> Result<u8, CommandFault>
     requires range { IsFontInRange programs.old.font.now }
@@ -201,13 +202,13 @@ fn explain_judged<'a, O: Sink>(
     ensures status { IfOk result (λ status. status ≤ 1) }
     ensures tells { IfOk result (TellsProgram programs.old.font.now called) }
     ensures failures { TellsFailure result (O.failures out.old) (O.failures out.new) }
-    ensures faults { IfErr result IsFaultOfLines }
+    ensures faults { IfErr result IsFaultOfExplanation }
 {
-    if let Some(refused) = refused_before(alloc, programs, judge, called)? {
+    if let Some(refused) = refused_before(alloc, programs, judge, called, budget)? {
         return tell_unchecked(refused, out);
     }
     let next = programs.next().unwrap();
-    let explained = tell_next(alloc, programs, next, offset, out)?;
+    let explained = tell_next(alloc, programs, next, offset, budget, out)?;
     Ok(exit_status(explained))
 }
 
@@ -217,6 +218,7 @@ fn explain_named<O: Sink>(
     font: &Font<'_>,
     called: Name,
     offset: Option<u32>,
+    budget: &mut Budget,
     out: &mut O,
 ) -> Result<u8, CommandFault>
     requires range { IsFontInRange font.now }
@@ -225,26 +227,29 @@ fn explain_named<O: Sink>(
     ensures status { IfOk result (λ status. status ≤ 1) }
     ensures tells { IfOk result (TellsProgram font.now called) }
     ensures failures { TellsFailure result (O.failures out.old) (O.failures out.new) }
-    ensures faults { IfErr result IsFaultOfLines }
+    ensures faults { IfErr result IsFaultOfExplanation }
 {
     let mut programs = Programs::new(font);
     let mut judge = Finding::new(alloc, Search::Verdict);
-    explain_judged(alloc, &mut programs, &mut judge, called, offset, out)
+    explain_judged(
+        alloc,
+        &mut programs,
+        &mut judge,
+        called,
+        offset,
+        budget,
+        out,
+    )
 }
 
-/// Explains one program of the font in these bytes, the one that the word names, and returns the
-/// exit status: 0 accepted; 1 where it is refused, or isn't checked since the font program or the
-/// CVT program is refused. With an offset the explanation tells what is known there.
-///
-/// # Errors
-/// The faults of `Font::read`; `ProgramName` where the word is the name of none of the font's
-/// programs; `OffsetWord` where no instruction of the program begins at the offset, whether or not
-/// the program is checked; `Write` exactly where a write to `out` failed; `OutOfMemory`.
-pub fn explain_program<O: Sink>(
+/// Explains one program of the font in these bytes, the one that the word names, as
+/// `explain_program` does, within a budget.
+fn explain_word<O: Sink>(
     alloc: Global,
     font: &[u8],
     word: &str,
     offset: Option<u32>,
+    budget: &mut Budget,
     out: &mut O,
 ) -> Result<u8, CommandFault>
     ensures status { IfOk result (λ status. status ≤ 1) }
@@ -259,8 +264,45 @@ pub fn explain_program<O: Sink>(
     match named_program(&read, word) {
         Some(named) => {
             check_offset(alloc, named.bytes, offset)?;
-            explain_named(alloc, &read, named.name, offset, out)
+            explain_named(alloc, &read, named.name, offset, budget, out)
         }
         None => Err(CommandFault::ProgramName),
     }
+}
+
+/// Explains one program of the font in these bytes, the one that the word names, and returns the
+/// exit status: 0 accepted; 1 where it is refused, or isn't checked since the font program or the
+/// CVT program is refused. With an offset the explanation tells what is known there. At most this
+/// many points are made, where they are bounded: also for the programs before the named one, and for
+/// the searches with greater limits by which a refused one is explained.
+///
+/// # Errors
+/// The faults of `Font::read`; `ProgramName` where the word is the name of none of the font's
+/// programs; `OffsetWord` where no instruction of the program begins at the offset, whether or not
+/// the program is checked; `Write` exactly where a write to `out` failed; `OutOfMemory`; `Budget`,
+/// where points are bounded and more were to be made.
+pub fn explain_program<O: Sink>(
+    alloc: Global,
+    font: &[u8],
+    word: &str,
+    offset: Option<u32>,
+    budget: Option<u64>,
+    out: &mut O,
+) -> Result<u8, CommandFault>
+    ensures status { IfOk result (λ status. status ≤ 1) }
+    ensures accepted { IfOk result
+        (λ status. status ≡ 0 → HoldAcceptedProgram font.now word.now) }
+    ensures refused { IfOk result (λ status. status ≡ 1 → HoldRefusedProgram font.now word.now) }
+    ensures failures { TellsFailure result (O.failures out.old) (O.failures out.new) }
+    ensures faults { IfErr result
+        (λ fault. IsFaultOfExplaining font.now word.now offset fault × IsWithin budget fault) }
+    ensures none { OnOk result (HoldPlace font.now word.now offset) }
+{
+    let Some(most) = budget else {
+        return match explain_word(alloc, font, word, offset, &mut Budget::unlimited(), out) {
+            Ok(status) => Ok(status),
+            Err(fault) => Err(fault.without_budget()),
+        };
+    };
+    explain_word(alloc, font, word, offset, &mut Budget::of(most), out)
 }

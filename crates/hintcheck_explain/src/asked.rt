@@ -2,6 +2,7 @@
 
 use std::alloc::AllocError;
 use thiserror::Error;
+use tt_abs::Exhausted;
 use tt_cert::Name;
 use tt_stream::PrintFailed;
 
@@ -26,9 +27,9 @@ pub enum ExplainFault {
     /// The text wasn't printed.
     #[error("{0}")]
     Write(PrintFailed),
-    /// A growth of memory was refused.
-    #[error("out of memory")]
-    OutOfMemory(AllocError),
+    /// Memory ran out, or the budget did.
+    #[error(transparent)]
+    Exhausted(Exhausted),
 }
 
 impl From<PrintFailed> for ExplainFault {
@@ -42,13 +43,25 @@ impl From<PrintFailed> for ExplainFault {
     }
 }
 
-impl From<AllocError> for ExplainFault {
+impl From<Exhausted> for ExplainFault {
     ghost use Rattle.std.specs.Prelude.{◌≡◌};
     ghost use Rattle.hintcheck_explain.specs.declared.asked.ExplainFault.{ExplainFault};
 
-    ghost from_gives = { λ error fault. fault ≡ ExplainFault.OutOfMemory error };
+    ghost from_gives = { λ by fault. fault ≡ ExplainFault.Exhausted by };
 
-    fn from(error: AllocError) -> ExplainFault {
-        ExplainFault::OutOfMemory(error)
+    fn from(exhausted: Exhausted) -> ExplainFault {
+        ExplainFault::Exhausted(exhausted)
+    }
+}
+
+impl From<AllocError> for ExplainFault {
+    ghost use Rattle.std.specs.Prelude.{◌≡◌};
+    ghost use Rattle.hintcheck_explain.specs.declared.asked.ExplainFault.{ExplainFault};
+    ghost use Rattle.tt_abs.specs.declared.exhausted.Exhausted.{Exhausted as By};
+
+    ghost from_gives = { λ error fault. fault ≡ ExplainFault.Exhausted By.Memory };
+
+    fn from(_error: AllocError) -> ExplainFault {
+        ExplainFault::Exhausted(Exhausted::Memory)
     }
 }

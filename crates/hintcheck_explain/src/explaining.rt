@@ -14,8 +14,9 @@ use crate::needs::tell_needs;
 use crate::reached::tell_contexts;
 use crate::refusal::tell_refusal;
 use hintcheck_report::{Place, Refused};
-use std::alloc::{AllocError, Global};
+use std::alloc::Global;
 use tt_abs::{Failed, Refusal, Setting, Spot};
+use tt_family::Budget;
 use tt_find::explore;
 use tt_stream::Sink;
 
@@ -77,14 +78,16 @@ fn explain_refused<O: Sink>(
 
 /// Explains a program that could be cut and is structured: how much it takes, or why it is refused.
 /// Where an offset is asked for, at which an instruction of the program has to begin, it tells what
-/// is known there, and of a refusal only its place and its reason.
+/// is known there, and of a refusal only its place and its reason. At most as many points are made as
+/// the budget allows.
 ///
 /// # Errors
-/// `Write` where the text wasn't printed; `OutOfMemory`.
+/// `Write` where the text wasn't printed; `Exhausted`.
 pub fn explain<O: Sink>(
     alloc: Global,
     setting: &Setting<'_>,
     asked: Asked,
+    budget: &mut Budget,
     out: &mut O,
 ) -> Result<Explained, ExplainFault>
     requires ascends { Ascends setting.now.start.now }
@@ -94,7 +97,7 @@ pub fn explain<O: Sink>(
     ensures refused { result ≡ Ok Explained.Refused → HasRefusal setting.now }
     ensures failures { TellsFailure result (O.failures out.old) (O.failures out.new) }
 {
-    let explored = explore(alloc, setting)?;
+    let explored = explore(alloc, setting, budget)?;
     let subject = ExploredProgram {
         name: asked.program,
         setting: &*setting,
@@ -113,9 +116,9 @@ pub fn explain<O: Sink>(
             },
         ) => {
             explain_refused(alloc, &subject, asked, spot, offset, failed, out)?;
-            tell_needs(alloc, setting, asked, failed.reason(), out)?;
+            tell_needs(alloc, setting, asked, failed.reason(), budget, out)?;
             Ok(Explained::Refused)
         }
-        Some(Refusal::Exhausted(_)) => Err(ExplainFault::OutOfMemory(AllocError)),
+        Some(Refusal::Exhausted(by)) => Err(ExplainFault::from(by)),
     }
 }

@@ -9,10 +9,11 @@ ghost use Rattle.hintcheck_explain.specs.Faults.{TellsFailure};
 
 use crate::asked::{Asked, ExplainFault};
 use hintcheck_report::Place;
-use std::alloc::{AllocError, Global};
+use std::alloc::Global;
 use std::fmt;
-use tt_abs::{Refusal, Setting};
+use tt_abs::{Exhausted, Refusal, Setting};
 use tt_code::{Limits, Reason};
+use tt_family::Budget;
 use tt_find::explore;
 use tt_stream::Sink;
 
@@ -84,17 +85,23 @@ fn fault_with(
     setting: &Setting<'_>,
     limit: Limit,
     number: u16,
-) -> Result<Option<Refusal>, AllocError>
+    budget: &mut Budget,
+) -> Result<Option<Refusal>, Exhausted>
     requires ascends { Ascends setting.now.start.now }
     requires fits { FunctionsFit (setting_of setting.now) setting.now.start.now }
 {
     let raised = with_limit(setting, limit, number);
-    Ok(explore(alloc, &raised)?.into_fault())
+    Ok(explore(alloc, &raised, budget)?.into_fault())
 }
 
 /// Returns the least number of the limit with which the program is accepted, where it is with the
 /// greatest one.
-fn least_number(alloc: Global, setting: &Setting<'_>, limit: Limit) -> Result<u16, AllocError>
+fn least_number(
+    alloc: Global,
+    setting: &Setting<'_>,
+    limit: Limit,
+    budget: &mut Budget,
+) -> Result<u16, Exhausted>
     requires ascends { Ascends setting.now.start.now }
     requires fits { FunctionsFit (setting_of setting.now) setting.now.start.now }
 {
@@ -106,7 +113,7 @@ fn least_number(alloc: Global, setting: &Setting<'_>, limit: Limit) -> Result<u1
             break;
         }
         let middle = refused.saturating_add(between);
-        match fault_with(alloc, setting, limit, middle)? {
+        match fault_with(alloc, setting, limit, middle, budget)? {
             None => accepted = middle,
             Some(_) => refused = middle,
         }
@@ -121,6 +128,7 @@ pub(crate) fn tell_needs<O: Sink>(
     setting: &Setting<'_>,
     asked: Asked,
     reason: Reason,
+    budget: &mut Budget,
     out: &mut O,
 ) -> Result<(), ExplainFault>
     requires ascends { Ascends setting.now.start.now }
@@ -133,9 +141,9 @@ pub(crate) fn tell_needs<O: Sink>(
     if asked.offset.is_some() {
         return Ok(());
     }
-    match fault_with(alloc, setting, limit, u16::MAX)? {
+    match fault_with(alloc, setting, limit, u16::MAX, budget)? {
         None => {
-            let least = least_number(alloc, setting, limit)?;
+            let least = least_number(alloc, setting, limit, budget)?;
             writeln!(
                 out,
                 "What it needs: it is accepted where {limit} is at least {least}."
@@ -158,6 +166,6 @@ pub(crate) fn tell_needs<O: Sink>(
             )?;
             Ok(())
         }
-        Some(Refusal::Exhausted(_)) => Err(ExplainFault::OutOfMemory(AllocError)),
+        Some(Refusal::Exhausted(by)) => Err(ExplainFault::from(by)),
     }
 }

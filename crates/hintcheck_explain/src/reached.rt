@@ -61,7 +61,7 @@ fn next_context<'a>(
 /// and whether there are more of these; or that there is none.
 ///
 /// # Errors
-/// `Write` where the text wasn't printed; `OutOfMemory`.
+/// `Write` where the text wasn't printed; `Exhausted`.
 pub(crate) fn tell_contexts<O: Sink>(
     alloc: Global,
     subject: &ExploredProgram<'_>,

@@ -210,7 +210,7 @@ fn tell_case<O: Sink>(
 /// Explains why a program is refused at an offset of a spot.
 ///
 /// # Errors
-/// `Write` where the text wasn't printed; `OutOfMemory`.
+/// `Write` where the text wasn't printed; `Exhausted`.
 pub(crate) fn tell_refusal<O: Sink>(
     alloc: Global,
     subject: &ExploredProgram<'_>,

@@ -242,7 +242,7 @@ fn tell_refused<O: Sink>(
 /// search knows there, and of a refusal only its place and its reason.
 ///
 /// # Errors
-/// `Write` where the text wasn't printed; `OutOfMemory`.
+/// `Write` where the text wasn't printed; `Exhausted`.
 pub fn explain_symbolic<O: Sink>(
     alloc: Global,
     setting: &Setting<'_>,

@@ -15,7 +15,7 @@ use anyhow::{Context as _, Result, bail, ensure};
 use std::alloc::{AllocError, Global};
 use tt_abs::{Kind, Refusal, Setting, State};
 use tt_code::Frame;
-use tt_family::{Builder, Certificate, ContextFault, check, check_full};
+use tt_family::{Budget, Builder, Certificate, ContextFault, check, check_full};
 use tt_find::{Explored, Found, explore, find};
 use tt_test_fixtures::families::{add, join};
 
@@ -154,7 +154,7 @@ fn find_text(alloc: Global, setting: &Setting<'_>) -> Result<String>
     requires ascends { Ascends setting.now.start.now }
     requires fits { FunctionsFit (setting_of setting.now) setting.now.start.now }
 {
-    let points = explore(alloc, setting)?.found.certificate.points();
+    let points = explore(alloc, setting, &mut Budget::unlimited())?.found.certificate.points();
     match find(alloc, setting) {
         Ok(found) => found_text(alloc, setting, &found, points),
         Err(refusal) => Ok(refusal_text(alloc, &refusal)?),
@@ -176,7 +176,7 @@ fn explore_text(alloc: Global, setting: &Setting<'_>) -> Result<String>
     requires ascends { Ascends setting.now.start.now }
     requires fits { FunctionsFit (setting_of setting.now) setting.now.start.now }
 {
-    let explored = explore(alloc, setting)?;
+    let explored = explore(alloc, setting, &mut Budget::unlimited())?;
     explored_text(alloc, &explored)
 }
 

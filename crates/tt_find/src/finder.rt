@@ -461,11 +461,15 @@ pub fn find(alloc: Global, setting: &Setting<'_>) -> Result<Found, Refusal>
 
 /// Finds the least family as `find` does, with a state at each point that the search comes to, and
 /// keeps what it has found where a fault ends the search: the fault's point has its state then,
-/// unless the program is too long.
+/// unless the program is too long. At most as many points are made as the budget allows.
 ///
 /// # Errors
-/// If memory runs out.
-pub fn explore(alloc: Global, setting: &Setting<'_>) -> Result<Explored, AllocError>
+/// What ended the search without an answer.
+pub fn explore(
+    alloc: Global,
+    setting: &Setting<'_>,
+    budget: &mut Budget,
+) -> Result<Explored, Exhausted>
     requires ascends { Ascends setting.now.start.now }
     requires fits { FunctionsFit (setting_of setting.now) setting.now.start.now }
     ensures filling { IfOk result (λ explored. explored.fault ≡ None
@@ -476,13 +480,14 @@ pub fn explore(alloc: Global, setting: &Setting<'_>) -> Result<Explored, AllocEr
         (IsJustifiedFor setting.now)) }
     ensures none_good { IfOk result (λ explored. IfSome explored.fault
         (TellsNoneIsGood setting.now)) }
+    ensures spends { Spends budget.old budget.new }
 {
     let mut solver = Solver::new(alloc);
     let kept = KeptStates::Everywhere;
-    let outcome = find_fixpoint(alloc, &mut solver, setting, kept, &mut Budget::unlimited());
+    let outcome = find_fixpoint(alloc, &mut solver, setting, kept, budget);
     let builder = mem::replace(&mut solver.builder, Builder::new(alloc));
     let Ok(certificate) = builder.finish() else {
-        return Err(AllocError);
+        return Err(Exhausted::Memory);
     };
     match outcome {
         Ok(updates) => Ok(Explored {
@@ -492,7 +497,7 @@ pub fn explore(alloc: Global, setting: &Setting<'_>) -> Result<Explored, AllocEr
             },
             fault: None,
         }),
-        Err(Refusal::Exhausted(_)) => Err(AllocError),
+        Err(Refusal::Exhausted(by)) => Err(by),
         Err(fault) => Ok(Explored {
             found: Found {
                 certificate,

@@ -82,7 +82,7 @@ fn inputs_of(alloc: Global, setting: &Setting<'_>) -> Option<Inputs>
     Some(Inputs {
         large,
         found,
-        full: explore(alloc, setting).ok()?,
+        full: explore(alloc, setting, &mut Budget::unlimited()).ok()?,
         section: sink.into_inner(),
     })
 }

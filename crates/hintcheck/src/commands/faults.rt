@@ -316,6 +316,19 @@ impl From<FindFontFault> for CommandFault {
     }
 }
 
+impl From<Exhausted> for CommandFault {
+    ghost use Rattle.hintcheck.specs.Commands.{fault_of_end};
+
+    ghost from_gives = { λ by fault. fault ≡ fault_of_end by };
+
+    fn from(exhausted: Exhausted) -> CommandFault {
+        match exhausted {
+            Exhausted::Memory => CommandFault::OutOfMemory,
+            Exhausted::Budget => CommandFault::Budget,
+        }
+    }
+}
+
 impl From<ExplainFault> for CommandFault {
     ghost use Rattle.hintcheck.specs.Commands.{fault_of_explain};
 
@@ -324,7 +337,7 @@ impl From<ExplainFault> for CommandFault {
     fn from(fault: ExplainFault) -> CommandFault {
         match fault {
             ExplainFault::Write(failed) => CommandFault::from(failed),
-            ExplainFault::OutOfMemory(AllocError) => CommandFault::OutOfMemory,
+            ExplainFault::Exhausted(by) => CommandFault::from(by),
         }
     }
 }
