@@ -2,6 +2,7 @@ pub mod Texts
 pub mod Listing
 pub mod Explanations
 pub mod Commands
+pub mod Containers
 pub mod SymbolicAnswers
 pub mod SymbolicExplanations
 pub mod MeansSafe

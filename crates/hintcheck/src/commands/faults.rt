@@ -2,6 +2,7 @@
 
 ghost use Rattle.std.specs.Prelude.{◌≡◌, ◌≤◌};
 ghost use Rattle.hintcheck.specs.Commands.{IsNoWriteFault, fault_of_word, status_of};
+ghost use Rattle.hintcheck.specs.Containers.{container_beside, container_of};
 
 use hintcheck_explain::ExplainFault;
 use hintcheck_fonts::certificate::FindFontFault;
@@ -41,13 +42,19 @@ pub enum Container {
 impl Container {
     /// Returns what the file with these bytes holds, by those with which it begins (OpenType
     /// specification, "Font collections"; WOFF 1.0 and 2.0, "WOFF header").
-    fn of(bytes: &[u8]) -> Container {
-        match bytes {
-            [b'O', b'T', b'T', b'O', ..] => Container::Cff,
-            [b't', b't', b'c', b'f', ..] => Container::Collection,
-            [b'w', b'O', b'F', b'F', ..] => Container::Woff,
-            [b'w', b'O', b'F', b'2', ..] => Container::Woff2,
-            _ => Container::Other,
+    fn of(bytes: &[u8]) -> Container
+        ensures { result ≡ container_of bytes.now }
+    {
+        if bytes.starts_with(b"OTTO") {
+            Container::Cff
+        } else if bytes.starts_with(b"ttcf") {
+            Container::Collection
+        } else if bytes.starts_with(b"wOFF") {
+            Container::Woff
+        } else if bytes.starts_with(b"wOF2") {
+            Container::Woff2
+        } else {
+            Container::Other
         }
     }
 }
@@ -77,7 +84,8 @@ impl Numbered {
     /// Returns the fault of the font in these bytes. Only of a file that isn't an sfnt file it is
     /// told what it holds.
     pub(crate) fn of(fault: FontFault, bytes: &[u8]) -> Numbered
-        ensures { result.0 ≡ fault }
+        ensures fault { result.0 ≡ fault }
+        ensures beside { result.1 ≡ container_beside fault bytes.now }
     {
         match fault {
             FontFault::NotSfnt => Numbered(fault, Container::of(bytes)),
