@@ -217,7 +217,7 @@ IsFaultOfRequest (find font certificate budget) reported =
     IsFaultOfFinding font certificate reported × IsWithin budget reported
 IsFaultOfRequest (check font certificate budget) reported =
     IsFaultOfChecking reported × IsWithin budget reported
-IsFaultOfRequest (list font program) reported = IsFaultOfFileListing program reported
+IsFaultOfRequest (list font program detail) reported = IsFaultOfFileListing program reported
 IsFaultOfRequest (upgrade old new) reported = IsFaultOfUpgrading old new reported
 
 -- The words of `bare` have no fault; that of `scan` names a class of reasons, if it is given; those
@@ -231,7 +231,7 @@ HasNoFault (scan fonts options) = options.fail_on ≢ Unknown
 HasNoFault (explain font program offset profile) = (bytes : List ℕ) × HoldPlace bytes program offset
 HasNoFault (find font certificate budget) = font ≢ certificate
 HasNoFault (check font certificate budget) = Unit {0}
-HasNoFault (list font program) = Unit {0}
+HasNoFault (list font program detail) = Unit {0}
 HasNoFault (upgrade old new) = old ≢ new
 
 -- the request has this fault; or it has none, and its answer isn't printed
