@@ -11,8 +11,9 @@ use Rattle.hintcheck_words.specs.declared.words.ScanOptions.{ScanOptions}
 use Rattle.hintcheck.specs.Commands.{ReadsToEnd, status_of}
 use Rattle.hintcheck.specs.Containers.{container_beside}
 use Rattle.hintcheck_fonts.specs.BarePrograms.{IsMemory}
-use Rattle.hintcheck.specs.Explanations.{HoldNoSuchPlace, HoldPlace}
+use Rattle.hintcheck.specs.Explanations.{HoldPlace}
 use Rattle.hintcheck.specs.Listing.{HoldNoSuchProgram}
+use Rattle.hintcheck.specs.Neighbours.{HoldNoSuchPlace}
 use Rattle.hintcheck.specs.declared.commands.faults.CommandFault.{CommandFault}
 use Rattle.hintcheck.specs.declared.commands.faults.Container.TheVariants.{Other}
 use Rattle.hintcheck.specs.declared.commands.faults.Numbered.{Numbered}
@@ -193,7 +194,8 @@ IsFaultOfFileListing word reported =
 abbrev pub IsFaultOfExplaining : List ℕ → List ℕ → Option ℕ → CommandFault → Type 0
 IsFaultOfExplaining bytes word offset (fault.Font numbered) = IsFaultOfFont bytes numbered
 IsFaultOfExplaining bytes word offset fault.ProgramName = HoldNoSuchProgram bytes word
-IsFaultOfExplaining bytes word offset fault.OffsetWord = HoldNoSuchPlace bytes word offset
+IsFaultOfExplaining bytes word offset (fault.OffsetWord told) =
+    HoldNoSuchPlace bytes word offset told
 IsFaultOfExplaining bytes word offset fault.OutOfMemory = Unit {0}
 IsFaultOfExplaining bytes word offset other =
     HoldPlace bytes word offset × IsFaultOfPrinting other

@@ -6,6 +6,7 @@ pub mod Containers
 pub mod SymbolicAnswers
 pub mod SymbolicExplanations
 pub mod MeansSafe
+pub mod Neighbours
 pub mod Printed
 pub mod CommandFaults
 pub mod FaultTexts

@@ -7,6 +7,7 @@ mod commands;
 mod explanation;
 mod font_file;
 mod instruction_list;
+mod neighbours;
 mod pushed_numbers;
 mod symbolic_explanation;
 
@@ -22,6 +23,7 @@ pub use hintcheck_words::{
     Detail, FailOn, Format, Profile, ScanOptions, Task, TaskFault, WordFault, read_words, word_bytes,
 };
 pub use instruction_list::list_program;
+pub use neighbours::{Neighbour, Neighbours};
 pub use symbolic_explanation::explain_program_symbolic;
 pub use tt_family::Budget;
 pub use tt_font::{FontFault, Tag, read_maxp};

@@ -4,6 +4,7 @@ ghost use Rattle.std.specs.Prelude.{◌≡◌, ◌≤◌};
 ghost use Rattle.hintcheck.specs.Commands.{IsNoWriteFault, fault_of_word, status_of};
 ghost use Rattle.hintcheck.specs.Containers.{container_beside, container_of};
 
+use crate::neighbours::Neighbours;
 use hintcheck_explain::ExplainFault;
 use hintcheck_fonts::certificate::FindFontFault;
 use hintcheck_fonts::certificate_upgrade::UpgradeFault;
@@ -158,8 +159,8 @@ pub enum CommandFault {
     ProgramWord,
     /// The word of the program is the name of none of the font's programs.
     ProgramName,
-    /// No instruction of the program begins at the offset.
-    OffsetWord,
+    /// No instruction of the program begins at the offset; what is around it.
+    OffsetWord(Neighbours),
     /// The word for which programs a scan is to fail names no class of reasons.
     ClassWord,
     /// The font's file is to be its certificate's.
@@ -208,7 +209,7 @@ impl fmt::Display for CommandFault {
             CommandFault::ProgramName => {
                 write!(f, "words: PROGRAM: f, p, or g and the number of a glyph")
             }
-            CommandFault::OffsetWord => write!(f, "words: OFFSET"),
+            CommandFault::OffsetWord(told) => write!(f, "words: OFFSET{told}"),
             CommandFault::ClassWord => write!(f, "words: CLASS"),
             CommandFault::CertificateWord => {
                 write!(f, "words: CERT: the font would be written over")
