@@ -67,6 +67,16 @@ impl fmt::Display for Neighbours {
     }
 }
 
+/// Returns the instruction that begins at the offset.
+fn neighbour_at(program: &[u8], offset: u32) -> Neighbour
+    requires { BeginsInstruction program.now offset }
+    ensures instruction { IsInstructionOf program.now result }
+    ensures offset { result.offset ≡ offset }
+{
+    let code = program[offset as usize];
+    Neighbour { offset, code }
+}
+
 /// Returns the last instruction that begins before the offset, if one does.
 ///
 /// # Errors
@@ -85,8 +95,7 @@ fn last_before(
     while at > 0 {
         at -= 1;
         if begins_instruction(alloc, program, at)? {
-            let code = program[at as usize];
-            return Ok(Some(Neighbour { offset: at, code }));
+            return Ok(Some(neighbour_at(program, at)));
         }
     }
     Ok(None)
@@ -110,8 +119,7 @@ fn first_after(
     while (at as usize) < program.len() {
         at += 1;
         if begins_instruction(alloc, program, at)? {
-            let code = program[at as usize];
-            return Ok(Some(Neighbour { offset: at, code }));
+            return Ok(Some(neighbour_at(program, at)));
         }
     }
     Ok(None)

@@ -29,6 +29,15 @@ fn print_number<O: Sink>(out: &mut O, number: i32) -> Result<(), PrintFailed>
     write!(out, " {number}")
 }
 
+/// Prints the signed number of a word of two bytes after a space.
+fn print_word<O: Sink>(out: &mut O, high: u8, low: u8) -> Result<(), PrintFailed>
+    ensures written { OnOk result (Appends (O.contents out.old) (O.contents out.new)
+        (spaced (word_number high low))) }
+    ensures failures { CountsPrintFailure result (O.failures out.old) (O.failures out.new) }
+{
+    print_number(out, word_of(high, low))
+}
+
 /// Prints the numbers of bytes, one after the other.
 fn print_bytes<O: Sink>(out: &mut O, bytes: &[u8]) -> Result<(), PrintFailed>
     ensures written { OnOk result (Appends (O.contents out.old) (O.contents out.new)
@@ -49,23 +58,23 @@ fn print_words<O: Sink>(out: &mut O, bytes: &[u8]) -> Result<(), PrintFailed>
 {
     let mut rest = bytes;
     while let [high, low, after @ ..] = rest {
-        print_number(out, word_of(*high, *low))?;
+        print_word(out, *high, *low)?;
         rest = after;
     }
     Ok(())
 }
 
 /// Prints the numbers that the data of a push instruction spell.
-fn print_data<O: Sink>(out: &mut O, push: Push, data: &[u8]) -> Result<(), PrintFailed>
+fn print_data<O: Sink>(out: &mut O, push: Push, bytes: &[u8]) -> Result<(), PrintFailed>
     ensures written { OnOk result (Appends (O.contents out.old) (O.contents out.new)
-        (flat_map spaced (numbers_in push data.now))) }
+        (flat_map spaced (numbers_in push bytes.now))) }
     ensures failures { CountsPrintFailure result (O.failures out.old) (O.failures out.new) }
 {
     match push {
-        Push::CountedBytes => print_bytes(out, data),
-        Push::Bytes(_) => print_bytes(out, data),
-        Push::CountedWords => print_words(out, data),
-        Push::Words(_) => print_words(out, data),
+        Push::CountedBytes => print_bytes(out, bytes),
+        Push::Bytes(_) => print_bytes(out, bytes),
+        Push::CountedWords => print_words(out, bytes),
+        Push::Words(_) => print_words(out, bytes),
     }
 }
 
