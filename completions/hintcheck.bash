@@ -12,9 +12,10 @@ _hintcheck() {
         scan) options='--symbolic --points --fail-on --json --help' ;;
         find | check) options='--points --help' ;;
         explain | bare) options='--symbolic --help' ;;
+        list) options='--numbers --help' ;;
     esac
     case $command in
-        verdict | scan | explain | find | check)
+        verdict | scan | explain | find | check | list)
             if [[ $word == -* ]]; then
                 mapfile -t COMPREPLY < <(compgen -W "$options" -- "$word")
                 return
@@ -33,12 +34,12 @@ _hintcheck() {
                         mapfile -t COMPREPLY < <(compgen -W possible -- "${word#=}")
                         return
                     fi
-                elif [ "${COMP_WORDS[i]}" = --symbolic ] || [ "${COMP_WORDS[i]}" = --json ]; then
+                elif [[ ${COMP_WORDS[i]} = --@(symbolic|json|numbers) ]]; then
                     at=$((at - 1))
                 fi
             done
             ;;
-        list | upgrade | bare)
+        upgrade | bare)
             if [[ $word == -* ]]; then
                 mapfile -t COMPREPLY < <(compgen -W "$options" -- "$word")
                 return

@@ -10,3 +10,5 @@ pub mod ExplanationLemmas
 pub mod ProgramsBefore
 pub mod TellingFaults
 pub mod WrittenObjects
+pub mod CertificateFaults
+pub mod NeighbourLemmas

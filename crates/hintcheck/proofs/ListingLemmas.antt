@@ -13,6 +13,7 @@ use Rattle.tt_abs.specs.StateFlow.{Place}
 use Rattle.tt_cert.specs.declared.name.Name.{Name}
 use Rattle.tt_code.proofs.CutLemmas.{found_is, size-append, some_bytes}
 use Rattle.tt_code.proofs.StructureLaws.{found_iff_stands}
+use Rattle.hintcheck_words.specs.declared.words.Detail.{Detail}
 use Rattle.hintcheck.specs.Listing.{CannotBeListed, IsListedBefore, IsUnlistedAt, TellsUnlisted, hex_digits, line_of, lines_of, no_cut, no_structure, refused_in}
 use Rattle.hintcheck_fonts.specs.Programs.{IsCause, IsRefusal, Subject}
 use Rattle.hintcheck_fonts.specs.Programs as cause
@@ -29,38 +30,38 @@ digits_more bytes i h = rw (take_more bytes i 0 h) (flat_map_more digits_of_byte
 
 -- one more line
 
-lines_of-append : (offset : ℕ) (is : List Instruction) (i : Instruction) → lines_of offset (is ++ i ∷ []) ≡ lines_of offset is ++ line_of (offset + size is) i
-lines_of-append offset [] i =
-    let here : offset ≡ offset + 0 = omega arith in append-nil (line_of offset i) ∙ ap (λ k. line_of k i) here
-lines_of-append offset (j ∷ is) i =
+lines_of-append : (detail : Detail) (offset : ℕ) (is : List Instruction) (i : Instruction) → lines_of detail offset (is ++ i ∷ []) ≡ lines_of detail offset is ++ line_of detail (offset + size is) i
+lines_of-append detail offset [] i =
+    let here : offset ≡ offset + 0 = omega arith in append-nil (line_of detail offset i) ∙ ap (λ k. line_of detail k i) here
+lines_of-append detail offset (j ∷ is) i =
     let behind : offset + length j + size is ≡ offset + (length j + size is) = omega arith in
-    ap (λ t. line_of offset j ++ t) (lines_of-append (offset + length j) is i ∙ ap (λ k. lines_of (offset + length j) is ++ line_of k i) behind)
-    ∙ sym (append_assoc (line_of offset j) (lines_of (offset + length j) is) (line_of (offset + (length j + size is)) i))
+    ap (λ t. line_of detail offset j ++ t) (lines_of-append detail (offset + length j) is i ∙ ap (λ k. lines_of detail (offset + length j) is ++ line_of detail k i) behind)
+    ∙ sym (append_assoc (line_of detail offset j) (lines_of detail (offset + length j) is) (line_of detail (offset + (length j + size is)) i))
 
 -- nothing is listed first, then one instruction more, and at last all of them
 
-pub none_listed : (is : List Instruction) (old : Option (List ℕ)) → IsListedBefore is 0 old old
-none_listed is old = record { before = []; after = is; whole = refl; reached = refl; written = Appends-nil old }
+pub none_listed : (detail : Detail) (is : List Instruction) (old : Option (List ℕ)) → IsListedBefore detail is 0 old old
+none_listed detail is old = record { before = []; after = is; whole = refl; reached = refl; written = Appends-nil old }
 
-one_more : (is : List Instruction) (offset : ℕ) (old mid new : Option (List ℕ)) (i : Instruction) (before after : List Instruction) → is ≡ before ++ (i ∷ after) → size before ≡ offset
-    → Appends old mid (lines_of 0 before) → Appends mid new (line_of offset i) → IsListedBefore is (offset + length i) old new
-one_more is offset old mid new i before after whole reached written line = record {
+one_more : (detail : Detail) (is : List Instruction) (offset : ℕ) (old mid new : Option (List ℕ)) (i : Instruction) (before after : List Instruction) → is ≡ before ++ (i ∷ after) → size before ≡ offset
+    → Appends old mid (lines_of detail 0 before) → Appends mid new (line_of detail offset i) → IsListedBefore detail is (offset + length i) old new
+one_more detail is offset old mid new i before after whole reached written line = record {
   before = before ++ i ∷ [];
   after = after;
   whole = whole ∙ sym (append_assoc before (i ∷ []) after);
   reached = size-append before (i ∷ []) ∙ omega arith;
   written =
       let at : 0 + size before ≡ offset = omega arith in
-      let all = Appends-trans old mid new (lines_of 0 before) (line_of offset i) written line in
-      let same : lines_of 0 (before ++ i ∷ []) ≡ lines_of 0 before ++ line_of offset i = lines_of-append 0 before i ∙ ap (λ k. lines_of 0 before ++ line_of k i) at in
+      let all = Appends-trans old mid new (lines_of detail 0 before) (line_of detail offset i) written line in
+      let same : lines_of detail 0 (before ++ i ∷ []) ≡ lines_of detail 0 before ++ line_of detail offset i = lines_of-append detail 0 before i ∙ ap (λ k. lines_of detail 0 before ++ line_of detail k i) at in
       subst (Appends old new) (sym same) all;
 }
 
-pub next_listed : (is : List Instruction) (offset : ℕ) (i : Instruction) (old mid new : Option (List ℕ)) → AllByRecursion IsInstruction is → IsListedBefore is offset old mid
-    → instruction_at is offset ≡ Some i → offset + length i ≤ size is → Appends mid new (line_of offset i) → IsListedBefore is (offset + length i) old new
-next_listed is offset i old mid new each listed found within line = go listed.after listed.whole
+pub next_listed : (detail : Detail) (is : List Instruction) (offset : ℕ) (i : Instruction) (old mid new : Option (List ℕ)) → AllByRecursion IsInstruction is → IsListedBefore detail is offset old mid
+    → instruction_at is offset ≡ Some i → offset + length i ≤ size is → Appends mid new (line_of detail offset i) → IsListedBefore detail is (offset + length i) old new
+next_listed detail is offset i old mid new each listed found within line = go listed.after listed.whole
   where
-    go : (after : List Instruction) → is ≡ listed.before ++ after → IsListedBefore is (offset + length i) old new
+    go : (after : List Instruction) → is ≡ listed.before ++ after → IsListedBefore detail is (offset + length i) old new
     go [] whole =
         let all : size is ≡ size listed.before = ap size (whole ∙ append-nil listed.before) in
         let some : 0 < length i = some_bytes i (found_is is each offset i found) in
@@ -69,14 +70,14 @@ next_listed is offset i old mid new each listed found within line = go listed.af
         let stands : IsInstructionAt is offset j = record { before = listed.before; after = after; whole = whole; offset = listed.reached } in
         let there : instruction_at is offset ≡ Some j = (found_iff_stands is offset j each).1 stands in
         let same : j ≡ i = cc in
-        one_more is offset old mid new i listed.before after (whole ∙ ap (λ x. listed.before ++ (x ∷ after)) same) listed.reached listed.written line
+        one_more detail is offset old mid new i listed.before after (whole ∙ ap (λ x. listed.before ++ (x ∷ after)) same) listed.reached listed.written line
 
-pub all_listed : (is : List Instruction) (offset : ℕ) (old new : Option (List ℕ)) → IsListedBefore is offset old new → ((i : Instruction) → IsInstructionAt is offset i → ⊥)
-    → Appends old new (lines_of 0 is)
-all_listed is offset old new listed none = go listed.after listed.whole
+pub all_listed : (detail : Detail) (is : List Instruction) (offset : ℕ) (old new : Option (List ℕ)) → IsListedBefore detail is offset old new → ((i : Instruction) → IsInstructionAt is offset i → ⊥)
+    → Appends old new (lines_of detail 0 is)
+all_listed detail is offset old new listed none = go listed.after listed.whole
   where
-    go : (after : List Instruction) → is ≡ listed.before ++ after → Appends old new (lines_of 0 is)
-    go [] whole = subst (λ x. Appends old new (lines_of 0 x)) (sym (whole ∙ append-nil listed.before)) listed.written
+    go : (after : List Instruction) → is ≡ listed.before ++ after → Appends old new (lines_of detail 0 is)
+    go [] whole = subst (λ x. Appends old new (lines_of detail 0 x)) (sym (whole ∙ append-nil listed.before)) listed.written
     go (j ∷ after) whole = absurd (none j (record { before = listed.before; after = after; whole = whole; offset = listed.reached }))
 
 -- why a program that is refused isn't listed

@@ -3,6 +3,7 @@ use Rattle.std.proofs.Common.{◌≡◌, ◌≢◌, ◌∙◌, ℕ, List, [], �
 use Rattle.std.specs.Io.KnownBytes.{Appends}
 use Rattle.std.specs.Prelude.{slice_get}
 use Rattle.tt_cert.specs.declared.name.Name.{Name}
+use Rattle.hintcheck_words.specs.declared.words.Detail.{Detail}
 use Rattle.hintcheck_words.specs.declared.words.Profile.{Profile}
 use Rattle.hintcheck_words.specs.Requests.{Request, bare, check, explain, find, list, scan, upgrade, verdict}
 use Rattle.hintcheck.specs.Commands.{IsForVerdict}
@@ -21,10 +22,10 @@ prints_verdict q (Ok status) v old new given accepted refused written = record {
 prints_verdict q (Err e) v old new given accepted refused written = tt
 
 -- a listing, by what is said of the bytes
-pub prints_listing : (r : Result ℕ CommandFault) (bytes word : List ℕ) (old new : Option (List ℕ)) → IfOk r (λ status. status ≡ 0 → HoldListedProgram bytes word old new)
-    → IfOk r (λ status. status ≡ 1 → HoldToldProgram bytes word old new) → IfOk r (λ status. PrintsListing word status old new)
-prints_listing (Ok status) bytes word old new listed told = record { bytes = bytes; listed = listed; told = told }
-prints_listing (Err e) bytes word old new listed told = tt
+pub prints_listing : (r : Result ℕ CommandFault) (detail : Detail) (bytes word : List ℕ) (old new : Option (List ℕ)) → IfOk r (λ status. status ≡ 0 → HoldListedProgram detail bytes word old new)
+    → IfOk r (λ status. status ≡ 1 → HoldToldProgram bytes word old new) → IfOk r (λ status. PrintsListing detail word status old new)
+prints_listing (Ok status) detail bytes word old new listed told = record { bytes = bytes; listed = listed; told = told }
+prints_listing (Err e) detail bytes word old new listed told = tt
 
 -- where a verdict is asked for, its lines are the answer
 pub prints_for_verdict : (q : Request) (status : ℕ) (old new : Option (List ℕ)) → IsForVerdict q → PrintsVerdict q status old new → Prints q status old new
@@ -34,7 +35,7 @@ prints_for_verdict (scan fonts options) status old new for_verdict printed = abs
 prints_for_verdict (explain font program offset profile) status old new for_verdict printed = absurd for_verdict
 prints_for_verdict (find font certificate budget) status old new for_verdict printed = printed
 prints_for_verdict (check font certificate budget) status old new for_verdict printed = printed
-prints_for_verdict (list font program) status old new for_verdict printed = absurd for_verdict
+prints_for_verdict (list font program detail) status old new for_verdict printed = absurd for_verdict
 prints_for_verdict (upgrade before after) status old new for_verdict printed = absurd for_verdict
 
 -- an upgrade has one line, whatever its status

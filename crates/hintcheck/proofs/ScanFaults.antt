@@ -19,7 +19,7 @@ fault_of_scan (scan fonts options) no_scan is = no_scan
 fault_of_scan (explain font program offset profile) no_scan is = elim is [ inl reading ↦ reading | inr some ↦ some.1.1 ]
 fault_of_scan (find font certificate budget) no_scan is = elim is.0 [ inl e ↦ cc | inr other ↦ other.1 ]
 fault_of_scan (check font certificate budget) no_scan is = is.0
-fault_of_scan (list font program) no_scan is = elim is [ inl reading ↦ reading | inr some ↦ some.1 ]
+fault_of_scan (list font program detail) no_scan is = elim is [ inl reading ↦ reading | inr some ↦ some.1 ]
 fault_of_scan (upgrade old new) no_scan is = elim is [ inl e ↦ cc | inr other ↦ other.1 ]
 
 unfinished_scan : (q : Request) → IsNoScan q → IsFaultOfRequest q fault.ScanUnfinished → ⊥
@@ -29,7 +29,7 @@ unfinished_scan (scan fonts options) no_scan is = no_scan
 unfinished_scan (explain font program offset profile) no_scan is = elim is [ inl reading ↦ reading | inr some ↦ some.1.1 ]
 unfinished_scan (find font certificate budget) no_scan is = elim is.0 [ inl e ↦ cc | inr other ↦ other.1 ]
 unfinished_scan (check font certificate budget) no_scan is = is.0
-unfinished_scan (list font program) no_scan is = elim is [ inl reading ↦ reading | inr some ↦ some.1 ]
+unfinished_scan (list font program detail) no_scan is = elim is [ inl reading ↦ reading | inr some ↦ some.1 ]
 unfinished_scan (upgrade old new) no_scan is = elim is [ inl e ↦ cc | inr other ↦ other.1 ]
 
 -- a fault of printing isn't a scan's
@@ -54,7 +54,7 @@ verdict_no_scan (scan fonts options) is = is
 verdict_no_scan (explain font program offset profile) is = tt
 verdict_no_scan (find font certificate budget) is = tt
 verdict_no_scan (check font certificate budget) is = tt
-verdict_no_scan (list font program) is = tt
+verdict_no_scan (list font program detail) is = tt
 verdict_no_scan (upgrade old new) is = tt
 
 -- nor is one that is passed on

@@ -1,8 +1,7 @@
 -- Which fault a command reports, and what that tells of its input; out of memory is unspecified.
-use Rattle.std.specs.Prelude.{◌≡◌, ◌≢◌, ◌⊎◌, ℕ, List, Option, Some, None, alloc_error, true, unwrap_or, []}
+use Rattle.std.specs.Prelude.{◌≡◌, ◌≢◌, ◌⊎◌, ℕ, zero, Bool, List, Option, Some, None, alloc_error, true, unwrap_or, []}
 use Rattle.tt_font.specs.Conditions.{maxp_fault}
 use Rattle.tt_font.specs.FileFaults.{font_fault}
-use Rattle.tt_font.specs.declared.fault.FontFault.{FontFault}
 use Rattle.tt_font.specs.declared.fault.FontFault.TheVariants.{OutOfMemory}
 use Rattle.hintcheck_words.specs.HexWords.{IsHexWord, Spells}
 use Rattle.hintcheck_words.specs.Requests.{Request, bare, check, explain, find, is_taken, list, meaning, scan, upgrade, verdict}
@@ -10,19 +9,25 @@ use Rattle.hintcheck_words.specs.declared.words.FailOn.TheVariants.{Unknown}
 use Rattle.hintcheck_words.specs.declared.words.Format.TheVariants.{Json}
 use Rattle.hintcheck_words.specs.declared.words.ScanOptions.{ScanOptions}
 use Rattle.hintcheck.specs.Commands.{ReadsToEnd, status_of}
+use Rattle.hintcheck.specs.Containers.{container_beside}
 use Rattle.hintcheck_fonts.specs.BarePrograms.{IsMemory}
-use Rattle.hintcheck.specs.Explanations.{HoldNoSuchPlace, HoldPlace}
+use Rattle.hintcheck.specs.Explanations.{HoldPlace}
 use Rattle.hintcheck.specs.Listing.{HoldNoSuchProgram}
+use Rattle.hintcheck.specs.Neighbours.{HoldNoSuchPlace}
 use Rattle.hintcheck.specs.declared.commands.faults.CommandFault.{CommandFault}
+use Rattle.hintcheck.specs.declared.commands.faults.Container.TheVariants.{Other}
+use Rattle.hintcheck.specs.declared.commands.faults.Numbered.{Numbered}
 use Rattle.hintcheck.specs.declared.commands.faults.CommandFault.TheVariants as fault
 
--- the fault is the first one of these bytes as those of a font; out of memory is unspecified
-abbrev pub IsFaultOfFont : List ℕ → FontFault → Type 0
-IsFaultOfFont bytes f = f ≢ OutOfMemory alloc_error → font_fault bytes ≡ Some f
+-- The fault is the first one of these bytes as those of a font, and is told with what they hold
+-- instead; which fault it is where memory ran out is unspecified.
+pub record IsFaultOfFont (bytes : List ℕ) (told : Numbered) : Type 0 where
+  pub first : told.0 ≢ OutOfMemory alloc_error → font_fault bytes ≡ Some told.0
+  pub beside : told.1 ≡ container_beside told.0 bytes
 
--- the fault is the first one of some bytes as those of a font
-abbrev pub IsFaultOfSomeFont : FontFault → Type 0
-IsFaultOfSomeFont f = (bytes : List ℕ) × IsFaultOfFont bytes f
+-- the fault is the first one of some bytes as those of a font, and is told with what they hold
+abbrev pub IsFaultOfSomeFont : Numbered → Type 0
+IsFaultOfSomeFont told = (bytes : List ℕ) × IsFaultOfFont bytes told
 
 -- Why there is no verdict on the bytes of a source: a read failed, or all of them were read, and
 -- this is their first fault.
@@ -30,7 +35,7 @@ abbrev pub IsFaultOfSource : Option (List ℕ) → Option (List ℕ) → Command
 IsFaultOfSource old new fault.Read = Unit {0}
 IsFaultOfSource old new fault.OutOfMemory = Unit {0}
 IsFaultOfSource old new (fault.Font numbered) =
-    (bytes : List ℕ) × ReadsToEnd old new bytes × IsFaultOfFont bytes numbered.0
+    (bytes : List ℕ) × ReadsToEnd old new bytes × IsFaultOfFont bytes numbered
 IsFaultOfSource old new other = ⊥
 
 -- that a budget is exceeded is reported only where there is one
@@ -59,25 +64,26 @@ pub record SpellNoFault (maxp program : List ℕ) : Type 0 where
   pub none : maxp_fault table ≡ None
 
 -- The words spell a program and a `maxp` table of which this is the first fault; or memory ran out
--- at one without a fault.
-pub record SpellFault (maxp program : List ℕ) (f : FontFault) : Type 0 where
+-- at one without a fault. No other kind of file is told.
+pub record SpellFault (maxp program : List ℕ) (told : Numbered) : Type 0 where
   pub words : AreHexWords maxp program
   pub table : List ℕ
   pub spelled : Spells maxp table
-  pub first : (maxp_fault table ≡ Some f) ⊎ (IsMemory f × (maxp_fault table ≡ None))
+  pub first : (maxp_fault table ≡ Some told.0) ⊎ (IsMemory told.0 × (maxp_fault table ≡ None))
+  pub beside : told.1 ≡ Other
 
 -- Why there is no verdict on one glyph program: the first of the words that spells no bytes, or
 -- else the fault of `maxp`.
 abbrev pub IsFaultOfGlyph : List ℕ → List ℕ → CommandFault → Type 0
 IsFaultOfGlyph maxp program fault.MaxpWord = IsHexWord maxp → ⊥
 IsFaultOfGlyph maxp program fault.ProgramWord = IsHexWord maxp × (IsHexWord program → ⊥)
-IsFaultOfGlyph maxp program (fault.Font numbered) = SpellFault maxp program numbered.0
+IsFaultOfGlyph maxp program (fault.Font numbered) = SpellFault maxp program numbered
 IsFaultOfGlyph maxp program fault.OutOfMemory = Unit {0}
 IsFaultOfGlyph maxp program other = ⊥
 
 -- why there is no verdict on a font file
 abbrev pub IsFaultOfFontFile : CommandFault → Type 0
-IsFaultOfFontFile (fault.Font numbered) = IsFaultOfSomeFont numbered.0
+IsFaultOfFontFile (fault.Font numbered) = IsFaultOfSomeFont numbered
 IsFaultOfFontFile (fault.Unopened why) = Unit {0}
 IsFaultOfFontFile fault.Read = Unit {0}
 IsFaultOfFontFile fault.OutOfMemory = Unit {0}
@@ -109,7 +115,7 @@ IsFaultOfReading other = ⊥
 
 -- why there is no verdict on a font file, or its certificate isn't written
 abbrev pub IsFaultOfCertifying : CommandFault → Type 0
-IsFaultOfCertifying (fault.Font numbered) = IsFaultOfSomeFont numbered.0
+IsFaultOfCertifying (fault.Font numbered) = IsFaultOfSomeFont numbered
 IsFaultOfCertifying fault.File = Unit {0}
 IsFaultOfCertifying fault.Budget = Unit {0}
 IsFaultOfCertifying other = IsFaultOfReading other
@@ -120,20 +126,35 @@ abbrev pub IsFaultOfFinding : List ℕ → List ℕ → CommandFault → Type 0
 IsFaultOfFinding font certificate reported =
     (reported ≡ fault.CertificateWord) ⊎ (font ≢ certificate × IsFaultOfCertifying reported)
 
--- why there is no verdict on a font file by its certificate
-abbrev pub IsFaultOfChecking : CommandFault → Type 0
-IsFaultOfChecking (fault.Font numbered) = IsFaultOfSomeFont numbered.0
-IsFaultOfChecking (fault.Form place) = Unit {0}
-IsFaultOfChecking fault.NoCertificate = Unit {0}
-IsFaultOfChecking fault.Budget = Unit {0}
-IsFaultOfChecking other = IsFaultOfReading other
+-- The fault of a certificate's file as it is told, where this fault was found: as it is; or, where
+-- the form is at fault at the first byte and the file isn't taken for an empty one, that it is no
+-- certificate.
+abbrev pub told_of_certificate : Bool → CommandFault → CommandFault
+told_of_certificate true (fault.Form zero) = fault.NoCertificate
+told_of_certificate is_filled found = found
 
--- why a certificate file isn't upgraded
+-- why there is no verdict on a font file by what its certificate's file holds
+abbrev pub IsFaultOfCheck : CommandFault → Type 0
+IsFaultOfCheck (fault.Font numbered) = IsFaultOfSomeFont numbered
+IsFaultOfCheck (fault.Form place) = Unit {0}
+IsFaultOfCheck fault.Budget = Unit {0}
+IsFaultOfCheck other = IsFaultOfReading other
+
+-- the same as it is told: that the file is no certificate stands for a fault of form at byte 0
+abbrev pub IsFaultOfChecking : CommandFault → Type 0
+IsFaultOfChecking fault.NoCertificate = IsFaultOfCheck (fault.Form 0)
+IsFaultOfChecking other = IsFaultOfCheck other
+
+-- why what a certificate's file holds isn't upgraded
+abbrev pub IsFaultOfUpgrade : CommandFault → Type 0
+IsFaultOfUpgrade (fault.Form place) = Unit {0}
+IsFaultOfUpgrade fault.File = Unit {0}
+IsFaultOfUpgrade other = IsFaultOfReading other
+
+-- the same as it is told: that the file is no certificate stands for a fault of form at byte 0
 abbrev pub IsFaultOfRewriting : CommandFault → Type 0
-IsFaultOfRewriting (fault.Form place) = Unit {0}
-IsFaultOfRewriting fault.NoCertificate = Unit {0}
-IsFaultOfRewriting fault.File = Unit {0}
-IsFaultOfRewriting other = IsFaultOfReading other
+IsFaultOfRewriting fault.NoCertificate = IsFaultOfUpgrade (fault.Form 0)
+IsFaultOfRewriting other = IsFaultOfUpgrade other
 
 -- The same for an old certificate's file and a new one's with these names, which stand for files as
 -- those of a font and its certificate do.
@@ -159,7 +180,7 @@ IsFaultOfLines other = IsFaultOfPrinting other
 
 -- why the program with this name of the font in these bytes isn't listed
 abbrev pub IsFaultOfListing : List ℕ → List ℕ → CommandFault → Type 0
-IsFaultOfListing bytes word (fault.Font numbered) = IsFaultOfFont bytes numbered.0
+IsFaultOfListing bytes word (fault.Font numbered) = IsFaultOfFont bytes numbered
 IsFaultOfListing bytes word fault.ProgramName = HoldNoSuchProgram bytes word
 IsFaultOfListing bytes word other = IsFaultOfLines other
 
@@ -171,9 +192,10 @@ IsFaultOfFileListing word reported =
 -- Why the program with this name of the font in these bytes isn't explained, where this offset is
 -- asked for or none.
 abbrev pub IsFaultOfExplaining : List ℕ → List ℕ → Option ℕ → CommandFault → Type 0
-IsFaultOfExplaining bytes word offset (fault.Font numbered) = IsFaultOfFont bytes numbered.0
+IsFaultOfExplaining bytes word offset (fault.Font numbered) = IsFaultOfFont bytes numbered
 IsFaultOfExplaining bytes word offset fault.ProgramName = HoldNoSuchProgram bytes word
-IsFaultOfExplaining bytes word offset fault.OffsetWord = HoldNoSuchPlace bytes word offset
+IsFaultOfExplaining bytes word offset (fault.OffsetWord told) =
+    HoldNoSuchPlace bytes word offset told
 IsFaultOfExplaining bytes word offset fault.OutOfMemory = Unit {0}
 IsFaultOfExplaining bytes word offset other =
     HoldPlace bytes word offset × IsFaultOfPrinting other
@@ -197,7 +219,7 @@ IsFaultOfRequest (find font certificate budget) reported =
     IsFaultOfFinding font certificate reported × IsWithin budget reported
 IsFaultOfRequest (check font certificate budget) reported =
     IsFaultOfChecking reported × IsWithin budget reported
-IsFaultOfRequest (list font program) reported = IsFaultOfFileListing program reported
+IsFaultOfRequest (list font program detail) reported = IsFaultOfFileListing program reported
 IsFaultOfRequest (upgrade old new) reported = IsFaultOfUpgrading old new reported
 
 -- The words of `bare` have no fault; that of `scan` names a class of reasons, if it is given; those
@@ -211,7 +233,7 @@ HasNoFault (scan fonts options) = options.fail_on ≢ Unknown
 HasNoFault (explain font program offset profile) = (bytes : List ℕ) × HoldPlace bytes program offset
 HasNoFault (find font certificate budget) = font ≢ certificate
 HasNoFault (check font certificate budget) = Unit {0}
-HasNoFault (list font program) = Unit {0}
+HasNoFault (list font program detail) = Unit {0}
 HasNoFault (upgrade old new) = old ≢ new
 
 -- the request has this fault; or it has none, and its answer isn't printed

@@ -132,5 +132,5 @@ IsForVerdict (scan fonts options) = ⊥
 IsForVerdict (explain font program offset profile) = ⊥
 IsForVerdict (find font certificate budget) = Unit {0}
 IsForVerdict (check font certificate budget) = Unit {0}
-IsForVerdict (list font program) = ⊥
+IsForVerdict (list font program detail) = ⊥
 IsForVerdict (upgrade old new) = ⊥

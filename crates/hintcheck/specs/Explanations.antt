@@ -88,15 +88,6 @@ pub record HoldPlace (bytes word : List ℕ) (offset : Option ℕ) : Type 0 wher
   pub named : Names word font program
   pub place : HasPlace program offset
 
--- The bytes hold a font, and the word is the name of a program of it; an offset is asked for at
--- which none of its instructions begins.
-pub record HoldNoSuchPlace (bytes word : List ℕ) (offset : Option ℕ) : Type 0 where
-  pub font : FontData
-  pub reads : Reads bytes font
-  pub program : List ℕ
-  pub named : Names word font program
-  pub none : HasPlace program offset → ⊥
-
 -- where an offset is asked for, an instruction of the font's program of this name begins there
 abbrev pub HasPlaceIn : FontData → Name → Option ℕ → Type 0
 HasPlaceIn d called offset =

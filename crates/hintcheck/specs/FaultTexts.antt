@@ -4,6 +4,7 @@ use Rattle.std.specs.Fmt.{decimal}
 use Rattle.tt_font.specs.FaultNumbers.{fault_number}
 use Rattle.tt_font.specs.FaultTexts.{fault_text}
 use Rattle.tt_font.specs.declared.fault.FontFault.{FontFault}
+use Rattle.hintcheck.specs.Neighbours.{neighbours_text}
 use Rattle.hintcheck.specs.declared.commands.faults.CommandFault.{CommandFault}
 use Rattle.hintcheck.specs.declared.commands.faults.CommandFault.TheVariants as fault
 use Rattle.hintcheck.specs.declared.commands.faults.Container.{Container}
@@ -39,7 +40,7 @@ command_fault_text fault.MaxpWord = Some (codes "words: MAXP")
 command_fault_text fault.ProgramWord = Some (codes "words: PROGRAM")
 command_fault_text fault.ProgramName =
     Some (codes "words: PROGRAM: f, p, or g and the number of a glyph")
-command_fault_text fault.OffsetWord = Some (codes "words: OFFSET")
+command_fault_text (fault.OffsetWord told) = Some (codes "words: OFFSET" ++ neighbours_text told)
 command_fault_text fault.ClassWord = Some (codes "words: CLASS")
 command_fault_text fault.CertificateWord =
     Some (codes "words: CERT: the font would be written over")

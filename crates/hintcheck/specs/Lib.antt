@@ -2,9 +2,11 @@ pub mod Texts
 pub mod Listing
 pub mod Explanations
 pub mod Commands
+pub mod Containers
 pub mod SymbolicAnswers
 pub mod SymbolicExplanations
 pub mod MeansSafe
+pub mod Neighbours
 pub mod Printed
 pub mod CommandFaults
 pub mod FaultTexts

@@ -1,17 +1,20 @@
 -- The names of a font's programs as words, and what is listed of a program.
-use Rattle.std.specs.Prelude.{◌≡◌, ◌≢◌, ℕ, ◌+◌, ◌/◌, ◌%◌, ◌<◌, ◌^◌, codes, false, List, [], ◌∷◌, ◌++◌, Option, Some, length, option_and_then, option_map, slice_get, slice_index, unwrap_or}
-use Rattle.std.specs.Fmt.{decimal, digit_glyph}
+use Rattle.std.specs.Prelude.{◌≡◌, ◌≢◌, ℕ, ℤ, ◌+◌, ◌/◌, ◌%◌, ◌<◌, ◌^◌, codes, false, List, [], ◌∷◌, ◌++◌, Option, Some, length, option_and_then, option_map, slice_get, slice_index, unwrap_or}
+use Rattle.std.specs.Fmt.{decimal, digit_glyph, signed_decimal}
 use Rattle.std.specs.Io.KnownBytes.{Appends}
 use Rattle.std.specs.List.{flat_map}
-use Rattle.tt_code.specs.Cut.{CannotBeCut, Instruction, IsCut, code_of, size}
+use Rattle.tt_code.specs.Computing.{numbers_in}
+use Rattle.tt_code.specs.Cut.{CannotBeCut, Instruction, IsCut, code_of, data_after, size}
 use Rattle.tt_code.specs.Grammar.{IsFault, IsStructured}
 use Rattle.tt_code.specs.declared.reason.Reason.{Reason}
 use Rattle.tt_code.specs.declared.reason.Reason.TheVariants.{CannotCut, Structure}
-use Rattle.tt_code.specs.Table.{name_of}
+use Rattle.tt_code.specs.Table.{Meaning, Pushes, effect_of, name_of}
 use Rattle.tt_font.specs.Reading.{FontData, Reads}
 use Rattle.tt_cert.specs.Names.{text_of}
 use Rattle.tt_cert.specs.declared.name.Name.{Name}
 use Rattle.tt_cert.specs.declared.name.Name.TheVariants as name
+use Rattle.hintcheck_words.specs.declared.words.Detail.{Detail}
+use Rattle.hintcheck_words.specs.declared.words.Detail.TheVariants.{Names as Named, Numbers}
 use Rattle.hintcheck_report.specs.Texts.{refused_text}
 use Rattle.hintcheck_report.specs.declared.refused.Refused.{Refused}
 
@@ -100,15 +103,34 @@ hex_digits bytes =
 unfoldable pub shown_name : Instruction → List ℕ
 shown_name i = unwrap_or (option_and_then name_of (code_of i)) (codes "?")
 
+-- the numbers that the bytes after a code of this meaning spell: those of a push
+abbrev pub numbers_after : Meaning → List ℕ → List ℤ
+numbers_after (Pushes push) rest = numbers_in push (data_after push rest)
+numbers_after other rest = []
+
+-- the numbers that a push instruction pushes; none of another one
+abbrev pub numbers_of : Instruction → List ℤ
+numbers_of [] = []
+numbers_of (code ∷ rest) = numbers_after (effect_of code) rest
+
+-- a number after a space
+unfoldable pub spaced : ℤ → List ℕ
+spaced number = codes " " ++ signed_decimal number
+
+-- what a line tells after the instruction's name: the numbers that it pushes, where they are asked for
+abbrev pub shown_numbers : Detail → Instruction → List ℕ
+shown_numbers Named i = []
+shown_numbers Numbers i = flat_map spaced (numbers_of i)
+
 -- the line of the instruction at an offset
-unfoldable pub line_of : ℕ → Instruction → List ℕ
-line_of offset i =
-    decimal offset ++ (codes ": " ++ (hex_digits i ++ (codes " " ++ (shown_name i ++ codes "\n"))))
+unfoldable pub line_of : Detail → ℕ → Instruction → List ℕ
+line_of detail offset i = decimal offset ++ (codes ": " ++ (hex_digits i ++ (codes " "
+    ++ (shown_name i ++ (shown_numbers detail i ++ codes "\n")))))
 
 -- the lines of instructions, the first of which is at an offset
-abbrev pub lines_of : ℕ → List Instruction → List ℕ
-lines_of offset [] = []
-lines_of offset (i ∷ is) = line_of offset i ++ lines_of (offset + length i) is
+abbrev pub lines_of : Detail → ℕ → List Instruction → List ℕ
+lines_of detail offset [] = []
+lines_of detail offset (i ∷ is) = line_of detail offset i ++ lines_of detail (offset + length i) is
 
 -- the line after them, with the program's length
 unfoldable pub last_line : List Instruction → List ℕ
@@ -116,26 +138,27 @@ last_line is = codes "end: " ++ (decimal (size is) ++ codes "\n")
 
 -- The program is cut into structured instructions, and their lines and the last one were written,
 -- where the written bytes are known.
-pub record IsListed (program : List ℕ) (old new : Option (List ℕ)) : Type 0 where
+pub record IsListed (detail : Detail) (program : List ℕ) (old new : Option (List ℕ)) : Type 0 where
   pub instructions : List Instruction
   pub is_cut : IsCut program instructions
   pub structured : IsStructured instructions
-  pub written : Appends old new (lines_of 0 instructions ++ last_line instructions)
+  pub written : Appends old new (lines_of detail 0 instructions ++ last_line instructions)
 
 -- The bytes hold a font, and the word is the name of a program of it that was listed.
-pub record HoldListedProgram (bytes word : List ℕ) (old new : Option (List ℕ)) : Type 0 where
+pub record HoldListedProgram (detail : Detail) (bytes word : List ℕ)
+    (old new : Option (List ℕ)) : Type 0 where
   pub font : FontData
   pub reads : Reads bytes font
   pub program : List ℕ
   pub named : Names word font program
-  pub listed : IsListed program old new
+  pub listed : IsListed detail program old new
 
 -- The lines of the instructions before an offset were written. (Representation: no public clause
 -- cites it.)
-pub record IsListedBefore (is : List Instruction) (offset : ℕ)
+pub record IsListedBefore (detail : Detail) (is : List Instruction) (offset : ℕ)
     (old new : Option (List ℕ)) : Type 0 where
   pub before : List Instruction
   pub after : List Instruction
   pub whole : is ≡ before ++ after
   pub reached : size before ≡ offset
-  pub written : Appends old new (lines_of 0 before)
+  pub written : Appends old new (lines_of detail 0 before)

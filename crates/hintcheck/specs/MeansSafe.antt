@@ -86,7 +86,7 @@ IsSafeRequest (explain font program offset profile) =
     (bytes : List ℕ) × HoldAcceptedBy profile bytes program
 IsSafeRequest (find font certificate budget) = (bytes : List ℕ) × HoldSafeFont bytes
 IsSafeRequest (check font certificate budget) = (bytes : List ℕ) × HoldSafeFont bytes
-IsSafeRequest (list font program) = Unit {0}
+IsSafeRequest (list font program detail) = Unit {0}
 IsSafeRequest (upgrade old new) = Unit {0}
 
 -- The words ask for something, which is safe as `IsSafeRequest` says.
@@ -187,7 +187,7 @@ IsVerdictAsked (check font certificate budget) judgement =
     (bytes : List ℕ) × IsCheckOn bytes judgement
 IsVerdictAsked (scan fonts options) judgement = ⊥
 IsVerdictAsked (explain font program offset profile) judgement = ⊥
-IsVerdictAsked (list font program) judgement = ⊥
+IsVerdictAsked (list font program detail) judgement = ⊥
 IsVerdictAsked (upgrade old new) judgement = ⊥
 
 -- What is asked for is refused: the glyph program of `bare`. For `verdict`, `find` and `scan`, some
@@ -205,7 +205,7 @@ IsRefusedRequest (explain font program offset profile) =
     (bytes : List ℕ) × HoldUnacceptedBy profile bytes program
 IsRefusedRequest (find font certificate budget) = (bytes : List ℕ) × HoldRefusedFont bytes
 IsRefusedRequest (check font certificate budget) = (bytes : List ℕ) × HoldFont bytes
-IsRefusedRequest (list font program) = (bytes : List ℕ) × HoldUnlistedProgram bytes program
+IsRefusedRequest (list font program detail) = (bytes : List ℕ) × HoldUnlistedProgram bytes program
 IsRefusedRequest (upgrade old new) = ⊥
 
 -- The words ask for something, which is refused.

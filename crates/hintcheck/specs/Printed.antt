@@ -2,6 +2,7 @@
 use Rattle.std.specs.Prelude.{◌≡◌, ◌≢◌, ℕ, List, [], Option, Some}
 use Rattle.std.specs.Io.KnownBytes.{Appends}
 use Rattle.hintcheck_words.specs.Requests.{Request, bare, check, explain, find, list, meaning, scan, upgrade, verdict}
+use Rattle.hintcheck_words.specs.declared.words.Detail.{Detail}
 use Rattle.hintcheck_words.specs.declared.words.Profile.{Profile}
 use Rattle.hintcheck_words.specs.declared.words.Profile.TheVariants.{Strict}
 use Rattle.hintcheck.specs.Commands.{status_of}
@@ -31,11 +32,12 @@ pub record PrintsVerdict (request : Request) (status : ℕ) (old new : Option (L
   pub refused : status ≡ 1 → judgement.refused ≢ []
   pub written : Appends old new (verdict_text (profile_of request) judgement)
 
--- Some bytes hold a font, and the word is the name of a program of it: its lines were written where
--- the status is 0, and where it is 1 the line that tells why it isn't listed.
-pub record PrintsListing (word : List ℕ) (status : ℕ) (old new : Option (List ℕ)) : Type 0 where
+-- Some bytes hold a font, and the word is the name of a program of it: its lines were written with
+-- this detail where the status is 0, and where it is 1 the line that tells why it isn't listed.
+pub record PrintsListing (detail : Detail) (word : List ℕ) (status : ℕ)
+    (old new : Option (List ℕ)) : Type 0 where
   pub bytes : List ℕ
-  pub listed : status ≡ 0 → HoldListedProgram bytes word old new
+  pub listed : status ≡ 0 → HoldListedProgram detail bytes word old new
   pub told : status ≡ 1 → HoldToldProgram bytes word old new
 
 -- the line of an upgrade was written, with as many sections as a font may have programs
@@ -55,7 +57,8 @@ Prints (find font certificate budget) status old new =
     PrintsVerdict (find font certificate budget) status old new
 Prints (check font certificate budget) status old new =
     PrintsVerdict (check font certificate budget) status old new
-Prints (list font program) status old new = PrintsListing program status old new
+Prints (list font program detail) status old new =
+    PrintsListing detail program status old new
 Prints (upgrade before after) status old new = PrintsUpgrade old new
 
 -- The words ask for something, which is answered in these lines.

@@ -1,9 +1,11 @@
 //! The offset that is asked for in a program.
 
-ghost use Rattle.std.specs.Prelude.{◌≡◌, ◌↔◌, ◌⊎◌, ◌<◌, ◌^◌, Err, IfErr, IfOk, IsTrue, OnOk, length};
+ghost use Rattle.std.specs.Prelude.{◌≡◌, ◌↔◌, ◌<◌, ◌^◌, IfErr, IfOk, IsTrue, OnOk, length};
 ghost use Rattle.hintcheck.specs.Explanations.{BeginsInstruction, HasPlace};
+ghost use Rattle.hintcheck.specs.Neighbours.{IsFaultOfOffset};
 
 use crate::commands::faults::CommandFault;
+use crate::neighbours::neighbours_of;
 use std::alloc::{AllocError, Global};
 use tt_code::{CodeFault, Program};
 
@@ -12,7 +14,11 @@ use tt_code::{CodeFault, Program};
 ///
 /// # Errors
 /// `OutOfMemory`.
-fn begins_instruction(alloc: Global, program: &[u8], offset: u32) -> Result<bool, CommandFault>
+pub(crate) fn begins_instruction(
+    alloc: Global,
+    program: &[u8],
+    offset: u32,
+) -> Result<bool, CommandFault>
     requires { length program.now < 2 ^ 31 }
     ensures begins { IfOk result (λ begins. IsTrue begins ↔ BeginsInstruction program.now offset) }
     ensures faults { IfErr result (λ fault. fault ≡ CommandFault.OutOfMemory) }
@@ -32,7 +38,7 @@ fn begins_instruction(alloc: Global, program: &[u8], offset: u32) -> Result<bool
 /// Checks that an instruction of the program begins at the offset, if one is asked for.
 ///
 /// # Errors
-/// `OffsetWord` where none begins there; `OutOfMemory`.
+/// `OffsetWord` where none begins there, with the instructions around it; `OutOfMemory`.
 pub(crate) fn check_offset(
     alloc: Global,
     program: &[u8],
@@ -40,9 +46,7 @@ pub(crate) fn check_offset(
 ) -> Result<(), CommandFault>
     requires { length program.now < 2 ^ 31 }
     ensures begins { OnOk result (HasPlace program.now offset) }
-    ensures none { result ≡ Err CommandFault.OffsetWord → HasPlace program.now offset → ⊥ }
-    ensures faults { IfErr result
-        (λ fault. (fault ≡ CommandFault.OffsetWord) ⊎ (fault ≡ CommandFault.OutOfMemory)) }
+    ensures faults { IfErr result (IsFaultOfOffset program.now offset) }
 {
     let Some(offset) = offset else {
         return Ok(());
@@ -50,6 +54,6 @@ pub(crate) fn check_offset(
     if begins_instruction(alloc, program, offset)? {
         Ok(())
     } else {
-        Err(CommandFault::OffsetWord)
+        Err(CommandFault::OffsetWord(neighbours_of(alloc, program, offset)?))
     }
 }

@@ -139,7 +139,11 @@ fn do_task<R: Files + AllocGlobal, O: Sink, E: Sink>(
             offset,
             profile,
         } => explain_of_file(rt, font, program, *offset, *profile, out),
-        Task::List { font, program } => list_of_file(rt, font, program, out),
+        Task::List {
+            font,
+            program,
+            detail,
+        } => list_of_file(rt, font, program, *detail, out),
         Task::Upgrade { old, new } => tell_upgrade(rt, old, new, out),
         task => tell_verdict(out, verdict_on(rt, task)?, profile_of_task(task)),
     }

@@ -22,7 +22,7 @@ use tt_font::Font;
 pub(crate) fn font_in<'a>(alloc: Global, bytes: &'a [u8]) -> Result<Font<'a>, Numbered>
     ensures reads { IfOk result (λ font. Reads bytes.entry.now font) }
     ensures range { IfOk result (λ font. IsFontInRange font) }
-    ensures faults { IfErr result (λ numbered. IsFaultOfFont bytes.entry.now numbered.0) }
+    ensures faults { IfErr result (IsFaultOfFont bytes.entry.now) }
 {
     match read_font(alloc, bytes) {
         Ok(font) => Ok(font),
@@ -36,7 +36,7 @@ pub(crate) fn font_in<'a>(alloc: Global, bytes: &'a [u8]) -> Result<Font<'a>, Nu
 /// The faults of `Font::read`; `OutOfMemory`.
 pub(crate) fn verdict_in(alloc: Global, bytes: &[u8]) -> Result<Verdict, Numbered>
     ensures exact { IfOk result (IsVerdictOn bytes.now) }
-    ensures faults { IfErr result (λ numbered. IsFaultOfFont bytes.now numbered.0) }
+    ensures faults { IfErr result (IsFaultOfFont bytes.now) }
     ensures none { OnOk result (font_fault bytes.now ≡ None) }
 {
     match font::verdict(alloc, bytes) {
@@ -56,7 +56,7 @@ pub(crate) fn symbolic_verdict_in(
     budget: Option<u64>,
 ) -> Result<Verdict, Numbered>
     ensures exact { IfOk result (IsSymbolicVerdictOn bytes.now) }
-    ensures faults { IfErr result (λ numbered. IsFaultOfFont bytes.now numbered.0) }
+    ensures faults { IfErr result (IsFaultOfFont bytes.now) }
 {
     match budget {
         Some(most) => match verdict_symbolic_within(alloc, bytes, most) {

@@ -13,8 +13,10 @@ ghost use Rattle.tt_cert.specs.Names.{text_of};
 
 use crate::commands::faults::CommandFault;
 use crate::font_file::font_in;
+use crate::pushed_numbers::print_numbers;
 use hintcheck_fonts::program::cut;
 use hintcheck_fonts::report::{Name, Place, Refused};
+use hintcheck_words::Detail;
 use std::alloc::{AllocError, Global};
 use std::fmt;
 use tt_abs::Refusal;
@@ -124,19 +126,23 @@ fn name_of(instruction: &Instr<'_>) -> &'static str
     }
 }
 
-/// Prints an instruction's line: its offset, its bytes and its name.
+/// Prints an instruction's line: its offset, its bytes, its name, and where they are asked for the
+/// numbers that it pushes.
 fn print_instruction<O: Sink>(
     out: &mut O,
+    detail: Detail,
     offset: u32,
     instruction: &Instr<'_>,
 ) -> Result<(), PrintFailed>
-    ensures written { OnOk result
-        (Appends (O.contents out.old) (O.contents out.new) (line_of offset instruction.now)) }
+    ensures written { OnOk result (Appends (O.contents out.old) (O.contents out.new)
+        (line_of detail offset instruction.now)) }
     ensures failures { CountsPrintFailure result (O.failures out.old) (O.failures out.new) }
 {
     let digits = Digits(instruction.bytes());
     let name = name_of(instruction);
-    writeln!(out, "{offset}: {digits} {name}")
+    write!(out, "{offset}: {digits} {name}")?;
+    print_numbers(out, detail, instruction)?;
+    writeln!(out)
 }
 
 /// Prints the line after those of the instructions.
@@ -151,16 +157,20 @@ fn print_last_line<O: Sink>(out: &mut O, program: &Program<'_>) -> Result<(), Pr
 
 /// Prints a line for each instruction, one after the other, and a last line with the program's
 /// length.
-fn print_program<O: Sink>(out: &mut O, program: &Program<'_>) -> Result<(), PrintFailed>
+fn print_program<O: Sink>(
+    out: &mut O,
+    detail: Detail,
+    program: &Program<'_>,
+) -> Result<(), PrintFailed>
     requires { AllByRecursion IsInstruction program.now }
     ensures written { OnOk result (Appends (O.contents out.old) (O.contents out.new)
-        (lines_of 0 program.now ++ last_line program.now)) }
+        (lines_of detail 0 program.now ++ last_line program.now)) }
     ensures failures { CountsPrintFailure result (O.failures out.old) (O.failures out.new) }
 {
     let _length = program.len();
     let mut offset = 0;
     while let Some(instruction) = program.at(offset) {
-        print_instruction(out, offset, &instruction)?;
+        print_instruction(out, detail, offset, &instruction)?;
         offset += instruction.len();
     }
     print_last_line(out, program)
@@ -178,11 +188,16 @@ fn refused_at(program: Name, offset: u32, reason: Reason) -> Refused
 }
 
 /// Lists the program, or prints the line of its refusal, and returns the exit status.
-fn list_named<O: Sink>(alloc: Global, named: Named<'_>, out: &mut O) -> Result<u8, CommandFault>
+fn list_named<O: Sink>(
+    alloc: Global,
+    named: Named<'_>,
+    detail: Detail,
+    out: &mut O,
+) -> Result<u8, CommandFault>
     requires { length named.bytes.now < 2 ^ 31 }
     ensures status { IfOk result (λ status. status ≤ 1) }
     ensures listed { IfOk result (λ status. status ≡ 0
-        → IsListed named.entry.bytes.now (O.contents out.old) (O.contents out.new)) }
+        → IsListed detail named.entry.bytes.now (O.contents out.old) (O.contents out.new)) }
     ensures unlisted { IfOk result (λ status. status ≡ 1 → CannotBeListed named.entry.bytes.now) }
     ensures told { IfOk result (λ status. status ≡ 1 → TellsUnlisted named.entry.name
         named.entry.bytes.now (O.contents out.old) (O.contents out.new)) }
@@ -192,7 +207,7 @@ fn list_named<O: Sink>(alloc: Global, named: Named<'_>, out: &mut O) -> Result<u
 {
     match cut(alloc, named.bytes) {
         Ok(program) => {
-            print_program(out, &program)?;
+            print_program(out, detail, &program)?;
             Ok(LISTED)
         }
         Err(Refusal::Refused { offset, failed, .. }) => {
@@ -204,9 +219,9 @@ fn list_named<O: Sink>(alloc: Global, named: Named<'_>, out: &mut O) -> Result<u
     }
 }
 
-/// Lists one program of the font in these bytes, the one that the word names, and returns the exit
-/// status: 0 listed, 1 where the program can't be cut or isn't structured, which one line reports.
-/// Printing takes no memory.
+/// Lists one program of the font in these bytes, the one that the word names, with this detail, and
+/// returns the exit status: 0 listed, 1 where the program can't be cut or isn't structured, which
+/// one line reports. Printing takes no memory.
 ///
 /// # Errors
 /// The faults of `Font::read`; `ProgramName` where the word is the name of none of the font's
@@ -215,11 +230,12 @@ pub fn list_program<O: Sink>(
     alloc: Global,
     font: &[u8],
     word: &str,
+    detail: Detail,
     out: &mut O,
 ) -> Result<u8, CommandFault>
     ensures status { IfOk result (λ status. status ≤ 1) }
     ensures listed { IfOk result (λ status. status ≡ 0
-        → HoldListedProgram font.now word.now (O.contents out.old) (O.contents out.new)) }
+        → HoldListedProgram detail font.now word.now (O.contents out.old) (O.contents out.new)) }
     ensures unlisted { IfOk result (λ status. status ≡ 1 → HoldUnlistedProgram font.now word.now) }
     ensures told { IfOk result (λ status. status ≡ 1
         → HoldToldProgram font.now word.now (O.contents out.old) (O.contents out.new)) }
@@ -230,7 +246,7 @@ pub fn list_program<O: Sink>(
     let font = font_in(alloc, font)?;
     font.range_facts();
     match named_program(&font, word) {
-        Some(named) => list_named(alloc, named, out),
+        Some(named) => list_named(alloc, named, detail, out),
         None => Err(CommandFault::ProgramName),
     }
 }

@@ -7,6 +7,8 @@ mod commands;
 mod explanation;
 mod font_file;
 mod instruction_list;
+mod neighbours;
+mod pushed_numbers;
 mod symbolic_explanation;
 
 pub use commands::faults::{CommandFault, Container, Unopened};
@@ -18,9 +20,10 @@ pub use hintcheck_fonts::{
     read_font, upgrade, verdict, verdict_symbolic, verdict_symbolic_within, verdict_within,
 };
 pub use hintcheck_words::{
-    FailOn, Format, Profile, ScanOptions, Task, TaskFault, WordFault, read_words, word_bytes,
+    Detail, FailOn, Format, Profile, ScanOptions, Task, TaskFault, WordFault, read_words, word_bytes,
 };
 pub use instruction_list::list_program;
+pub use neighbours::{Neighbour, Neighbours};
 pub use symbolic_explanation::explain_program_symbolic;
 pub use tt_family::Budget;
 pub use tt_font::{FontFault, Tag, read_maxp};

@@ -36,6 +36,9 @@ find_built = first_or hintcheck.top (drop 4 (built hintcheck).subs)
 unfoldable pub check_built : Shape
 check_built = first_or hintcheck.top (drop 5 (built hintcheck).subs)
 
+unfoldable pub list_built : Shape
+list_built = first_or hintcheck.top (drop 6 (built hintcheck).subs)
+
 bare_found : subcommand_at (built hintcheck) (codes "bare") ≡ Some bare_built
 unfolding hintcheck bare_built clap_on_literals
 bare_found = refl
@@ -59,6 +62,10 @@ find_found = refl
 check_found : subcommand_at (built hintcheck) (codes "check") ≡ Some check_built
 unfolding hintcheck check_built clap_on_literals
 check_found = refl
+
+list_found : subcommand_at (built hintcheck) (codes "list") ≡ Some list_built
+unfolding hintcheck list_built clap_on_literals
+list_found = refl
 
 line : IsLine (built hintcheck)
 unfolding hintcheck request_of requests clap_on_literals
@@ -114,6 +121,10 @@ verdict_json_rule = record { found = refl; named = refl; parser = refl }
 scan_json_rule : IsFlagRule scan_built.rules (codes "JSON") (rule_at scan_built (codes "JSON"))
 unfolding hintcheck scan_built rule_at clap_on_literals
 scan_json_rule = record { found = refl; named = refl; parser = refl }
+
+list_numbers_rule : IsFlagRule list_built.rules (codes "NUMBERS") (rule_at list_built (codes "NUMBERS"))
+unfolding hintcheck list_built rule_at clap_on_literals
+list_numbers_rule = record { found = refl; named = refl; parser = refl }
 
 explain_symbolic_rule : IsFlagRule explain_built.rules (codes "SYMBOLIC") (rule_at explain_built (codes "SYMBOLIC"))
 unfolding hintcheck explain_built rule_at clap_on_literals
@@ -197,6 +208,9 @@ meets_one words name rows e found =
       format_of_scan = λ scan.
           let at_scan = level_at (built hintcheck) name (codes "scan") rows scan_built named scan scan_found in
           flag_among scan_built rows (codes "JSON") (rule_at scan_built (codes "JSON")) at_scan scan_json_rule;
+      detail_of_list = λ list.
+          let at_list = level_at (built hintcheck) name (codes "list") rows list_built named list list_found in
+          flag_among list_built rows (codes "NUMBERS") (rule_at list_built (codes "NUMBERS")) at_list list_numbers_rule;
     }
 
 pub fault_is : (a : App) (words : List Text) → a ≡ hintcheck → (is_simple_and_free a ≡ true → fault_of a words ≡ []) → fault_of hintcheck words ≡ []

@@ -5,7 +5,7 @@
 --     hintcheck explain [--symbolic] [--points POINTS] FONT PROGRAM [OFFSET]
 --     hintcheck find [--points POINTS] FONT CERT
 --     hintcheck check [--points POINTS] FONT CERT
---     hintcheck list FONT PROGRAM
+--     hintcheck list [--numbers] FONT PROGRAM
 --     hintcheck upgrade OLD NEW
 --     hintcheck --version
 -- The options may also come after the other words of a subcommand, or between them.
@@ -68,6 +68,10 @@ symbolic = flag (codes "SYMBOLIC") (codes "symbolic")
 abbrev pub json : Rule
 json = flag (codes "JSON") (codes "json")
 
+-- the option `--numbers`, which asks for the numbers that instructions push
+abbrev pub numbers : Rule
+numbers = flag (codes "NUMBERS") (codes "numbers")
+
 -- the option `--fail-on`, which names the class of reasons for which a scan fails
 abbrev pub fail_on : Rule
 fail_on = text_option (codes "CLASS") (codes "fail-on")
@@ -108,7 +112,7 @@ check = of_texts_and_points (codes "check") (codes "FONT" ∷ codes "CERT" ∷ [
 
 -- the subcommand `list`, which lists the instructions of one program
 abbrev pub list : App
-list = of_texts (codes "list") (codes "FONT" ∷ codes "PROGRAM" ∷ [])
+list = with_rule (of_texts (codes "list") (codes "FONT" ∷ codes "PROGRAM" ∷ [])) numbers
 
 -- the subcommand `upgrade`, which writes a certificate in the newest form
 abbrev pub upgrade : App

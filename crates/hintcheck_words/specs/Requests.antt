@@ -8,6 +8,8 @@ use Rattle.clap.specs.Faults.{fault_of}
 use Rattle.clap.specs.Words.{IsAmong, IsSignedIn, IsUnsignedIn, Kinds, Row, Text, all_of, first_of, found_of, kind_of, one_of, rows_of, subcommand_of, takes, without_minus}
 use Rattle.clap.specs.declared.parser.matches.ArgMatches.{ArgMatches}
 use Rattle.hintcheck_words.specs.CommandLine.{hintcheck}
+use Rattle.hintcheck_words.specs.declared.words.Detail.{Detail}
+use Rattle.hintcheck_words.specs.declared.words.Detail.TheVariants as detail
 use Rattle.hintcheck_words.specs.declared.words.FailOn.{FailOn}
 use Rattle.hintcheck_words.specs.declared.words.FailOn.TheVariants as fail_on
 use Rattle.hintcheck_words.specs.declared.words.Format.{Format}
@@ -36,7 +38,7 @@ pub data Request : Type 0 where
   explain : Text → Text → Option ℕ → Option ℕ → Profile → Request
   find : Text → Text → Option ℕ → Request
   check : Text → Text → Option ℕ → Request
-  list : Text → Text → Request
+  list : Text → Text → Detail → Request
   upgrade : Text → Text → Request
 
 -- the first text that an argument got, empty where it got none
@@ -100,6 +102,10 @@ profile_in rows = if flag_in rows (codes "SYMBOLIC") then profile.Symbolic else 
 abbrev pub format_in : List Row → Format
 format_in rows = if flag_in rows (codes "JSON") then format.Json else format.Lines
 
+-- what is listed of an instruction
+abbrev pub detail_in : List Row → Detail
+detail_in rows = if flag_in rows (codes "NUMBERS") then detail.Numbers else detail.Names
+
 -- for which refused programs a scan fails, by the word that names their class
 abbrev pub fail_on_named : Text → FailOn
 fail_on_named word =
@@ -154,6 +160,11 @@ unfoldable pub check_request : List Row → Request
 check_request rows =
     check (text_in rows (codes "FONT")) (text_in rows (codes "CERT")) (points_in rows)
 
+-- what `list` asks for, by what its arguments got
+unfoldable pub list_request : List Row → Request
+list_request rows =
+    list (text_in rows (codes "FONT")) (text_in rows (codes "PROGRAM")) (detail_in rows)
+
 -- each subcommand, and what it asks for by what its arguments got
 unfoldable pub requests : List (Text × (List Row → Request))
 requests = (codes "bare", bare_request)
@@ -162,7 +173,7 @@ requests = (codes "bare", bare_request)
     ∷ (codes "explain", explain_request)
     ∷ (codes "find", find_request)
     ∷ (codes "check", check_request)
-    ∷ (codes "list", λ rows. list (text_in rows (codes "FONT")) (text_in rows (codes "PROGRAM")))
+    ∷ (codes "list", list_request)
     ∷ (codes "upgrade", λ rows. upgrade (text_in rows (codes "OLD")) (text_in rows (codes "NEW")))
     ∷ []
 
@@ -208,9 +219,13 @@ HasProfile rows = HasFlag rows (codes "SYMBOLIC")
 abbrev pub HasFormat : List Row → Type 0
 HasFormat rows = HasFlag rows (codes "JSON")
 
+-- the flag that tells what is listed of an instruction can be read
+abbrev pub HasDetail : List Row → Type 0
+HasDetail rows = HasFlag rows (codes "NUMBERS")
+
 -- a subcommand that asks for something, whose numbers are there if it is `bare`, whose offset is a
 -- number if it is `explain`, whose limit of the points is one if it has that option, and whose
--- profile and form of the answers can be read if it has them
+-- profile, form of the answers and detail of a listing can be read if it has them
 pub record IsReadable (found : Text × List Row) : Type 0 where
   pub known : is_some (request_of found) ≡ true
   pub numbers : found.0 ≡ codes "bare" → HasNumbers found.1
@@ -226,6 +241,7 @@ pub record IsReadable (found : Text × List Row) : Type 0 where
   pub profile_of_explain : found.0 ≡ codes "explain" → HasProfile found.1
   pub format_of_verdict : found.0 ≡ codes "verdict" → HasFormat found.1
   pub format_of_scan : found.0 ≡ codes "scan" → HasFormat found.1
+  pub detail_of_list : found.0 ≡ codes "list" → HasDetail found.1
 
 -- there is a subcommand, it asks for something, and its numbers and its profile can be read
 abbrev pub MeetsSubcommand : Option (Text × List Row) → Type 0
@@ -244,7 +260,7 @@ asked (task.Find font certificate budget) =
     find (string_bytes font) (string_bytes certificate) budget
 asked (task.Check font certificate budget) =
     check (string_bytes font) (string_bytes certificate) budget
-asked (task.List font program) = list (string_bytes font) (string_bytes program)
+asked (task.List font program detail) = list (string_bytes font) (string_bytes program) detail
 asked (task.Upgrade old new) = upgrade (string_bytes old) (string_bytes new)
 
 -- memory ran out

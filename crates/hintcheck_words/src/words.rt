@@ -2,8 +2,8 @@
 
 ghost use Rattle.std.specs.Prelude.{◌≡◌, ◌∷◌, [], IfErr, IfOk, Some, codes, false, map, option_map, string_bytes};
 ghost use Rattle.clap.specs.Words.{app_of, new_app, rule_of, subcommand_rows_of};
-ghost use Rattle.hintcheck_words.specs.CommandLine.{bare, explain, fail_on as fail_on_rule, flag, hintcheck, json as json_rule, needed as needed_rule, needed_number as number_rule, of_texts, of_texts_and_points, optional_number as optional_rule, points as points_rule, scan, symbolic as symbolic_rule, verdict};
-ghost use Rattle.hintcheck_words.specs.Requests.{HasFormat, HasNumber, HasNumberIfAny, HasNumbers, HasOffset, HasPoints, HasProfile, IsReadable, IsMemoryIfTaken, MeetsSubcommand, TellsFault, asked, bare_request, check_request, explain_request, fail_on_in, fail_on_named, faults_in, find_request, flag_in, format_in, json_request, meaning, met, number_in, optional_in, optional_number_in, points_in, profile_in, request_of, rows_in, scan_request, text_in, texts_in, texts_of, verdict_request};
+ghost use Rattle.hintcheck_words.specs.CommandLine.{bare, explain, fail_on as fail_on_rule, flag, hintcheck, json as json_rule, list, needed as needed_rule, needed_number as number_rule, numbers as numbers_rule, of_texts, of_texts_and_points, optional_number as optional_rule, points as points_rule, scan, symbolic as symbolic_rule, verdict};
+ghost use Rattle.hintcheck_words.specs.Requests.{HasDetail, HasFormat, HasNumber, HasNumberIfAny, HasNumbers, HasOffset, HasPoints, HasProfile, IsReadable, IsMemoryIfTaken, MeetsSubcommand, TellsFault, asked, bare_request, check_request, detail_in, explain_request, fail_on_in, fail_on_named, faults_in, find_request, flag_in, format_in, json_request, list_request, meaning, met, number_in, optional_in, optional_number_in, points_in, profile_in, request_of, rows_in, scan_request, text_in, texts_in, texts_of, verdict_request};
 
 use clap::error::ErrorKind;
 use clap::{Arg, ArgAction, ArgMatches, Command, value_parser};
@@ -37,6 +37,15 @@ pub enum Format {
     Lines,
     /// An object of JSON for each font, in a line.
     Json,
+}
+
+/// What is listed of an instruction.
+#[derive(Clone, Copy, Debug, PartialEq, Eq)]
+pub enum Detail {
+    /// Its bytes and its name.
+    Names,
+    /// After these the numbers that it pushes, if it is one that pushes numbers of its own.
+    Numbers,
 }
 
 /// How the font files of a scan are checked, and what is printed of them.
@@ -123,6 +132,8 @@ pub enum Task {
         font: String,
         /// Which program it is.
         program: String,
+        /// What is listed of its instructions.
+        detail: Detail,
     },
     /// Writes a certificate of any form to another file, in the newest form.
     Upgrade {
@@ -431,6 +442,29 @@ fn explain_command<'a>(alloc: Global) -> Result<Command<'a>, AllocError>
         .arg(symbolic_option(alloc))
 }
 
+/// Makes the option `--numbers`.
+fn numbers_option<'a>(alloc: Global) -> Arg<'a>
+    ensures rule { rule_of result ≡ numbers_rule }
+    ensures local { result.global ≡ false }
+{
+    flag_option(
+        alloc,
+        "NUMBERS",
+        "numbers",
+        "Lists the numbers that instructions push, after their names",
+    )
+}
+
+/// Makes the subcommand `list`.
+///
+/// # Errors
+/// If memory runs out.
+fn list_command<'a>(alloc: Global) -> Result<Command<'a>, AllocError>
+    ensures { IfOk result (λ c. app_of c ≡ list) }
+{
+    texts_command(alloc, LIST, &[FONT, PROGRAM])?.arg(numbers_option(alloc))
+}
+
 /// Makes the command line with its eight subcommands.
 ///
 /// # Errors
@@ -449,7 +483,7 @@ fn command_line<'a>(alloc: Global) -> Result<Command<'a>, AllocError>
         .subcommand(explain_command(alloc)?)?
         .subcommand(limited_command(alloc, FIND, &[FONT, CERTIFICATE])?)?
         .subcommand(limited_command(alloc, CHECK, &[FONT, CERTIFICATE])?)?
-        .subcommand(texts_command(alloc, LIST, &[FONT, PROGRAM])?)?
+        .subcommand(list_command(alloc)?)?
         .subcommand(texts_command(alloc, UPGRADE, &[OLD, NEW])?)
 }
 
@@ -549,6 +583,18 @@ fn asked_format(values: &ArgMatches<'_>) -> Format
         Format::Json
     } else {
         Format::Lines
+    }
+}
+
+/// Returns what the words ask to be listed of an instruction.
+fn asked_detail(values: &ArgMatches<'_>) -> Detail
+    requires { HasDetail (rows_in values.now) }
+    ensures { result ≡ detail_in (rows_in values.now) }
+{
+    if values.get_flag("NUMBERS") {
+        Detail::Numbers
+    } else {
+        Detail::Names
     }
 }
 
@@ -715,6 +761,21 @@ fn check_task(alloc: Global, values: &ArgMatches<'_>) -> Result<Task, AllocError
     })
 }
 
+/// Returns the task of the subcommand `list`.
+///
+/// # Errors
+/// If memory runs out.
+fn list_task(alloc: Global, values: &ArgMatches<'_>) -> Result<Task, AllocError>
+    requires { HasDetail (rows_in values.now) }
+    ensures { IfOk result (λ t. asked t ≡ list_request (rows_in values.now)) }
+{
+    Ok(Task::List {
+        font: text(alloc, values, "FONT")?,
+        program: text(alloc, values, "PROGRAM")?,
+        detail: asked_detail(values),
+    })
+}
+
 /// Returns the task of the subcommand with this name.
 ///
 /// # Errors
@@ -730,10 +791,7 @@ fn task_of(alloc: Global, name: &str, values: &ArgMatches<'_>) -> Result<Task, A
         "explain" => explain_task(alloc, values),
         "find" => find_task(alloc, values),
         "check" => check_task(alloc, values),
-        "list" => Ok(Task::List {
-            font: text(alloc, values, "FONT")?,
-            program: text(alloc, values, "PROGRAM")?,
-        }),
+        "list" => list_task(alloc, values),
         "upgrade" => Ok(Task::Upgrade {
             old: text(alloc, values, "OLD")?,
             new: text(alloc, values, "NEW")?,

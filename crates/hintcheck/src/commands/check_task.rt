@@ -3,7 +3,7 @@
 ghost use Rattle.std.specs.Prelude.{◌≡◌, ◌+◌, IfErr, IfOk, IfSome, List, Err, Ok, length, ℕ, []};
 ghost use Rattle.hintcheck_fonts.specs.Certificates.{IsChecked};
 ghost use Rattle.hintcheck.specs.Commands.{AtForm, IsNoWriteFault};
-ghost use Rattle.hintcheck.specs.CommandFaults.{IsFaultOfChecking, IsWithin};
+ghost use Rattle.hintcheck.specs.CommandFaults.{IsFaultOfCheck, IsFaultOfChecking, IsWithin};
 ghost use Rattle.hintcheck_fonts.specs.FontPrograms.{IsFontInRange, IsSafeFont};
 ghost use Rattle.hintcheck.specs.MeansSafe.{HoldFont, IsCheckOn};
 ghost use Rattle.hintcheck_fonts.specs.FontAnswers.{HoldSafeFont};
@@ -37,7 +37,7 @@ fn verdict_by_file<F: Read + Drop>(
         (λ bytes. IsChecked font.now bytes (Err place)))) }
     ensures fault { IfErr result IsNoWriteFault }
     ensures faults { IfErr result
-        (λ fault. IsFaultOfChecking fault × IsWithin budget fault) }
+        (λ fault. IsFaultOfCheck fault × IsWithin budget fault) }
 {
     let Ok(mut source) = Buffered::new(alloc, Counted::new(file)) else {
         return Err(CommandFault::OutOfMemory);

@@ -2,7 +2,9 @@
 
 ghost use Rattle.std.specs.Prelude.{◌≡◌, ◌≤◌};
 ghost use Rattle.hintcheck.specs.Commands.{IsNoWriteFault, fault_of_word, status_of};
+ghost use Rattle.hintcheck.specs.Containers.{container_beside, container_of};
 
+use crate::neighbours::Neighbours;
 use hintcheck_explain::ExplainFault;
 use hintcheck_fonts::certificate::FindFontFault;
 use hintcheck_fonts::certificate_upgrade::UpgradeFault;
@@ -41,13 +43,19 @@ pub enum Container {
 impl Container {
     /// Returns what the file with these bytes holds, by those with which it begins (OpenType
     /// specification, "Font collections"; WOFF 1.0 and 2.0, "WOFF header").
-    fn of(bytes: &[u8]) -> Container {
-        match bytes {
-            [b'O', b'T', b'T', b'O', ..] => Container::Cff,
-            [b't', b't', b'c', b'f', ..] => Container::Collection,
-            [b'w', b'O', b'F', b'F', ..] => Container::Woff,
-            [b'w', b'O', b'F', b'2', ..] => Container::Woff2,
-            _ => Container::Other,
+    fn of(bytes: &[u8]) -> Container
+        ensures { result ≡ container_of bytes.now }
+    {
+        if bytes.starts_with(b"OTTO") {
+            Container::Cff
+        } else if bytes.starts_with(b"ttcf") {
+            Container::Collection
+        } else if bytes.starts_with(b"wOFF") {
+            Container::Woff
+        } else if bytes.starts_with(b"wOF2") {
+            Container::Woff2
+        } else {
+            Container::Other
         }
     }
 }
@@ -77,7 +85,8 @@ impl Numbered {
     /// Returns the fault of the font in these bytes. Only of a file that isn't an sfnt file it is
     /// told what it holds.
     pub(crate) fn of(fault: FontFault, bytes: &[u8]) -> Numbered
-        ensures { result.0 ≡ fault }
+        ensures fault { result.0 ≡ fault }
+        ensures beside { result.1 ≡ container_beside fault bytes.now }
     {
         match fault {
             FontFault::NotSfnt => Numbered(fault, Container::of(bytes)),
@@ -150,8 +159,8 @@ pub enum CommandFault {
     ProgramWord,
     /// The word of the program is the name of none of the font's programs.
     ProgramName,
-    /// No instruction of the program begins at the offset.
-    OffsetWord,
+    /// No instruction of the program begins at the offset; what is around it.
+    OffsetWord(Neighbours),
     /// The word for which programs a scan is to fail names no class of reasons.
     ClassWord,
     /// The font's file is to be its certificate's.
@@ -200,7 +209,7 @@ impl fmt::Display for CommandFault {
             CommandFault::ProgramName => {
                 write!(f, "words: PROGRAM: f, p, or g and the number of a glyph")
             }
-            CommandFault::OffsetWord => write!(f, "words: OFFSET"),
+            CommandFault::OffsetWord(told) => write!(f, "words: OFFSET{told}"),
             CommandFault::ClassWord => write!(f, "words: CLASS"),
             CommandFault::CertificateWord => {
                 write!(f, "words: CERT: the font would be written over")

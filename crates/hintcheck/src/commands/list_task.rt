@@ -9,11 +9,12 @@ ghost use Rattle.hintcheck.specs.Printed.{PrintsListing};
 use super::faults::CommandFault;
 use super::files::file_bytes;
 use crate::instruction_list::list_program;
+use hintcheck_words::Detail;
 use std::rt::Files;
 use tt_stream::Sink;
 
-/// Lists the program that the word names, of the font file with this name, and returns the exit
-/// status: 0 listed, 1 refused.
+/// Lists the program that the word names, of the font file with this name, with this detail, and
+/// returns the exit status: 0 listed, 1 refused.
 ///
 /// # Errors
 /// `Read` where the file can't be opened or read; the faults of `list_program`.
@@ -21,16 +22,17 @@ pub(super) fn list_of_file<R: Files + AllocGlobal, O: Sink>(
     rt: &R,
     name: &str,
     word: &str,
+    detail: Detail,
     out: &mut O,
 ) -> Result<u8, CommandFault>
     ensures status { IfOk result (λ status. status ≤ 1) }
     ensures refused { IfOk result
         (λ status. status ≡ 1 → (bytes : List ℕ) × HoldUnlistedProgram bytes word.now) }
     ensures printed { IfOk result
-        (λ status. PrintsListing word.now status (O.contents out.old) (O.contents out.new)) }
+        (λ status. PrintsListing detail word.now status (O.contents out.old) (O.contents out.new)) }
     ensures failures { TellsFailure result (O.failures out.old) (O.failures out.new) }
     ensures faults { IfErr result (IsFaultOfFileListing word.now) }
 {
     let bytes = file_bytes(rt, name)?;
-    list_program(rt.alloc(), &bytes, word, out)
+    list_program(rt.alloc(), &bytes, word, detail, out)
 }

@@ -204,33 +204,10 @@ fn scan_font<R: Files + AllocGlobal, O: Sink>(
     }
 }
 
-/// Prints what is told of each of the font files with these names, counts them, and returns the
-/// greatest exit status of them: 0 where the scan fails for no program, 1 where it fails for one.
-fn scan_all<R: Files + AllocGlobal, O: Sink>(
-    rt: &R,
-    fonts: &[String],
-    options: ScanOptions,
-    tally: &mut Tally,
-    out: &mut O,
-) -> Result<u8, CommandFault>
-    ensures tells { IfOk result (TellsFonts options (map (λ s. string_bytes s) fonts.now)) }
-    ensures printed { IfOk result (λ status.
-        PrintsScan options (map (λ s. string_bytes s) fonts.now)
-        status (O.contents out.old) (O.contents out.new)) }
-    ensures failures { TellsFailure result (O.failures out.old) (O.failures out.new) }
-    ensures faults { IfErr result (IsFaultOfTelling options) }
-{
-    let mut greatest = ACCEPTED;
-    for font in fonts {
-        let status = scan_font(rt, font, options, tally, out)?;
-        greatest = greatest.max(status);
-    }
-    Ok(greatest)
-}
-
-/// Prints what `scan_all` prints, and then to `err` how many font files came to which end; returns
-/// the same status.
-fn scan_counting<R: Files + AllocGlobal, O: Sink, E: Sink>(
+/// Prints what is told of each of the font files with these names, and then to `err` how many came to
+/// which end; returns the greatest exit status of them: 0 where the scan fails for no program, 1
+/// where it fails for one.
+fn scan_all<R: Files + AllocGlobal, O: Sink, E: Sink>(
     rt: &R,
     fonts: &[String],
     options: ScanOptions,
@@ -246,7 +223,11 @@ fn scan_counting<R: Files + AllocGlobal, O: Sink, E: Sink>(
     ensures untold { E.failures err.old ≤ E.failures err.new }
 {
     let mut tally = Tally::default();
-    let greatest = scan_all(rt, fonts, options, &mut tally, out)?;
+    let mut greatest = ACCEPTED;
+    for font in fonts {
+        let status = scan_font(rt, font, options, &mut tally, out)?;
+        greatest = greatest.max(status);
+    }
     tell_summary(err, fonts.len(), tally, options.format);
     Ok(greatest)
 }
@@ -288,7 +269,7 @@ pub(super) fn scan_fonts<R: Files + AllocGlobal, O: Sink, E: Sink>(
     if let FailOn::Unknown = options.fail_on {
         return Err(CommandFault::ClassWord);
     }
-    match scan_counting(rt, fonts, options, out, err)? {
+    match scan_all(rt, fonts, options, out, err)? {
         0 => Ok(ACCEPTED),
         1 => Ok(REFUSED),
         2 => Err(CommandFault::ScanFault),

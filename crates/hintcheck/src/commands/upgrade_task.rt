@@ -3,7 +3,7 @@
 ghost use Rattle.std.specs.Prelude.{◌≡◌, ◌≢◌, ◌⊎◌, IfErr, IfOk, IfSome, Err, Ok, OnOk};
 ghost use Rattle.hintcheck_fonts.specs.CertificateTexts.{WritesText};
 ghost use Rattle.hintcheck.specs.Commands.{AtForm, IsNoWriteFault, TellsFailure};
-ghost use Rattle.hintcheck.specs.CommandFaults.{IsFaultOfPrinting, IsFaultOfRewriting, IsFaultOfUpgrading};
+ghost use Rattle.hintcheck.specs.CommandFaults.{IsFaultOfPrinting, IsFaultOfUpgrade, IsFaultOfUpgrading};
 ghost use Rattle.hintcheck.specs.Printed.{PrintsUpgrade};
 ghost use Rattle.hintcheck_fonts.specs.Upgrades.{IsNumberOfPrograms, IsUpgradeOf, UpgradesTo};
 
@@ -32,7 +32,7 @@ fn upgrade_file<F: Read + Drop, G: Write + Drop>(
         (λ place. IfSome (F.remaining old) (λ bytes. UpgradesTo bytes (Err place)))) }
     ensures number { IfOk result (λ r. IsNumberOfPrograms r.0) }
     ensures fault { IfErr result IsNoWriteFault }
-    ensures faults { IfErr result IsFaultOfRewriting }
+    ensures faults { IfErr result IsFaultOfUpgrade }
 {
     let Ok(mut source) = Buffered::new(alloc, Counted::new(old)) else {
         return Err(CommandFault::OutOfMemory);

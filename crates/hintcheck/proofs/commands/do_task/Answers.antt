@@ -3,6 +3,7 @@ use Rattle.std.proofs.Common.{◌≡◌, ℕ, OnOk, Option, String, Global, Vec,
 use Rattle.std.specs.Io.KnownBytes.{Appends}
 use Rattle.std.proofs.lemmas.Result.{IfErr-weaker, IfOk-weaker, on_ok_weaker}
 use Rattle.hintcheck_words.specs.Requests.{asked}
+use Rattle.hintcheck_words.specs.declared.words.Detail.{Detail}
 use Rattle.hintcheck_words.specs.declared.words.Profile.{Profile}
 use Rattle.hintcheck_words.specs.declared.words.ScanOptions.{ScanOptions}
 use Rattle.hintcheck_words.specs.declared.words.Task.{Task}
@@ -15,7 +16,7 @@ use Rattle.hintcheck.proofs.ScanFaults.{passed_no_scan, printing_no_scan, task_n
 use Rattle.hintcheck.proofs.commands.do_task.Goals as goal
 
 for_verdict : (t : Task) → ((fonts : Vec (String Global) Global) (options : ScanOptions) → t ≡ task.Scan fonts options → ⊥) → ((font program : String Global) (offset : Option ℕ) (profile : Profile) → t ≡ task.Explain font program offset profile → ⊥)
-    → ((font program : String Global) → t ≡ task.List font program → ⊥) → ((old new : String Global) → t ≡ task.Upgrade old new → ⊥) → IsForVerdict (asked t)
+    → ((font program : String Global) (detail : Detail) → t ≡ task.List font program detail → ⊥) → ((old new : String Global) → t ≡ task.Upgrade old new → ⊥) → IsForVerdict (asked t)
 unfolding asked
 for_verdict (task.Bare maxp cvt points contours program profile) scan explain other another = tt
 for_verdict (task.Verdict font budget profile) scan explain other another = tt
@@ -23,7 +24,7 @@ for_verdict (task.Scan fonts options) scan explain other another = absurd (scan 
 for_verdict (task.Explain font program offset profile) scan explain other another = absurd (explain font program offset profile refl)
 for_verdict (task.Find font certificate budget) scan explain other another = tt
 for_verdict (task.Check font certificate budget) scan explain other another = tt
-for_verdict (task.List font program) scan explain other another = absurd (other font program refl)
+for_verdict (task.List font program detail) scan explain other another = absurd (other font program detail refl)
 for_verdict (task.Upgrade old new) scan explain other another = absurd (another old new refl)
 
 pub verdict_on-requires : goal.verdict_on-requires

@@ -6,7 +6,7 @@ use Rattle.hintcheck.proofs.instruction_list.print_program.Given as goal
 
 abbrev pub invariant-loop-instruction : goal.invariant-loop-instruction
 invariant-loop-instruction g l = record {
-  listed : IsListedBefore l.program l.offset (g.O.Sink.contents l.fn.out) (g.O.Sink.contents l.out);
+  listed : IsListedBefore l.detail l.program l.offset (g.O.Sink.contents l.fn.out) (g.O.Sink.contents l.out);
   failures : g.O.Sink.failures l.out ≡ g.O.Sink.failures l.fn.out;
 }
 

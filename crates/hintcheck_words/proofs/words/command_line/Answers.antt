@@ -20,5 +20,5 @@ returns c =
     let with_explain = subcommand_added _ _ _ _ _ c.in_ok-subcommand-4.ensures with_scan c.in_ok-explain_command.ensures refl in
     let with_find = subcommand_added _ _ _ _ _ c.in_ok-subcommand-5.ensures with_explain c.in_ok-limited_command.ensures refl in
     let with_check = subcommand_added _ _ _ _ _ c.in_ok-subcommand-6.ensures with_find c.in_ok-limited_command-2.ensures refl in
-    let with_list = subcommand_added _ _ _ _ _ c.in_ok-subcommand-7.ensures with_check c.in_ok-texts_command.ensures refl in
-    IfOk-weaker c.subcommand-8.result _ _ (λ r h. subcommand_added _ _ _ _ _ h with_list c.in_ok-texts_command-2.ensures refl) c.subcommand-8.ensures
+    let with_list = subcommand_added _ _ _ _ _ c.in_ok-subcommand-7.ensures with_check c.in_ok-list_command.ensures refl in
+    IfOk-weaker c.subcommand-8.result _ _ (λ r h. subcommand_added _ _ _ _ _ h with_list c.in_ok-texts_command.ensures refl) c.subcommand-8.ensures

@@ -46,9 +46,12 @@ pub returns-in-check : goal.returns-in-check
 unfolding request_of requests
 returns-in-check c = IfOk-weaker c.check_task.result _ _ (λ t h. rw c.in-check.is (ap (λ (r : Request). Some r) (sym h))) c.check_task.ensures
 
-pub returns-in_ok-text-in-list-2 : goal.returns-in_ok-text-in-list-2
-unfolding request_of requests asked
-returns-in_ok-text-in-list-2 c = rw (c.in-list.is, c.in_ok-text-in-list.ensures, c.in_ok-text-in-list-2.ensures) refl
+pub list_task-requires : goal.list_task-requires
+list_task-requires c = c.requires.detail_of_list c.in-list.is
+
+pub returns-in-list : goal.returns-in-list
+unfolding request_of requests
+returns-in-list c = IfOk-weaker c.list_task.result _ _ (λ t h. rw c.in-list.is (ap (λ (r : Request). Some r) (sym h))) c.list_task.ensures
 
 pub returns-in_ok-text-in-upgrade-2 : goal.returns-in_ok-text-in-upgrade-2
 unfolding request_of requests asked

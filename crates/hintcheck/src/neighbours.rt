@@ -1,0 +1,150 @@
+//! The instructions around an offset of a program at which none begins.
+
+ghost use Rattle.std.specs.Prelude.{◌≡◌, ◌<◌, ◌^◌, IfErr, IfOk, length, MatchOption, slice_get, Some};
+ghost use Rattle.hintcheck.specs.Explanations.{BeginsInstruction};
+ghost use Rattle.hintcheck.specs.Neighbours.{AreAround, IsFirstAfter, IsInstructionOf, IsLastBefore, NoneAfter, NoneBefore, code_name};
+
+use crate::asked_offset::begins_instruction;
+use crate::commands::faults::CommandFault;
+use std::alloc::Global;
+use std::fmt;
+use tt_code::name;
+
+/// An instruction of a program: where it begins, and its code.
+#[derive(Clone, Copy, Debug, PartialEq, Eq)]
+pub struct Neighbour {
+    offset: u32,
+    code: u8,
+}
+
+/// Returns the name of the code, `?` where it has none.
+fn name_of(code: u8) -> &'static str
+    ensures { result.now ≡ code_name code }
+{
+    match name(code) {
+        Some(name) => name,
+        None => "?",
+    }
+}
+
+impl fmt::Display for Neighbour {
+    ghost use Rattle.std.specs.Prelude.{Some};
+    ghost use Rattle.hintcheck.specs.Neighbours.{neighbour_text};
+
+    ghost output = { λ neighbour. Some (neighbour_text neighbour) };
+
+    fn fmt<W: fmt::Write>(&self, f: &mut fmt::Formatter<W>) -> fmt::Result {
+        let offset = self.offset;
+        let name = name_of(self.code);
+        write!(f, "{offset} {name}")
+    }
+}
+
+/// What is around an offset of a program at which no instruction begins. Its text follows the
+/// fault's own.
+#[derive(Clone, Copy, Debug, PartialEq, Eq)]
+pub enum Neighbours {
+    /// The last instruction before it, and the first one after it.
+    Between(Neighbour, Neighbour),
+    /// The program's last instruction, which begins before it.
+    Behind(Neighbour),
+    /// Nothing: the program has no instruction.
+    Nowhere,
+}
+
+impl fmt::Display for Neighbours {
+    ghost use Rattle.std.specs.Prelude.{Some};
+    ghost use Rattle.hintcheck.specs.Neighbours.{neighbours_text};
+
+    ghost output = { λ neighbours. Some (neighbours_text neighbours) };
+
+    fn fmt<W: fmt::Write>(&self, f: &mut fmt::Formatter<W>) -> fmt::Result {
+        match self {
+            Neighbours::Between(before, after) => write!(f, ": {before}, {after}"),
+            Neighbours::Behind(before) => write!(f, ": {before}"),
+            Neighbours::Nowhere => Ok(()),
+        }
+    }
+}
+
+/// Returns the instruction that begins at the offset.
+fn neighbour_at(program: &[u8], offset: u32) -> Neighbour
+    requires { BeginsInstruction program.now offset }
+    ensures instruction { IsInstructionOf program.now result }
+    ensures offset { result.offset ≡ offset }
+{
+    let code = program[offset as usize];
+    Neighbour { offset, code }
+}
+
+/// Returns the last instruction that begins before the offset, if one does.
+///
+/// # Errors
+/// `OutOfMemory`.
+fn last_before(
+    alloc: Global,
+    program: &[u8],
+    offset: u32,
+) -> Result<Option<Neighbour>, CommandFault>
+    requires { length program.now < 2 ^ 31 }
+    ensures found { IfOk result (λ found. MatchOption found
+        (NoneBefore program.now offset) (IsLastBefore program.now offset)) }
+    ensures faults { IfErr result (λ fault. fault ≡ CommandFault.OutOfMemory) }
+{
+    let mut at = offset.min(program.len() as u32);
+    while at > 0 {
+        at -= 1;
+        if begins_instruction(alloc, program, at)? {
+            return Ok(Some(neighbour_at(program, at)));
+        }
+    }
+    Ok(None)
+}
+
+/// Returns the first instruction that begins after the offset, if one does.
+///
+/// # Errors
+/// `OutOfMemory`.
+fn first_after(
+    alloc: Global,
+    program: &[u8],
+    offset: u32,
+) -> Result<Option<Neighbour>, CommandFault>
+    requires { length program.now < 2 ^ 31 }
+    ensures found { IfOk result (λ found. MatchOption found
+        (NoneAfter program.now offset) (IsFirstAfter program.now offset)) }
+    ensures faults { IfErr result (λ fault. fault ≡ CommandFault.OutOfMemory) }
+{
+    let mut at = offset;
+    while (at as usize) < program.len() {
+        at += 1;
+        if begins_instruction(alloc, program, at)? {
+            return Ok(Some(neighbour_at(program, at)));
+        }
+    }
+    Ok(None)
+}
+
+/// Returns what is around the offset, at which no instruction of the program begins. An instruction
+/// has at most 512 bytes, so that few offsets are looked at.
+///
+/// # Errors
+/// `OutOfMemory`.
+pub(crate) fn neighbours_of(
+    alloc: Global,
+    program: &[u8],
+    offset: u32,
+) -> Result<Neighbours, CommandFault>
+    requires few { length program.now < 2 ^ 31 }
+    requires none { BeginsInstruction program.now offset → ⊥ }
+    ensures around { IfOk result (AreAround program.now offset) }
+    ensures faults { IfErr result (λ fault. fault ≡ CommandFault.OutOfMemory) }
+{
+    let Some(before) = last_before(alloc, program, offset)? else {
+        return Ok(Neighbours::Nowhere);
+    };
+    match first_after(alloc, program, offset)? {
+        Some(after) => Ok(Neighbours::Between(before, after)),
+        None => Ok(Neighbours::Behind(before)),
+    }
+}
