@@ -178,6 +178,12 @@ abbrev pub IsFaultOfLines : CommandFault → Type 0
 IsFaultOfLines fault.OutOfMemory = Unit {0}
 IsFaultOfLines other = IsFaultOfPrinting other
 
+-- why a program isn't explained, whichever it is: its lines aren't printed, or the budget is
+-- exceeded
+abbrev pub IsFaultOfExplanation : CommandFault → Type 0
+IsFaultOfExplanation fault.Budget = Unit {0}
+IsFaultOfExplanation other = IsFaultOfLines other
+
 -- why the program with this name of the font in these bytes isn't listed
 abbrev pub IsFaultOfListing : List ℕ → List ℕ → CommandFault → Type 0
 IsFaultOfListing bytes word (fault.Font numbered) = IsFaultOfFont bytes numbered
@@ -197,6 +203,7 @@ IsFaultOfExplaining bytes word offset fault.ProgramName = HoldNoSuchProgram byte
 IsFaultOfExplaining bytes word offset (fault.OffsetWord told) =
     HoldNoSuchPlace bytes word offset told
 IsFaultOfExplaining bytes word offset fault.OutOfMemory = Unit {0}
+IsFaultOfExplaining bytes word offset fault.Budget = Unit {0}
 IsFaultOfExplaining bytes word offset other =
     HoldPlace bytes word offset × IsFaultOfPrinting other
 
@@ -213,8 +220,8 @@ IsFaultOfRequest (bare maxp cvt points contours program profile) reported =
 IsFaultOfRequest (verdict font budget profile) reported =
     IsFaultOfFontFile reported × IsWithin budget reported
 IsFaultOfRequest (scan fonts options) reported = IsFaultOfScan options reported
-IsFaultOfRequest (explain font program offset profile) reported =
-    IsFaultOfFileExplaining program offset reported
+IsFaultOfRequest (explain font program offset budget profile) reported =
+    IsFaultOfFileExplaining program offset reported × IsWithin budget reported
 IsFaultOfRequest (find font certificate budget) reported =
     IsFaultOfFinding font certificate reported × IsWithin budget reported
 IsFaultOfRequest (check font certificate budget) reported =
@@ -230,7 +237,7 @@ HasNoFault (bare maxp cvt points contours program profile) =
     SpellNoFault maxp (unwrap_or program [])
 HasNoFault (verdict font budget profile) = Unit {0}
 HasNoFault (scan fonts options) = options.fail_on ≢ Unknown
-HasNoFault (explain font program offset profile) = (bytes : List ℕ) × HoldPlace bytes program offset
+HasNoFault (explain font program offset budget profile) = (bytes : List ℕ) × HoldPlace bytes program offset
 HasNoFault (find font certificate budget) = font ≢ certificate
 HasNoFault (check font certificate budget) = Unit {0}
 HasNoFault (list font program detail) = Unit {0}

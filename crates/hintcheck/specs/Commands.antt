@@ -15,6 +15,8 @@ use Rattle.hintcheck_fonts.specs.declared.certificate_upgrade.UpgradeFault.{Upgr
 use Rattle.hintcheck_fonts.specs.declared.certificate_upgrade.UpgradeFault.TheVariants as upgrading
 use Rattle.hintcheck_explain.specs.declared.asked.ExplainFault.{ExplainFault}
 use Rattle.hintcheck_explain.specs.declared.asked.ExplainFault.TheVariants as explaining
+use Rattle.tt_abs.specs.declared.exhausted.Exhausted.{Exhausted}
+use Rattle.tt_abs.specs.declared.exhausted.Exhausted.TheVariants as exhausted
 use Rattle.tt_stream.specs.declared.text.PrintFailed.{PrintFailed}
 use Rattle.tt_stream.specs.declared.text.PrintFailed.TheVariants as failed
 use Rattle.tt_stream.specs.declared.reads.ReadFault.{ReadFault}
@@ -83,9 +85,9 @@ fault_of_end exhausted.Memory = fault.OutOfMemory
 fault_of_end exhausted.Budget = fault.Budget
 
 -- the fault where no budget was given: the greatest one's end is told as out of memory
-abbrev pub unlimited : CommandFault → CommandFault
-unlimited fault.Budget = fault.OutOfMemory
-unlimited other = other
+abbrev pub fault_unlimited : CommandFault → CommandFault
+fault_unlimited fault.Budget = fault.OutOfMemory
+fault_unlimited other = other
 
 -- the fault of a program that isn't explained
 abbrev pub fault_of_explain : ExplainFault → CommandFault
@@ -129,7 +131,7 @@ abbrev pub IsForVerdict : Request → Type 0
 IsForVerdict (bare maxp cvt points contours program profile) = Unit {0}
 IsForVerdict (verdict font budget profile) = Unit {0}
 IsForVerdict (scan fonts options) = ⊥
-IsForVerdict (explain font program offset profile) = ⊥
+IsForVerdict (explain font program offset budget profile) = ⊥
 IsForVerdict (find font certificate budget) = Unit {0}
 IsForVerdict (check font certificate budget) = Unit {0}
 IsForVerdict (list font program detail) = ⊥

@@ -82,7 +82,7 @@ IsSafeRequest (bare maxp cvt points contours program profile) =
 IsSafeRequest (verdict font budget profile) = (bytes : List ℕ) × HoldSafeBy profile bytes
 IsSafeRequest (scan fonts options) =
     All (λ font. (bytes : List ℕ) × HoldPassing options.fail_on options.profile bytes) fonts
-IsSafeRequest (explain font program offset profile) =
+IsSafeRequest (explain font program offset budget profile) =
     (bytes : List ℕ) × HoldAcceptedBy profile bytes program
 IsSafeRequest (find font certificate budget) = (bytes : List ℕ) × HoldSafeFont bytes
 IsSafeRequest (check font certificate budget) = (bytes : List ℕ) × HoldSafeFont bytes
@@ -186,7 +186,7 @@ IsVerdictAsked (find font certificate budget) judgement =
 IsVerdictAsked (check font certificate budget) judgement =
     (bytes : List ℕ) × IsCheckOn bytes judgement
 IsVerdictAsked (scan fonts options) judgement = ⊥
-IsVerdictAsked (explain font program offset profile) judgement = ⊥
+IsVerdictAsked (explain font program offset budget profile) judgement = ⊥
 IsVerdictAsked (list font program detail) judgement = ⊥
 IsVerdictAsked (upgrade old new) judgement = ⊥
 
@@ -201,7 +201,7 @@ IsRefusedRequest (bare maxp cvt points contours program profile) =
 IsRefusedRequest (verdict font budget profile) = (bytes : List ℕ) × HoldRefusedBy profile bytes
 IsRefusedRequest (scan fonts options) =
     (bytes : List ℕ) × HoldFailing options.fail_on options.profile bytes
-IsRefusedRequest (explain font program offset profile) =
+IsRefusedRequest (explain font program offset budget profile) =
     (bytes : List ℕ) × HoldUnacceptedBy profile bytes program
 IsRefusedRequest (find font certificate budget) = (bytes : List ℕ) × HoldRefusedFont bytes
 IsRefusedRequest (check font certificate budget) = (bytes : List ℕ) × HoldFont bytes

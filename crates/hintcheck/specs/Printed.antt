@@ -20,7 +20,7 @@ abbrev pub profile_of : Request → Profile
 profile_of (bare maxp cvt points contours program profile) = profile
 profile_of (verdict font budget profile) = profile
 profile_of (scan fonts options) = options.profile
-profile_of (explain font program offset profile) = profile
+profile_of (explain font program offset budget profile) = profile
 profile_of other = Strict
 
 -- The lines of the verdict that is asked for were written, where the written bytes are known: of
@@ -52,7 +52,7 @@ Prints (bare maxp cvt points contours program profile) status old new =
 Prints (verdict font budget profile) status old new =
     PrintsVerdict (verdict font budget profile) status old new
 Prints (scan fonts options) status old new = PrintsScan options fonts status old new
-Prints (explain font program offset profile) status old new = Unit {0}
+Prints (explain font program offset budget profile) status old new = Unit {0}
 Prints (find font certificate budget) status old new =
     PrintsVerdict (find font certificate budget) status old new
 Prints (check font certificate budget) status old new =

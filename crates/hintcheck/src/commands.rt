@@ -137,8 +137,9 @@ fn do_task<R: Files + AllocGlobal, O: Sink, E: Sink>(
             font,
             program,
             offset,
+            budget,
             profile,
-        } => explain_of_file(rt, font, program, *offset, *profile, out),
+        } => explain_of_file(rt, font, program, *offset, *budget, *profile, out),
         Task::List {
             font,
             program,

@@ -2,7 +2,7 @@
 
 ghost use Rattle.std.specs.Prelude.{◌≡◌, ◌≤◌, ◌<◌, ◌^◌, IfErr, IfOk, OnOk, length};
 ghost use Rattle.hintcheck.specs.Commands.{TellsFailure};
-ghost use Rattle.hintcheck.specs.CommandFaults.{IsFaultOfExplaining, IsFaultOfLines};
+ghost use Rattle.hintcheck.specs.CommandFaults.{IsFaultOfExplaining, IsFaultOfExplanation, IsWithin};
 ghost use Rattle.hintcheck.specs.Explanations.{HoldPlace};
 ghost use Rattle.hintcheck_fonts.specs.FontPrograms.{IsFontInRange};
 ghost use Rattle.hintcheck.specs.SymbolicExplanations.{HoldSymbolicAcceptedProgram, HoldSymbolicRefusedProgram, TellsSymbolicProgram, first_against, keeps_from as keeps_from_it};
@@ -102,7 +102,7 @@ fn explain_in<O: Sink>(
     out: &mut O,
 ) -> Result<(), CommandFault>
     ensures failures { TellsFailure result (O.failures out.old) (O.failures out.new) }
-    ensures faults { IfErr result IsFaultOfLines }
+    ensures faults { IfErr result IsFaultOfExplanation }
 {
     explain_symbolic(alloc, setting, asked, refused, insight, out)?;
     Ok(())
@@ -121,7 +121,7 @@ fn tell_program<O: Sink>(
     requires range { IsFontInRange font.now }
     requires few { length named.bytes.now < 2 ^ 31 }
     ensures failures { TellsFailure result (O.failures out.old) (O.failures out.new) }
-    ensures faults { IfErr result IsFaultOfLines }
+    ensures faults { IfErr result IsFaultOfExplanation }
 {
     let main = match cut(alloc, named.bytes) {
         Ok(main) => main,
@@ -147,6 +147,7 @@ fn explain_named<O: Sink>(
     font: &Font<'_>,
     named: Named<'_>,
     offset: Option<u32>,
+    steps: u64,
     out: &mut O,
 ) -> Result<u8, CommandFault>
     requires range { IsFontInRange font.now }
@@ -154,13 +155,13 @@ fn explain_named<O: Sink>(
     ensures status { IfOk result (λ status. status ≤ 1) }
     ensures tells { IfOk result (TellsSymbolicProgram font.now named.entry.name) }
     ensures failures { TellsFailure result (O.failures out.old) (O.failures out.new) }
-    ensures faults { IfErr result IsFaultOfLines }
+    ensures faults { IfErr result IsFaultOfExplanation }
 {
     let asked = Asked {
         program: named.name,
         offset,
     };
-    let mut judge = SymbolicCheck::new(alloc, USUAL_STEPS);
+    let mut judge = SymbolicCheck::new(alloc, steps);
     judge.explain(named.name, Question { offset });
     let Ok(refused) = refused_programs(alloc, font, &mut judge) else {
         return Err(CommandFault::OutOfMemory);
@@ -177,18 +178,14 @@ fn explain_named<O: Sink>(
     Ok(exit_status(Explained::Refused))
 }
 
-/// Explains one program of the font in these bytes by the symbolic profile, the one that the word
-/// names, and returns the exit status: 0 where the verdict on the font by symbolic states refuses
-/// neither it nor one before it; 1 where it is refused, or isn't checked since the font program or
-/// the CVT program is refused. With an offset the explanation tells what the search knows there.
-///
-/// # Errors
-/// As `explain_program`.
-pub fn explain_program_symbolic<O: Sink>(
+/// Explains one program of the font in these bytes, the one that the word names, as
+/// `explain_program_symbolic` does, where the search makes at most so many steps.
+fn explain_word<O: Sink>(
     alloc: Global,
     font: &[u8],
     word: &str,
     offset: Option<u32>,
+    steps: u64,
     out: &mut O,
 ) -> Result<u8, CommandFault>
     ensures status { IfOk result (λ status. status ≤ 1) }
@@ -204,8 +201,41 @@ pub fn explain_program_symbolic<O: Sink>(
     match named_program(&read, word) {
         Some(named) => {
             check_offset(alloc, named.bytes, offset)?;
-            explain_named(alloc, &read, named, offset, out)
+            explain_named(alloc, &read, named, offset, steps, out)
         }
         None => Err(CommandFault::ProgramName),
+    }
+}
+
+/// Explains one program of the font in these bytes by the symbolic profile, the one that the word
+/// names, and returns the exit status: 0 where the verdict on the font by symbolic states refuses
+/// neither it nor one before it; 1 where it is refused, or isn't checked since the font program or
+/// the CVT program is refused. With an offset the explanation tells what the search knows there. The
+/// search makes at most so many steps for the font, where they are bounded, and otherwise as many as
+/// that of `verdict_symbolic`; a program for which they are too few is refused.
+///
+/// # Errors
+/// As `explain_program`, but never `Budget`.
+pub fn explain_program_symbolic<O: Sink>(
+    alloc: Global,
+    font: &[u8],
+    word: &str,
+    offset: Option<u32>,
+    steps: Option<u64>,
+    out: &mut O,
+) -> Result<u8, CommandFault>
+    ensures status { IfOk result (λ status. status ≤ 1) }
+    ensures accepted { IfOk result
+        (λ status. status ≡ 0 → HoldSymbolicAcceptedProgram font.now word.now) }
+    ensures refused { IfOk result
+        (λ status. status ≡ 1 → HoldSymbolicRefusedProgram font.now word.now) }
+    ensures failures { TellsFailure result (O.failures out.old) (O.failures out.new) }
+    ensures faults { IfErr result
+        (λ fault. IsFaultOfExplaining font.now word.now offset fault × IsWithin None fault) }
+    ensures none { OnOk result (HoldPlace font.now word.now offset) }
+{
+    match explain_word(alloc, font, word, offset, steps.unwrap_or(USUAL_STEPS), out) {
+        Ok(status) => Ok(status),
+        Err(fault) => Err(fault.without_budget()),
     }
 }

@@ -2,7 +2,7 @@
 
 ghost use Rattle.std.specs.Prelude.{◌≡◌, ◌+◌, ◌≤◌, IfErr, IfOk, List, OnOk, ℕ};
 ghost use Rattle.hintcheck.specs.Commands.{TellsFailure};
-ghost use Rattle.hintcheck.specs.CommandFaults.{IsFaultOfExplaining, IsFaultOfFileExplaining};
+ghost use Rattle.hintcheck.specs.CommandFaults.{IsFaultOfExplaining, IsFaultOfFileExplaining, IsWithin};
 ghost use Rattle.hintcheck.specs.Explanations.{HoldPlace};
 ghost use Rattle.hintcheck.specs.MeansSafe.{HoldAcceptedBy, HoldUnacceptedBy};
 
@@ -22,6 +22,7 @@ fn explain_by<O: Sink>(
     bytes: &[u8],
     word: &str,
     offset: Option<u32>,
+    budget: Option<u64>,
     profile: Profile,
     out: &mut O,
 ) -> Result<u8, CommandFault>
@@ -31,12 +32,13 @@ fn explain_by<O: Sink>(
     ensures refused { IfOk result
         (λ status. status ≡ 1 → HoldUnacceptedBy profile bytes.now word.now) }
     ensures failures { TellsFailure result (O.failures out.old) (O.failures out.new) }
-    ensures faults { IfErr result (IsFaultOfExplaining bytes.now word.now offset) }
+    ensures faults { IfErr result
+        (λ fault. IsFaultOfExplaining bytes.now word.now offset fault × IsWithin budget fault) }
     ensures none { OnOk result (HoldPlace bytes.now word.now offset) }
 {
     match profile {
-        Profile::Strict => explain_program(alloc, bytes, word, offset, out),
-        Profile::Symbolic => explain_program_symbolic(alloc, bytes, word, offset, out),
+        Profile::Strict => explain_program(alloc, bytes, word, offset, budget, out),
+        Profile::Symbolic => explain_program_symbolic(alloc, bytes, word, offset, budget, out),
     }
 }
 
@@ -51,6 +53,7 @@ pub(super) fn explain_of_file<R: Files + AllocGlobal, O: Sink>(
     name: &str,
     word: &str,
     offset: Option<u32>,
+    budget: Option<u64>,
     profile: Profile,
     out: &mut O,
 ) -> Result<u8, CommandFault>
@@ -60,9 +63,10 @@ pub(super) fn explain_of_file<R: Files + AllocGlobal, O: Sink>(
     ensures refused { IfOk result
         (λ status. status ≡ 1 → (bytes : List ℕ) × HoldUnacceptedBy profile bytes word.now) }
     ensures failures { TellsFailure result (O.failures out.old) (O.failures out.new) }
-    ensures faults { IfErr result (IsFaultOfFileExplaining word.now offset) }
+    ensures faults { IfErr result
+        (λ fault. IsFaultOfFileExplaining word.now offset fault × IsWithin budget fault) }
     ensures none { OnOk result ((bytes : List ℕ) × HoldPlace bytes word.now offset) }
 {
     let bytes = file_bytes(rt, name)?;
-    explain_by(rt.alloc(), &bytes, word, offset, profile, out)
+    explain_by(rt.alloc(), &bytes, word, offset, budget, profile, out)
 }

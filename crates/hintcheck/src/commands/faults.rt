@@ -1,7 +1,7 @@
 //! Why a command gives no answer.
 
 ghost use Rattle.std.specs.Prelude.{◌≡◌, ◌≤◌};
-ghost use Rattle.hintcheck.specs.Commands.{IsNoWriteFault, fault_of_word, status_of};
+ghost use Rattle.hintcheck.specs.Commands.{IsNoWriteFault, fault_of_word, fault_unlimited, status_of};
 ghost use Rattle.hintcheck.specs.Containers.{container_beside, container_of};
 
 use crate::neighbours::Neighbours;
@@ -15,6 +15,7 @@ use std::alloc::AllocError;
 use std::error::Error;
 use std::io::ErrorKind;
 use std::{fmt, io};
+use tt_abs::Exhausted;
 use tt_font::FontFault;
 use tt_stream::{PrintFailed, ReadFault};
 
@@ -376,6 +377,16 @@ impl CommandFault {
         match fault {
             WordFault::BadWord => bad,
             WordFault::OutOfMemory(AllocError) => CommandFault::OutOfMemory,
+        }
+    }
+
+    /// Returns the fault where no budget was given: the greatest one's end is told as out of memory.
+    pub(crate) fn without_budget(self) -> CommandFault
+        ensures { result ≡ fault_unlimited self.entry }
+    {
+        match self {
+            CommandFault::Budget => CommandFault::OutOfMemory,
+            fault => fault,
         }
     }
 
