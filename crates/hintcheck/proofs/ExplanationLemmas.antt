@@ -7,10 +7,11 @@ use Rattle.tt_cert.specs.declared.name.Name.{Name}
 use Rattle.tt_cert.specs.declared.name.Name.TheVariants as name
 use Rattle.hintcheck_explain.specs.Faults.{HasLeast, HasRefusal, TellsFailure as TellsExplained}
 use Rattle.hintcheck_explain.specs.declared.asked.ExplainFault.{ExplainFault}
+use Rattle.tt_abs.specs.declared.exhausted.Exhausted.TheVariants.{Memory, Budget as Points}
 use Rattle.hintcheck_explain.specs.declared.asked.ExplainFault.TheVariants as explaining
 use Rattle.tt_stream.specs.declared.text.PrintFailed.TheVariants as failed
 use Rattle.hintcheck.specs.Commands.{TellsFailure, fault_of_explain}
-use Rattle.hintcheck.specs.CommandFaults.{IsFaultOfLines}
+use Rattle.hintcheck.specs.CommandFaults.{IsFaultOfExplanation}
 use Rattle.hintcheck.specs.Explanations.{IsAnswered, Refuses, TellsProgram, cvt_accepted, cvt_refused, font_accepted, font_refused, glyph_accepted, glyph_refused}
 use Rattle.hintcheck_fonts.specs.FontPrograms.{cvt_subject, font_of, font_subject, glyph_subject}
 use Rattle.tt_abs.specs.Failures.{reason_of}
@@ -38,13 +39,15 @@ pub failed_text : (S : Type 0) {T : Type 0} (e : ExplainFault) (r : Result T Com
 failed_text S e (Ok x) old new tells is = absurd is
 failed_text S (explaining.Write failed.Write) (Err told) old new tells is = rw is tells
 failed_text S (explaining.Write failed.Format) (Err told) old new tells is = rw is tells
-failed_text S (explaining.OutOfMemory error) (Err told) old new tells is = rw is tells
+failed_text S (explaining.Exhausted Memory) (Err told) old new tells is = rw is tells
+failed_text S (explaining.Exhausted Points) (Err told) old new tells is = rw is tells
 
-pub fault_of_text : {T : Type 0} (e : ExplainFault) (r : Result T CommandFault) → IsErrAnd r (λ told. told ≡ fault_of_explain e) → IfErr r IsFaultOfLines
+pub fault_of_text : {T : Type 0} (e : ExplainFault) (r : Result T CommandFault) → IsErrAnd r (λ told. told ≡ fault_of_explain e) → IfErr r IsFaultOfExplanation
 fault_of_text e (Ok x) is = absurd is
 fault_of_text (explaining.Write failed.Write) (Err told) is = rw is tt
 fault_of_text (explaining.Write failed.Format) (Err told) is = rw is tt
-fault_of_text (explaining.OutOfMemory error) (Err told) is = rw is tt
+fault_of_text (explaining.Exhausted Memory) (Err told) is = rw is tt
+fault_of_text (explaining.Exhausted Points) (Err told) is = rw is tt
 
 -- what was explained of a program, whatever it was searched for by
 pub answered : (x : Subject) (s : AnySetting) (r : Result Explained ExplainFault) (e : Explained) → IsSubjectOf x s → HasFlow (setting_of s) s.start.now → r ≡ Ok e

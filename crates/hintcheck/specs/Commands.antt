@@ -84,11 +84,6 @@ abbrev pub fault_of_end : Exhausted → CommandFault
 fault_of_end exhausted.Memory = fault.OutOfMemory
 fault_of_end exhausted.Budget = fault.Budget
 
--- the fault where no budget was given: the greatest one's end is told as out of memory
-abbrev pub fault_unlimited : CommandFault → CommandFault
-fault_unlimited fault.Budget = fault.OutOfMemory
-fault_unlimited other = other
-
 -- the fault of a program that isn't explained
 abbrev pub fault_of_explain : ExplainFault → CommandFault
 fault_of_explain (explaining.Write failed) = fault_of_print failed

@@ -300,8 +300,9 @@ pub fn explain_program<O: Sink>(
 {
     let Some(most) = budget else {
         return match explain_word(alloc, font, word, offset, &mut Budget::unlimited(), out) {
-            Ok(status) => Ok(status),
-            Err(fault) => Err(fault.without_budget()),
+            // No program has so many points.
+            Err(CommandFault::Budget) => Err(CommandFault::OutOfMemory),
+            explained => explained,
         };
     };
     explain_word(alloc, font, word, offset, &mut Budget::of(most), out)

@@ -235,7 +235,8 @@ pub fn explain_program_symbolic<O: Sink>(
     ensures none { OnOk result (HoldPlace font.now word.now offset) }
 {
     match explain_word(alloc, font, word, offset, steps.unwrap_or(USUAL_STEPS), out) {
-        Ok(status) => Ok(status),
-        Err(fault) => Err(fault.without_budget()),
+        // A search by steps makes no points.
+        Err(CommandFault::Budget) => Err(CommandFault::OutOfMemory),
+        explained => explained,
     }
 }

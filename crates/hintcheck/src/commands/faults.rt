@@ -1,7 +1,7 @@
 //! Why a command gives no answer.
 
 ghost use Rattle.std.specs.Prelude.{◌≡◌, ◌≤◌};
-ghost use Rattle.hintcheck.specs.Commands.{IsNoWriteFault, fault_of_word, fault_unlimited, status_of};
+ghost use Rattle.hintcheck.specs.Commands.{IsNoWriteFault, fault_of_word, status_of};
 ghost use Rattle.hintcheck.specs.Containers.{container_beside, container_of};
 
 use crate::neighbours::Neighbours;
@@ -377,16 +377,6 @@ impl CommandFault {
         match fault {
             WordFault::BadWord => bad,
             WordFault::OutOfMemory(AllocError) => CommandFault::OutOfMemory,
-        }
-    }
-
-    /// Returns the fault where no budget was given: the greatest one's end is told as out of memory.
-    pub(crate) fn without_budget(self) -> CommandFault
-        ensures { result ≡ fault_unlimited self.entry }
-    {
-        match self {
-            CommandFault::Budget => CommandFault::OutOfMemory,
-            fault => fault,
         }
     }
 

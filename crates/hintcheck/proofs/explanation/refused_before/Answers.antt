@@ -31,8 +31,8 @@ returns-in-Some-clause-refused c =
     let d = c.loop-alloc.programs.font.now in
     let i = c.loop-alloc.invariant in
     subst (λ (f : Bor FontData). IsRefusedIn f.now c.args.called) (sym c.judge_next.ensures.font)
-    (refused_answer d c.judge_next.new.judge c.args.called (stage_of c.loop-alloc.programs) (stage_of c.judge_next.new.self) c.in-Ok.outcome c.refused_by.result c.in-Some.refused
-    c.in-Ok.ensures.answer c.refused_by.ensures.none c.refused_by.ensures.some c.in-Some.is (λ here. let yes = c.is_at.ensures.1 here in let no = c.loop-alloc-test.true in cc) i.way i.known)
+    (refused_answer d c.judge_next.new.judge c.args.called (stage_of c.loop-alloc.programs) (stage_of c.judge_next.new.self) c.in_ok-outcome.outcome c.refused_by.result c.in-Some.refused
+    c.in_ok-outcome.ensures.answer c.refused_by.ensures.none c.refused_by.ensures.some c.in-Some.is (λ here. let yes = c.is_at.ensures.1 here in let no = c.loop-alloc-test.true in cc) i.way i.known)
 
 pub loop-alloc-smaller : goal.loop-alloc-smaller
 loop-alloc-smaller c =
@@ -40,7 +40,7 @@ loop-alloc-smaller c =
     let s = stage_of c.loop-alloc.programs in
     let t = stage_of c.judge_next.new.self in
     subst (λ (f : Bor FontData). calls_left f.now t < calls_left d s) (sym c.judge_next.ensures.font)
-    (fewer_on_way d c.judge_next.new.judge c.args.called s t c.in-Ok.outcome c.in-Ok.ensures.answer (λ here. let yes = c.is_at.ensures.1 here in let no = c.loop-alloc-test.true in cc)
+    (fewer_on_way d c.judge_next.new.judge c.args.called s t c.in_ok-outcome.outcome c.in_ok-outcome.ensures.answer (λ here. let yes = c.is_at.ensures.1 here in let no = c.loop-alloc-test.true in cc)
     c.loop-alloc.invariant.way)
 
 pub loop-alloc-preserved : goal.loop-alloc-preserved
@@ -52,8 +52,8 @@ loop-alloc-preserved c =
     let i = c.loop-alloc.invariant in
     record {
       font = c.judge_next.ensures.font ∙ i.font;
-      known = subst (λ (f : Bor FontData). KeepsKnown f.now t) (sym c.judge_next.ensures.font) (stays_known d j s t c.in-Ok.outcome c.in-Ok.ensures.answer i.known);
-      way = still_on_way d j c.args.called s t c.in-Ok.outcome c.in-Ok.ensures.answer (λ here. let yes = c.is_at.ensures.1 here in let no = c.loop-alloc-test.true in cc) i.way
+      known = subst (λ (f : Bor FontData). KeepsKnown f.now t) (sym c.judge_next.ensures.font) (stays_known d j s t c.in_ok-outcome.outcome c.in_ok-outcome.ensures.answer i.known);
+      way = still_on_way d j c.args.called s t c.in_ok-outcome.outcome c.in_ok-outcome.ensures.answer (λ here. let yes = c.is_at.ensures.1 here in let no = c.loop-alloc-test.true in cc) i.way
           (λ o is. sym (c.refused_by.ensures.some o is) ∙ c.in_default-refused_by.is);
     }
 

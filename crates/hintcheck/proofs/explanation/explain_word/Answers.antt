@@ -1,7 +1,7 @@
 use Rattle.std.proofs.lemmas.Result.{IfOk-weaker}
 use Rattle.hintcheck.proofs.NameLemmas.{named_few}
 use Rattle.hintcheck.proofs.PlaceLemmas.{place_in}
-use Rattle.hintcheck.proofs.explanation.explain_program.Goals as goal
+use Rattle.hintcheck.proofs.explanation.explain_word.Goals as goal
 
 pub check_offset-requires : goal.check_offset-requires
 check_offset-requires g c = named_few c.in_ok-read.read c.in_ok-read.ensures.range c.args.word.now c.in-Some.named.bytes.now c.in-Some.ensures.there

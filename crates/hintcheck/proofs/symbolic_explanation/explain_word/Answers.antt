@@ -1,6 +1,6 @@
 use Rattle.std.proofs.lemmas.Result.{IfOk-weaker}
 use Rattle.hintcheck.proofs.NameLemmas.{named_few}
-use Rattle.hintcheck.proofs.symbolic_explanation.explain_program_symbolic.Goals as goal
+use Rattle.hintcheck.proofs.symbolic_explanation.explain_word.Goals as goal
 
 pub check_offset-requires : goal.check_offset-requires
 check_offset-requires g c = named_few c.in_ok-read.read c.in_ok-read.ensures.range c.args.word.now c.in-Some.named.bytes.now c.in-Some.ensures.there
