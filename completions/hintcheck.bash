@@ -11,7 +11,8 @@ _hintcheck() {
         verdict) options='--symbolic --points --json --help' ;;
         scan) options='--symbolic --points --fail-on --json --help' ;;
         find | check) options='--points --help' ;;
-        explain | bare) options='--symbolic --help' ;;
+        explain) options='--symbolic --points --help' ;;
+        bare) options='--symbolic --help' ;;
         list) options='--numbers --help' ;;
     esac
     case $command in

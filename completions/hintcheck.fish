@@ -13,7 +13,7 @@ complete -c hintcheck -n "not __fish_seen_subcommand_from $commands" -a help -d 
 complete -c hintcheck -n "not __fish_seen_subcommand_from $commands" -s V -l version -d 'Say which version this is'
 complete -c hintcheck -n "not __fish_seen_subcommand_from help" -s h -l help -d 'Say what the command does'
 complete -c hintcheck -n "__fish_seen_subcommand_from verdict scan explain bare" -l symbolic -d 'Follow values that are computed, with further premises'
-complete -c hintcheck -n "__fish_seen_subcommand_from verdict scan find check" -l points -x -d 'How many points may be made'
+complete -c hintcheck -n "__fish_seen_subcommand_from verdict scan explain find check" -l points -x -d 'How many points may be made'
 complete -c hintcheck -n "__fish_seen_subcommand_from scan" -l fail-on -x -a possible -d 'For which refused programs the status is 1'
 complete -c hintcheck -n "__fish_seen_subcommand_from list" -l numbers -d 'List the numbers that instructions push'
 complete -c hintcheck -n "__fish_seen_subcommand_from verdict scan" -l json -d 'Print an object of JSON for each font'

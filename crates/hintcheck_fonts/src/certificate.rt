@@ -97,7 +97,7 @@ impl FindFontFault {
     /// Returns the fault where the budget was the greatest: no font has so many points, and its end is
     /// told as out of memory.
     pub fn without_budget(self) -> FindFontFault
-        ensures { result ≡ find_unlimited self.entry }
+        ensures { result ≡ find_unlimited self }
     {
         match self {
             FindFontFault::Budget => FindFontFault::OutOfMemory(AllocError),

@@ -102,7 +102,7 @@ impl CheckFontFault {
     /// Returns the fault where the budget was the greatest: no font has so many points, and its end is
     /// told as out of memory.
     pub fn without_budget(self) -> CheckFontFault
-        ensures { result ≡ check_unlimited self.entry }
+        ensures { result ≡ check_unlimited self }
     {
         match self {
             CheckFontFault::Budget => CheckFontFault::OutOfMemory(AllocError),
