@@ -17,7 +17,8 @@ use Rattle.tt_cert.specs.Text.{header_text, section_text}
 use Rattle.tt_find.specs.declared.finder.Found.{Found}
 use Rattle.tt_font.specs.Reading.{FontData, GlyphData}
 use Rattle.tt_stream.specs.Streams.{AppendsBeginning}
-use Rattle.hintcheck_fonts.specs.CertificateFaults.{CountsFind, IsFindFaultOutsideFontAndBudget, fault_of_encoding}
+use Rattle.hintcheck_fonts.specs.BudgetAnswers.{IsFindFaultOutsideFont}
+use Rattle.hintcheck_fonts.specs.CertificateFaults.{CountsFind, fault_of_encoding}
 use Rattle.hintcheck_fonts.specs.CertificateTexts.{AreGlyphTexts, IsCertificate, IsEndedText, IsPassingCertificate, IsReadableListing, IsTextOf, WritesBeginning, WritesText, no_glyphs, one_more}
 use Rattle.hintcheck_fonts.specs.FindingSessions.{AreFirstSections, IsCertificateBegun, IsFoundFor, IsFoundToEnd, IsOutcomeByFinding, cvt_found, font_found, glyph_found, none_yet, one_program_more}
 use Rattle.hintcheck_fonts.specs.Representation.FontVerdicts.{AreAllRefused}
@@ -53,7 +54,7 @@ counts_encoding encode.Write a b n same counted = counted ∙ ap (λ k. k + 1) s
 counts_encoding (encode.OutOfMemory error) a b n same counted = counted ∙ same
 
 -- and that isn't the font's fault
-pub encoding_no_font : (e : EncodeFault) → IsFindFaultOutsideFontAndBudget (fault_of_encoding e)
+pub encoding_no_font : (e : EncodeFault) → IsFindFaultOutsideFont (fault_of_encoding e)
 encoding_no_font encode.Write = tt
 encoding_no_font (encode.OutOfMemory error) = tt
 

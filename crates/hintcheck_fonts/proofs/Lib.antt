@@ -11,7 +11,6 @@ pub mod CertificateWriting
 pub mod OneFinding
 pub mod OneFont
 pub mod CheckedTexts
-pub mod BudgetTells
 pub mod UnlimitedFaults
 pub mod UnreadBytes
 pub mod UpgradeChecks

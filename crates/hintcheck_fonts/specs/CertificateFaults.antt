@@ -77,13 +77,6 @@ FindTellsFontFault condition (Err find.Write) = condition ≡ None
 FindTellsFontFault condition (Err (find.OutOfMemory error)) = condition ≡ None
 FindTellsFontFault condition (Err find.Budget) = ⊥
 
--- the fault is neither the font's nor a budget's
-abbrev pub IsFindFaultOutsideFontAndBudget : FindFontFault → Type 0
-IsFindFaultOutsideFontAndBudget (find.Font font) = ⊥
-IsFindFaultOutsideFontAndBudget find.Write = Unit {0}
-IsFindFaultOutsideFontAndBudget (find.OutOfMemory error) = Unit {0}
-IsFindFaultOutsideFontAndBudget find.Budget = ⊥
-
 -- where the verdict names a refused program, nothing was written
 abbrev pub WritesNothing : Option (List ℕ) → Option (List ℕ) → Judgement → Type 0
 WritesNothing old new judgement = judgement.refused ≢ [] → new ≡ old

@@ -1,5 +1,3 @@
-use Rattle.std.specs.Prelude.{◌≡◌, Err, Result}
-use Rattle.std.proofs.Common.{sym, ◌∙◌, ap}
 use Rattle.hintcheck_fonts.proofs.UnlimitedFaults.{counts_found, font_found, write_unlimited}
 use Rattle.hintcheck_fonts.proofs.certificate.find_font.Goals as goal
 

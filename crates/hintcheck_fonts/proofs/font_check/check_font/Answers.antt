@@ -1,5 +1,3 @@
-use Rattle.std.specs.Prelude.{Err}
-use Rattle.hintcheck_fonts.specs.CheckedFonts.{bytes_in}
 use Rattle.hintcheck_fonts.proofs.UnlimitedFaults.{counts_unlimited, finds_unlimited, font_unlimited, read_unlimited}
 use Rattle.hintcheck_fonts.proofs.font_check.check_font.Goals as goal
 
