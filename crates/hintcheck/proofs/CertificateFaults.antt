@@ -1,5 +1,5 @@
 -- A certificate's fault as it is told is one of those that may be told.
-use Rattle.std.proofs.Common.{◌≡◌, ℕ, Bool, Option, false, suc, true, zero}
+use Rattle.std.proofs.Common.{ℕ, Bool, Option, false, suc, true, zero}
 use Rattle.hintcheck.specs.CommandFaults.{IsFaultOfCheck, IsFaultOfChecking, IsWithin, told_of_certificate}
 use Rattle.hintcheck.specs.declared.commands.faults.CommandFault.{CommandFault}
 use Rattle.hintcheck.specs.declared.commands.faults.CommandFault.TheVariants as fault
