@@ -1,6 +1,6 @@
 -- The lines of a program's instructions, one after the other.
 use Rattle.std.specs.Prelude.{◌/◌, ◌%◌, codes}
-use Rattle.std.specs.Fmt.{digit_glyph}
+use Rattle.std.specs.Fmt.{decimal, digit_glyph}
 use Rattle.std.specs.Io.KnownBytes.{Appends}
 use Rattle.std.specs.List.{AllByRecursion}
 use Rattle.std.proofs.Common.{◌≡◌, ◌∙◌, ℕ, ◌+◌, ◌<◌, ◌≤◌, List, [], ◌∷◌, ◌++◌, Option, Some, false, length, take, get_or, refl, sym, ap, subst, arith, append_assoc}
@@ -14,7 +14,7 @@ use Rattle.tt_cert.specs.declared.name.Name.{Name}
 use Rattle.tt_code.proofs.CutLemmas.{found_is, size-append, some_bytes}
 use Rattle.tt_code.proofs.StructureLaws.{found_iff_stands}
 use Rattle.hintcheck_words.specs.declared.words.Detail.{Detail}
-use Rattle.hintcheck.specs.Listing.{CannotBeListed, IsListedBefore, IsUnlistedAt, TellsUnlisted, hex_digits, line_of, lines_of, no_cut, no_structure, refused_in}
+use Rattle.hintcheck.specs.Listing.{CannotBeListed, IsListedBefore, IsUnlistedAt, TellsUnlisted, hex_digits, line_of, lines_of, no_cut, no_structure, refused_in, shown_name, shown_numbers}
 use Rattle.hintcheck_fonts.specs.Programs.{IsCause, IsRefusal, Subject}
 use Rattle.hintcheck_fonts.specs.Programs as cause
 use Rattle.hintcheck_report.specs.Texts.{refused_text}
@@ -27,6 +27,21 @@ digits_of_byte b = digit_glyph false (b / 16) ∷ digit_glyph false (b % 16) ∷
 
 pub digits_more : (bytes : List ℕ) (i : ℕ) → i < length bytes → hex_digits (take i bytes) ++ digits_of_byte (get_or bytes i 0) ≡ hex_digits (take (i + 1) bytes)
 digits_more bytes i h = rw (take_more bytes i 0 h) (flat_map_more digits_of_byte [] (take i bytes) (get_or bytes i 0))
+
+-- a line, which is written in three parts
+
+grouped : (d c h s n m e : List ℕ) → ((d ++ (c ++ (h ++ (s ++ n)))) ++ m) ++ e ≡ d ++ (c ++ (h ++ (s ++ (n ++ (m ++ e)))))
+grouped d c h s n m e = simp append_assoc
+
+pub line_joined : (detail : Detail) (offset : ℕ) (i : Instruction) (old named numbered new : Option (List ℕ))
+    → Appends old named (decimal offset ++ (codes ": " ++ (hex_digits i ++ (codes " " ++ shown_name i)))) → Appends named numbered (shown_numbers detail i) → Appends numbered new (codes "\n")
+    → Appends old new (line_of detail offset i)
+unfolding line_of
+line_joined detail offset i old named numbered new head numbers end =
+    let front : List ℕ = decimal offset ++ (codes ": " ++ (hex_digits i ++ (codes " " ++ shown_name i))) in
+    let numbered_is = Appends-trans old named numbered front (shown_numbers detail i) head numbers in
+    let all = Appends-trans old numbered new (front ++ shown_numbers detail i) (codes "\n") numbered_is end in
+    subst (Appends old new) (grouped (decimal offset) (codes ": ") (hex_digits i) (codes " ") (shown_name i) (shown_numbers detail i) (codes "\n")) all
 
 -- one more line
 

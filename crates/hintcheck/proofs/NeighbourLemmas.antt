@@ -1,6 +1,5 @@
 -- The instructions around an offset at which none begins, and the fault that tells them.
-use Rattle.std.proofs.Common.{◌≡◌, ◌<◌, ◌≤◌, ◌+◌, ◌∷◌, ℕ, zero, suc, List, [], IfErr, Option, Result, Ok, Err, inl, inr, length, ap, arith, refl, subst, sym}
-use Rattle.std.proofs.Math.Nat.{eq-or-lt_of_le}
+use Rattle.std.proofs.Common.{◌≡◌, ◌<◌, ℕ, zero, suc, List, [], Option, Err, length, ap, arith, refl}
 use Rattle.tt_font.specs.Reading.{FontData, Reads}
 use Rattle.hintcheck.specs.CommandFaults.{IsFaultOfExplaining}
 use Rattle.hintcheck.specs.Commands.{TellsFailure}
@@ -30,22 +29,6 @@ nowhere program offset none before k begins =
     go : (at : ℕ) → (BeginsInstruction program at → ⊥) → NoneBefore program at → BeginsInstruction program 0 → ⊥
     go zero none before first = none first
     go (suc n) none before first = before 0 (omega arith) first
-
--- one offset more at which none begins, below the others or above them
-
-pub one_below : (program : List ℕ) (at offset : ℕ) → ((k : ℕ) → at + 1 ≤ k → k < offset → BeginsInstruction program k → ⊥) → (BeginsInstruction program at → ⊥)
-    → (k : ℕ) → at ≤ k → k < offset → BeginsInstruction program k → ⊥
-one_below program at offset above here k from below begins = elim (eq-or-lt_of_le from) [
-  | inl same ↦ here (subst (BeginsInstruction program) (sym same) begins)
-  | inr more ↦ above k (omega arith) below begins
-]
-
-pub one_above : (program : List ℕ) (offset at : ℕ) → ((k : ℕ) → offset < k → k ≤ at → BeginsInstruction program k → ⊥) → (BeginsInstruction program (at + 1) → ⊥)
-    → (k : ℕ) → offset < k → k ≤ at + 1 → BeginsInstruction program k → ⊥
-one_above program offset at below here k above up_to begins = elim (eq-or-lt_of_le up_to) [
-  | inl same ↦ here (subst (BeginsInstruction program) same begins)
-  | inr less ↦ below k above (omega arith) begins
-]
 
 -- the fault of an offset is one of the explanation
 pub fault_of_offset : (bytes word program : List ℕ) (d : FontData) (offset : Option ℕ) (f : CommandFault) → Reads bytes d → Names word d program → IsFaultOfOffset program offset f

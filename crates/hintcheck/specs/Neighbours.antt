@@ -1,6 +1,6 @@
 -- The instructions around an offset at which none begins, which are told where it is asked for. (Own:
 -- that these are told.)
-use Rattle.std.specs.Prelude.{◌≡◌, ◌<◌, codes, IfSome, List, ◌++◌, Option, Some, slice_get, unwrap_or, ℕ}
+use Rattle.std.specs.Prelude.{◌≡◌, ◌<◌, codes, IfSome, List, [], ◌++◌, Option, Some, slice_get, unwrap_or, ℕ}
 use Rattle.std.specs.Fmt.{decimal}
 use Rattle.tt_code.specs.Table.{name_of}
 use Rattle.tt_font.specs.Reading.{FontData, Reads}

@@ -2,6 +2,7 @@
 use Rattle.std.specs.Prelude.{codes}
 use Rattle.std.specs.Io.KnownBytes.{Appends}
 use Rattle.std.proofs.Common.{ℕ, List, [], ◌++◌, subst}
+use Rattle.tt_code.specs.declared.reason.Reason.{Reason}
 use Rattle.tt_font.specs.Reading.{no_glyph}
 use Rattle.hintcheck_fonts.specs.FontPrograms.{font_of, glyph_subject, one_glyph_font}
 use Rattle.hintcheck_fonts.specs.Programs.{IsRefusal, Subject}
@@ -15,6 +16,7 @@ use Rattle.hintcheck_fonts.specs.ProgramVerdicts.{IfRefused}
 use Rattle.hintcheck_report.specs.Places.{reported_at}
 use Rattle.hintcheck_report.specs.Texts.{refused_text}
 use Rattle.hintcheck_report.specs.declared.refused.Refused.{Refused}
+use Rattle.hintcheck.specs.Listing.{refused_in}
 use Rattle.hintcheck.proofs.ListingLemmas.{tells_unlisted}
 use Rattle.hintcheck.proofs.instruction_list.list_named.Goals as goal
 
@@ -39,7 +41,8 @@ returns-in_ok-writeln-in-Err-Refused-clause-told g c = λ one.
     let x = in_some_font c.args.named.bytes.now in
     let F : Refusal → Type 0 = λ f. IfRefused x.name f (IsRefusal x) in
     let W : Refused → Type 0 = λ r. Appends (g.O.Sink.contents c.args.out.now) (g.O.Sink.contents c.writeln.new.self) (refused_text r ++ codes "\n") in
+    let L : Reason → Type 0 = λ r. Appends (g.O.Sink.contents c.args.out.now) (g.O.Sink.contents c.writeln.new.self) (refused_text (refused_in c.args.named.name e.offset r) ++ codes "\n") in
     tells_unlisted x c.args.named.name (reported_at x.name e.field-0-0 e.offset (reason_of e.failed)) (g.O.Sink.contents c.args.out.now) (g.O.Sink.contents c.writeln.new.self)
     (subst F e.field-0-is (refusal_of x e.field-0 (uncut_refusal x e.field-0 (e.ensures.uncut x.name))))
     (λ is cut structured. subst IsOutOfMemory e.field-0-is (e.ensures.only is cut structured))
-    (rw c.reason.ensures at (subst W c.refused_at-refused.ensures c.in_ok-writeln-in-Err-Refused.ensures.written))
+    (subst L (rw e.field-0-is at c.reason.ensures) (rw e.field-0-is at (subst W c.refused_at-refused.ensures c.in_ok-writeln-in-Err-Refused.ensures.written)))

@@ -1,6 +1,4 @@
-use Rattle.std.proofs.Common.{◌≡◌, ◌<◌, ◌≤◌, ℕ, arith, refl}
-use Rattle.hintcheck.specs.Explanations.{BeginsInstruction}
-use Rattle.hintcheck.proofs.NeighbourLemmas.{one_below}
+use Rattle.std.proofs.Common.{arith}
 use Rattle.hintcheck.proofs.PlaceLemmas.{begins_within}
 use Rattle.hintcheck.proofs.neighbours.last_before.Goals as goal
 
@@ -9,4 +7,11 @@ loop-at-init c = record {
   within = omega arith;
   before = omega arith;
   none = λ k from below begins. let within = begins_within c.args.program.now k begins in absurd (omega arith);
+}
+
+pub returns-then-branch-clause-found : goal.returns-then-branch-clause-found
+returns-then-branch-clause-found c = record {
+  instruction = c.neighbour_at.ensures.instruction;
+  before = omega arith;
+  last = λ k above below begins. c.loop-at.invariant.none k (omega arith) below begins;
 }
