@@ -152,7 +152,12 @@ fn look_back(
     };
     for edge in edges {
         if edge.to == traced.point {
-            if let Some((cell, provenance)) = brought_from(alloc, subject, edge.from, traced.element)? {
+            if let Some((cell, provenance)) = brought_from(
+                alloc,
+                subject,
+                edge.from,
+                traced.element,
+            )? {
                 let origin = add_way(trace, &mut meeting, traced, edge.from, cell, provenance)?;
                 if origin.is_some() {
                     return Ok(origin);

@@ -37,7 +37,12 @@ fn top_index(state: &State) -> usize {
 }
 
 /// Returns where a number was kept that is under this many others after a stack instruction.
-fn provenance_of_shuffled(state: &State, operation: StackOp, taken: usize, place: usize) -> Provenance {
+fn provenance_of_shuffled(
+    state: &State,
+    operation: StackOp,
+    taken: usize,
+    place: usize,
+) -> Provenance {
     let depth = state.depth();
     match (operation, taken) {
         (StackOp::Dup, 0) => under(depth, 0),

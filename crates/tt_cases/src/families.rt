@@ -154,7 +154,10 @@ fn find_text(alloc: Global, setting: &Setting<'_>) -> Result<String>
     requires ascends { Ascends setting.now.start.now }
     requires fits { FunctionsFit (setting_of setting.now) setting.now.start.now }
 {
-    let points = explore(alloc, setting, &mut Budget::unlimited())?.found.certificate.points();
+    let points = explore(alloc, setting, &mut Budget::unlimited())?
+        .found
+        .certificate
+        .points();
     match find(alloc, setting) {
         Ok(found) => found_text(alloc, setting, &found, points),
         Err(refusal) => Ok(refusal_text(alloc, &refusal)?),

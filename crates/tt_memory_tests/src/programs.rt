@@ -73,9 +73,7 @@ fn inputs_of(alloc: Global, setting: &Setting<'_>) -> Option<Inputs>
     let mut large = state_of(alloc, &[(0, 3)], &[70_000; 40]).ok()?;
     large.set_storage(2, Known(7)).ok()?;
     let mut finder = Finder::new(alloc);
-    finder
-        .find(alloc, setting, &mut Budget::unlimited())
-        .ok()?;
+    finder.find(alloc, setting, &mut Budget::unlimited()).ok()?;
     let found = finder.into_found()?;
     let mut sink = Counted::new(Vec::new(alloc));
     encode(alloc, Name::Glyph(0), &found.certificate, &mut sink).ok()?;
