@@ -1,19 +1,19 @@
 -- The glyphs that may be drawn with hints, as sets from which refused ones are taken out, and as
 -- arrays.
-use Rattle.std.proofs.Common.{◌≡◌, ◌≢◌, ◌↔◌, ℕ, zero, suc, ◌+◌, ◌<◌, ◌≤◌, List, [], ◌∷◌, Bool, true, false, None, length, replicate, refl, sym, ◌∙◌, ap, subst, arith, inl, inr, get_or, ◌++◌, take, drop}
+use Rattle.std.proofs.Common.{◌≡◌, ◌≢◌, ◌↔◌, ℕ, suc, ◌+◌, ◌<◌, ◌≤◌, List, [], ◌∷◌, Bool, true, false, None, length, replicate, refl, sym, ◌∙◌, ap, subst, arith, inl, inr, get_or, ◌++◌, take, drop}
 use Rattle.std.specs.Prelude.{◌⊎◌, slice_index, if◌then◌else◌}
 use Rattle.std.proofs.lemmas.Bool.{cases_eq, cases_lt}
 use Rattle.std.proofs.lemmas.List.{get_or-replicate, get_or_past, length-replicate}
 use Rattle.std.proofs.Math.Seq.{take-append_seam}
 use Rattle.tt_cert.specs.declared.name.Name.{Name}
 use Rattle.tt_cert.specs.declared.name.Name.TheVariants as name
-use Rattle.tt_components.specs.Closed.{HasAllReached, Reaches, is_in}
+use Rattle.tt_components.specs.Closed.{HasAllReached, is_in}
 use Rattle.tt_components.proofs.Chains.{reached_inside, reaches_itself}
 use Rattle.tt_font.specs.FileFaults.{font_fault}
 use Rattle.tt_font.specs.Files.{font_glyph_count, font_outlines}
 use Rattle.hintcheck_report.specs.declared.refused.Refused.{Refused}
-use Rattle.hintcheck_c.specs.MayHint.{AreAccepted, IsAnothers, MayHint, TellsMayHint}
-use Rattle.hintcheck_c.specs.Representation.HintedSets.{AreHinted, Tell, TellBelow, entry_of}
+use Rattle.hintcheck_c.specs.MayHint.{IsAnothers, MayHint, TellsMayHint}
+use Rattle.hintcheck_c.specs.Representation.HintedSets.{AreHinted, Tell, TellBelow}
 
 -- ---- sets
 

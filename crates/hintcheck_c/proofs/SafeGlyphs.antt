@@ -1,13 +1,12 @@
 -- What is run to draw a glyph that may be drawn with hints is safe.
-use Rattle.std.specs.Prelude.{◌^◌, slice_get}
+use Rattle.std.specs.Prelude.{slice_get}
 use Rattle.std.specs.List.{AllByRecursion}
-use Rattle.std.proofs.Common.{◌≡◌, ◌≢◌, ℕ, zero, suc, ◌+◌, ◌<◌, List, [], ◌∷◌, None, Some, length, refl, sym, ◌∙◌, ap, subst, arith, get_or}
+use Rattle.std.proofs.Common.{◌≡◌, ℕ, zero, suc, ◌+◌, ◌<◌, List, [], ◌∷◌, None, Some, refl, sym, ◌∙◌, ap, subst, arith}
 use Rattle.tt_code.specs.Cut.{Instruction}
 use Rattle.tt_code.specs.Fonts.{Font}
 use Rattle.tt_code.specs.Settings.{Setting}
 use Rattle.tt_cert.specs.declared.name.Name.{Name}
 use Rattle.tt_cert.specs.declared.name.Name.TheVariants as name
-use Rattle.tt_components.specs.Closed.{Reaches}
 use Rattle.tt_components.proofs.Chains.{reaches_itself}
 use Rattle.tt_font.specs.FileFaults.{font_fault, tables_fault}
 use Rattle.tt_font.specs.Conditions.{Condition, first, glyphs_fault}
@@ -16,9 +15,8 @@ use Rattle.tt_font.specs.Ranges.{AreFewBytes, IsFontInRange}
 use Rattle.tt_font.specs.Reading.{FontData, GlyphData, Reads}
 use Rattle.tt_font.proofs.RangeLemmas.{font_in_range}
 use Rattle.tt_symbolic_font.specs.Starts.{GlyphPrograms}
-use Rattle.hintcheck_fonts.specs.CheckedFonts.{HasGoodFamilies}
 use Rattle.hintcheck_fonts.specs.FontPrograms.{AreRefused, IsSafeFont, IsVerdict, accepted, cvt_refused, cvt_subject, font_of, font_refused, font_subject, glyph_subject, no_glyph_left, none_ended, refused}
-use Rattle.hintcheck_fonts.specs.Programs.{EndsWith, HasGoodFamily, HasLeastFamily, IsRefusal}
+use Rattle.hintcheck_fonts.specs.Programs.{EndsWith, HasGoodFamily, HasLeastFamily}
 use Rattle.hintcheck_fonts.specs.SymbolicVerdicts.{AreOthersThan, IsGlyphSetting, IsSymbolicVerdict}
 use Rattle.hintcheck_fonts.specs.SymbolicVerdicts as symbolic
 use Rattle.hintcheck_fonts.specs.Verdicts.{Judgement}

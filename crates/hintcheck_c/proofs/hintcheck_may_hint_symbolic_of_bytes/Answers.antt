@@ -1,4 +1,4 @@
-use Rattle.std.proofs.Common.{◌≡◌, ◌≤◌, ℕ, List, [], subst, sym, ◌∙◌, ap, arith}
+use Rattle.std.proofs.Common.{◌≡◌, ◌≤◌, ℕ, List, subst, sym, ◌∙◌, ap, arith}
 use Rattle.std.specs.Prelude.{slice_index}
 use Rattle.hintcheck_c.specs.MayHint.{AnswersMayHintSymbolic}
 use Rattle.hintcheck_c.specs.declared.answer.HintcheckAnswer.{HintcheckAnswer}
@@ -13,7 +13,7 @@ returns-clause-hinted c = λ id one. elim c.match-judge_hinting_symbolic.branch 
       let (d, reads, given) = w.in-Ok.ensures.given in
       let told : slice_index w.answer_hinting.new.may_hint id ≡ 1 = ap (λ (es : List ℕ). slice_index es id) (sym w.may_hint-is) ∙ one in
       told_is_safe_symbolic c.args.font.now d w.in-Ok.hinting.verdict w.in-Ok.hinting.glyphs.items w.answer_hinting.new.may_hint id
-          reads given w.in-Ok.ensures.glyphs w.answer_hinting.ensures.tell told)
+      reads given w.in-Ok.ensures.glyphs w.answer_hinting.ensures.tell told)
   | in-Err w ↦ (
       let told : slice_index w.answer_no_hinting.new.may_hint id ≡ 1 = ap (λ (es : List ℕ). slice_index es id) (sym w.may_hint-is) ∙ one in
       absurd (no_entry w.answer_no_hinting.new.may_hint id w.answer_no_hinting.ensures.tell told))
@@ -27,7 +27,7 @@ returns-clause-verdict c = λ few. elim c.match-judge_hinting_symbolic.branch [
       let H : HintcheckAnswer → Type 0 = λ a. AnswersMayHintSymbolic c.args.font.now a c.match-judge_hinting_symbolic.may_hint in
       let E : List ℕ → Type 0 = λ es. AnswersMayHintSymbolic c.args.font.now w.answer_hinting.result es in
       subst H (sym w.answer-is) (subst E (sym w.may_hint-is) (answers_may_hint_symbolic c.args.font.now d w.in-Ok.hinting.verdict w.in-Ok.hinting.glyphs.items w.answer_hinting.result entries
-          reads given w.answer_hinting.ensures.answers w.in-Ok.ensures.glyphs w.answer_hinting.ensures.tell)))
+      reads given w.answer_hinting.ensures.answers w.in-Ok.ensures.glyphs w.answer_hinting.ensures.tell)))
   | in-Err w ↦ (
       let many : 2 ≤ w.answer_no_hinting.result.status = answered_fault_status w.in-Err.fault 0 w.answer_no_hinting.result w.answer_no_hinting.ensures.answer in
       let is : c.match-judge_hinting_symbolic.answer.status ≡ w.answer_no_hinting.result.status = ap (λ (a : HintcheckAnswer). a.status) w.answer-is in
