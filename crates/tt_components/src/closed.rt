@@ -24,8 +24,8 @@ fn has_whole(set: &[bool], glyphs: &Glyphs, id: u16) -> bool
     is_in(set, id) && has_parts_in(glyphs.glyph(id), set)
 }
 
-/// Takes each glyph out of a set that has a component that isn't in it, and returns whether there
-/// was one.
+/// Takes out of a set each glyph with a component that isn't in it, and returns whether there was
+/// one.
 fn take_out(set: &mut [bool], glyphs: &Glyphs) -> bool
     requires { length set.old ≡ glyphs.now.count }
     ensures taken { TakesOut (outlines_in glyphs.now) set.old set.new }
@@ -41,8 +41,8 @@ fn take_out(set: &mut [bool], glyphs: &Glyphs) -> bool
     changed
 }
 
-/// Takes each glyph out of a set from which a chain of components leads to a glyph that isn't in
-/// it. The set has a bool for each glyph of a font, which is read without a fault. Each glyph's
+/// Takes out of a set each glyph from which a chain of components leads to a glyph that isn't in it.
+/// The set has a bool for each glyph of a font, which is read without a fault. Each glyph's
 /// components are read at most 16 times.
 pub fn retain_closed(bytes: &[u8], set: &mut [bool])
     requires font { font_fault bytes.now ≡ None }
