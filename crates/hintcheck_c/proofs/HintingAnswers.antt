@@ -14,11 +14,11 @@ use Rattle.hintcheck_fonts.specs.declared.font.VerdictFault.{VerdictFault}
 use Rattle.hintcheck_fonts.specs.declared.font.VerdictFault.TheVariants as judging
 use Rattle.hintcheck_report.specs.declared.refused.Refused.{Refused}
 use Rattle.hintcheck_c.specs.Answers.{Answers, judging_answer, status_of}
-use Rattle.hintcheck_c.specs.MayHint.{AnswersMayHint, AnswersMayHintSymbolic, HoldSafeGlyph, HoldSymbolicSafeGlyph, TellsMayHint}
+use Rattle.hintcheck_c.specs.MayHint.{AnswersMayHint, AnswersMayHintSymbolic, HoldSafeGlyph, HoldSymbolicSafeGlyphs, TellsMayHint}
 use Rattle.hintcheck_c.specs.Representation.HintedSets.{AreHinted, Tell}
 use Rattle.hintcheck_c.specs.declared.answer.HintcheckAnswer.{HintcheckAnswer}
 use Rattle.hintcheck_c.proofs.HintedGlyphs.{one_may, tells_may_hint}
-use Rattle.hintcheck_c.proofs.SafeGlyphs.{glyph_is_safe, glyph_is_safe_symbolic}
+use Rattle.hintcheck_c.proofs.SafeGlyphs.{glyph_is_safe, glyphs_are_safe_symbolic}
 
 -- ---- the status
 
@@ -68,11 +68,12 @@ told_is_safe bytes d v set entries id are_bytes none reads given hinted told one
     let tells : TellsMayHint bytes v.refused entries = tells_may_hint bytes v.refused set entries hinted told in
     glyph_is_safe bytes d v id are_bytes none reads given (one_may bytes v.refused entries id tells one)
 
-pub told_is_safe_symbolic : (bytes : List ℕ) (d : FontData) (v : Judgement) (set : List Bool) (entries : List ℕ) (id : ℕ)
-    → Reads bytes d → IsSymbolicVerdict d v → AreHinted bytes v.refused set → Tell set entries → slice_index entries id ≡ 1 → HoldSymbolicSafeGlyph bytes id
-told_is_safe_symbolic bytes d v set entries id reads given hinted told one =
+-- and so are all glyphs whose entries are 1, where one is
+pub told_are_safe_symbolic : (bytes : List ℕ) (d : FontData) (v : Judgement) (set : List Bool) (entries : List ℕ) (id : ℕ)
+    → Reads bytes d → IsSymbolicVerdict d v → AreHinted bytes v.refused set → Tell set entries → slice_index entries id ≡ 1 → HoldSymbolicSafeGlyphs bytes entries
+told_are_safe_symbolic bytes d v set entries id reads given hinted told one =
     let tells : TellsMayHint bytes v.refused entries = tells_may_hint bytes v.refused set entries hinted told in
-    glyph_is_safe_symbolic bytes d v id reads given (one_may bytes v.refused entries id tells one)
+    glyphs_are_safe_symbolic bytes d v entries id reads given (λ k e. one_may bytes v.refused entries k tells e) one
 
 -- ---- the whole answer
 

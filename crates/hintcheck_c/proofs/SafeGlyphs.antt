@@ -1,5 +1,5 @@
 -- What is run to draw a glyph that may be drawn with hints is safe.
-use Rattle.std.specs.Prelude.{slice_get}
+use Rattle.std.specs.Prelude.{slice_get, slice_index}
 use Rattle.std.specs.List.{AllByRecursion}
 use Rattle.std.proofs.Common.{◌≡◌, ℕ, zero, suc, ◌+◌, ◌<◌, List, [], ◌∷◌, None, Some, refl, sym, ◌∙◌, ap, subst, arith}
 use Rattle.tt_code.specs.Cut.{Instruction}
@@ -22,7 +22,7 @@ use Rattle.hintcheck_fonts.specs.SymbolicVerdicts as symbolic
 use Rattle.hintcheck_fonts.specs.Verdicts.{Judgement}
 use Rattle.hintcheck_fonts.proofs.FontSafety.{good_end, good_families_are_safe}
 use Rattle.hintcheck_report.specs.declared.refused.Refused.{Refused}
-use Rattle.hintcheck_c.specs.MayHint.{AreAccepted, HoldSafeGlyph, HoldSymbolicSafeGlyph, IsAnothers, MayHint, with_only}
+use Rattle.hintcheck_c.specs.MayHint.{AreAccepted, HoldSafeGlyph, HoldSymbolicSafeGlyphs, IsAnothers, MayHint, with_only}
 
 name_of : Refused → Name
 name_of r = r.program
@@ -150,24 +150,29 @@ is_among font programs id gs rs (symbolic.refused n x xs r qs is none rest) (suc
     let e : n + suc k ≡ (n + 1) + k = omega arith in
     subst I (sym e) (is_among font programs (n + 1) xs qs rest k g at (subst A e (others_are r qs (n + suc k) fine)))
 
-pub glyph_is_safe_symbolic : (bytes : List ℕ) (d : FontData) (v : Judgement) (id : ℕ) → Reads bytes d → IsSymbolicVerdict d v → MayHint bytes v.refused id → HoldSymbolicSafeGlyph bytes id
-glyph_is_safe_symbolic bytes d v id reads (symbolic.font_refused r is) may = absurd (not_named r name.Font id (first_is_anothers r [] id (may.accepted id (reaches_itself (font_outlines bytes) id))) is)
-glyph_is_safe_symbolic bytes d v id reads (symbolic.cvt_refused f r cut safe is) may = absurd (not_named r name.Cvt id (first_is_anothers r [] id (may.accepted id (reaches_itself (font_outlines bytes) id))) is)
-glyph_is_safe_symbolic bytes d v id reads (symbolic.none_ended f p programs rs font cvt glyphs safe) may = record {
+-- of which glyphs the entries are 1: of some that may be drawn with hints, and of this one
+pub glyphs_are_safe_symbolic : (bytes : List ℕ) (d : FontData) (v : Judgement) (entries : List ℕ) (id : ℕ) → Reads bytes d → IsSymbolicVerdict d v
+    → ((k : ℕ) → slice_index entries k ≡ 1 → MayHint bytes v.refused k) → slice_index entries id ≡ 1 → HoldSymbolicSafeGlyphs bytes entries
+glyphs_are_safe_symbolic bytes d v entries id reads (symbolic.font_refused r is) may one =
+    absurd (not_named r name.Font id (first_is_anothers r [] id ((may id one).accepted id (reaches_itself (font_outlines bytes) id))) is)
+glyphs_are_safe_symbolic bytes d v entries id reads (symbolic.cvt_refused f r cut safe is) may one =
+    absurd (not_named r name.Cvt id (first_is_anothers r [] id ((may id one).accepted id (reaches_itself (font_outlines bytes) id))) is)
+glyphs_are_safe_symbolic bytes d v entries id reads (symbolic.none_ended f p programs rs font cvt glyphs safe) may one = record {
   font = d;
   reads = reads;
-  inside = let lt = may.inside in let len = reads.glyphs.len in omega arith;
+  inside = λ k e. let lt = (may k e).inside in let len = reads.glyphs.len in omega arith;
   font_program = f;
   cvt_program = p;
   font_cut = font;
   cvt_cut = cvt;
   programs = programs;
   safe = safe;
-  among = λ other g reached at.
+  among = λ k other g e reached at.
       let A : ℕ → Type 0 = AreAccepted rs in
       let I : ℕ → Type 0 = λ j. IsAmong (font_of d f p) programs j g in
-      let e : 0 + other ≡ other = omega arith in
-      let is = subst I e (is_among (font_of d f p) programs 0 d.glyphs rs glyphs other g at (subst A (sym e) (may.accepted other reached))) in
+      let zero_more : 0 + other ≡ other = omega arith in
+      let fine : AreAccepted rs other = (may k e).accepted other reached in
+      let is = subst I zero_more (is_among (font_of d f p) programs 0 d.glyphs rs glyphs other g at (subst A (sym zero_more) fine)) in
       (is.setting, is.there, is.is_setting);
 }
 

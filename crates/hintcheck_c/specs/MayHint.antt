@@ -79,20 +79,20 @@ pub record HoldSafeGlyph (bytes : List ℕ) (id : ℕ) : Type 0 where
   pub safe : (other : ℕ) (glyph : GlyphData) → Reaches (font_outlines bytes) id other
       → slice_get font.glyphs other ≡ Some glyph → IsSafeFont (with_only font glyph)
 
--- The bytes hold a font with a glyph of this number. As long as only these glyph programs are run,
--- no run of them, of the font program or of the CVT program faults; and the program of each glyph
--- that it reaches by components, itself included, is one of them.
-pub record HoldSymbolicSafeGlyph (bytes : List ℕ) (id : ℕ) : Type 0 where
+-- The bytes hold a font with a glyph for each entry that is 1. As long as only these glyph programs
+-- are run, no run of them, of the font program or of the CVT program faults; and the program of each
+-- glyph that one with an entry of 1 reaches by components, itself included, is one of them.
+pub record HoldSymbolicSafeGlyphs (bytes entries : List ℕ) : Type 0 where
   pub font : FontData
   pub reads : Reads bytes font
-  pub inside : id < length font.glyphs
+  pub inside : (id : ℕ) → slice_index entries id ≡ 1 → id < length font.glyphs
   pub font_program : List Instruction
   pub cvt_program : List Instruction
   pub font_cut : IsCutInto (font_subject font) font_program
   pub cvt_cut : IsCutInto (cvt_subject font font_program []) cvt_program
   pub programs : GlyphPrograms
   pub safe : IsFontSafe (font_of font font_program cvt_program) programs
-  pub among : (other : ℕ) (glyph : GlyphData) → Reaches (font_outlines bytes) id other
-      → slice_get font.glyphs other ≡ Some glyph
+  pub among : (id other : ℕ) (glyph : GlyphData) → slice_index entries id ≡ 1
+      → Reaches (font_outlines bytes) id other → slice_get font.glyphs other ≡ Some glyph
       → (s : Setting) × (programs other ≡ Some s)
       × IsGlyphSetting (font_of font font_program cvt_program) glyph s

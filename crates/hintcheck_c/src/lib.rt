@@ -11,7 +11,7 @@ ghost use Rattle.hintcheck_fonts.specs.FontPrograms.{IsSafeFont};
 ghost use Rattle.hintcheck_fonts.specs.FontAnswers.{HoldRefusedFont, HoldSafeFont, HoldSymbolicRefusedFont, HoldSymbolicSafeFont};
 ghost use Rattle.hintcheck_fonts.specs.SymbolicVerdicts.{IsSymbolicVerdict};
 ghost use Rattle.hintcheck_c.specs.Answers.{AnswersCheck, AnswersCheckFault, AnswersFontFault, AnswersSymbolicVerdict, AnswersVerdict, IsFaultOfCheck, IsFaultOfVerdict};
-ghost use Rattle.hintcheck_c.specs.MayHint.{AnswersMayHint, AnswersMayHintSymbolic, HoldSafeGlyph, HoldSymbolicSafeGlyph};
+ghost use Rattle.hintcheck_c.specs.MayHint.{AnswersMayHint, AnswersMayHintSymbolic, HoldSafeGlyph, HoldSymbolicSafeGlyphs};
 ghost use Rattle.hintcheck_c.specs.ReasonTexts.{IsReasonNumber, c_string};
 ghost use Rattle.tt_font.specs.Reading.{FontData, Reads};
 
@@ -252,11 +252,11 @@ pub extern "C" fn hintcheck_may_hint_symbolic_of_bytes(
     may_hint: &mut [u8],
     answer: &mut HintcheckAnswer,
 ) -> u32
-    // Where a glyph's entry is 1, the bytes hold a font, and as long as no refused program is run,
-    // no run of the font program, of the CVT program, of the glyph's program or of a component's
-    // reaches a fault, on the machine that keeps control values.
+    // Where an entry is 1, the bytes hold a font, and as long as the only glyph programs that are run
+    // are those of glyphs with an entry of 1 and of their components, no run of these, of the font
+    // program or of the CVT program reaches a fault, on the machine that keeps control values.
     ensures hinted { (id : ℕ) → slice_index may_hint.new id ≡ 1
-        → HoldSymbolicSafeGlyph font.now id }
+        → HoldSymbolicSafeGlyphs font.now may_hint.new }
     // The answer is a verdict by symbolic states in numbers, and the entries are those that it
     // tells; or why there is none, and each entry is 0.
     ensures verdict { result ≤ 1 → AnswersMayHintSymbolic font.now answer.new may_hint.new }

@@ -1,9 +1,9 @@
 use Rattle.std.proofs.Common.{◌≡◌, ◌≤◌, ℕ, List, subst, sym, ◌∙◌, ap, arith}
 use Rattle.std.specs.Prelude.{slice_index}
-use Rattle.hintcheck_c.specs.MayHint.{AnswersMayHintSymbolic}
+use Rattle.hintcheck_c.specs.MayHint.{AnswersMayHintSymbolic, HoldSymbolicSafeGlyphs}
 use Rattle.hintcheck_c.specs.declared.answer.HintcheckAnswer.{HintcheckAnswer}
 use Rattle.hintcheck_c.proofs.HintedGlyphs.{none_is_zeros}
-use Rattle.hintcheck_c.proofs.HintingAnswers.{answered_fault_status, answers_may_hint_symbolic, no_entry, told_is_safe_symbolic, verdict_status}
+use Rattle.hintcheck_c.proofs.HintingAnswers.{answered_fault_status, answers_may_hint_symbolic, no_entry, told_are_safe_symbolic, verdict_status}
 use Rattle.hintcheck_c.proofs.hintcheck_may_hint_symbolic_of_bytes.Goals as goal
 use Rattle.hintcheck_c.proofs.hintcheck_may_hint_symbolic_of_bytes.Goals.{in-Ok, in-Err}
 
@@ -12,8 +12,9 @@ returns-clause-hinted c = λ id one. elim c.match-judge_hinting_symbolic.branch 
   | in-Ok w ↦ (
       let (d, reads, given) = w.in-Ok.ensures.given in
       let told : slice_index w.answer_hinting.new.may_hint id ≡ 1 = ap (λ (es : List ℕ). slice_index es id) (sym w.may_hint-is) ∙ one in
-      told_is_safe_symbolic c.args.font.now d w.in-Ok.hinting.verdict w.in-Ok.hinting.glyphs.items w.answer_hinting.new.may_hint id
-      reads given w.in-Ok.ensures.glyphs w.answer_hinting.ensures.tell told)
+      let H : List ℕ → Type 0 = λ es. HoldSymbolicSafeGlyphs c.args.font.now es in
+      subst H (sym w.may_hint-is) (told_are_safe_symbolic c.args.font.now d w.in-Ok.hinting.verdict w.in-Ok.hinting.glyphs.items w.answer_hinting.new.may_hint id
+      reads given w.in-Ok.ensures.glyphs w.answer_hinting.ensures.tell told))
   | in-Err w ↦ (
       let told : slice_index w.answer_no_hinting.new.may_hint id ≡ 1 = ap (λ (es : List ℕ). slice_index es id) (sym w.may_hint-is) ∙ one in
       absurd (no_entry w.answer_no_hinting.new.may_hint id w.answer_no_hinting.ensures.tell told))
