@@ -14,12 +14,12 @@
  * that works more as interpreters do: it keeps control values, and computes exactly. docs/EMBEDDING.md says which premises that adds.
  *
  * Units: lengths, offsets and places are in bytes. Ownership: everything that is handed in stays the caller's, is only read (except for
- * `refusals`, `may_hint` and `answer`, which are written), and isn't kept: there is no state between calls. What is handed in is aligned as C asks,
- * and `refusals`, `may_hint` and `answer` overlap neither each other nor the bytes of the font or of the certificate. Memory is taken with malloc
- * while a call runs, and given back before it returns. Threads: calls may run at once in several threads, each with its own `refusals`,
- * `may_hint` and `answer`; not from a signal handler, and not in the forked child of a process with threads. Time: `points` bounds how often a state
- * is carried on (that no more is counted is proved); docs/EMBEDDING.md says which numbers real fonts need, and what time that bounds.
- * `steps` bounds the search of hintcheck_verdict_symbolic.
+ * `refusals`, `may_hint` and `answer`, which are written), and isn't kept: there is no state between calls. What is handed in is aligned as
+ * C asks, and `refusals`, `may_hint` and `answer` overlap neither each other nor the bytes of the font or of the certificate. Memory is
+ * taken with malloc while a call runs, and given back before it returns. Threads: calls may run at once in several threads, each with its
+ * own `refusals`, `may_hint` and `answer`; not from a signal handler, and not in the forked child of a process with threads. Time: `points`
+ * bounds how often a state is carried on (that no more is counted is proved); docs/EMBEDDING.md says which numbers real fonts need, and
+ * what time that bounds. `steps` bounds the search by the symbolic profile.
  */
 #ifndef HINTCHECK_H
 #define HINTCHECK_H

@@ -227,7 +227,8 @@ int main(int argc, char **argv)
         fprintf(stderr, "usage: calls ACCEPTED.ttf REFUSED.ttf CERT COMPOSITES.ttf CVT.ttf CIRCLE.ttf [short]\n");
         return 2;
     }
-    size_t accepted_length = 0, refused_length = 0, certificate_length = 0, composites_length = 0, cvt_length = 0, circle_length = 0;
+    size_t accepted_length = 0, refused_length = 0, certificate_length = 0;
+    size_t composites_length = 0, cvt_length = 0, circle_length = 0;
     uint8_t *accepted = read_file(argv[1], &accepted_length);
     uint8_t *refused = read_file(argv[2], &refused_length);
     uint8_t *certificate = read_file(argv[3], &certificate_length);
