@@ -19,7 +19,8 @@ import typing
 
 TOP = pathlib.Path(__file__).resolve().parent.parent
 
-FUNCTION = re.compile(r'^( *)(?:pub(?:\(\w+\))? )?(?:const )?(?:extern "C" )?fn (\w+)', re.M)
+# With the attributes before it, where what is told of a function may be.
+FUNCTION = re.compile(r'^( *)(?:#\[.*\]\n *)*(?:pub(?:\(\w+\))? )?(?:const )?(?:extern "C" )?fn (\w+)', re.M)
 TOLD = re.compile(r"^(?:note: )?(?:\./)?((?:src|proofs|specs)/\S+?):(\d+):\d+:(?! (?:warning|note: (?:large|only)))", re.M)
 
 

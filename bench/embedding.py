@@ -14,6 +14,7 @@ import os
 import pathlib
 import re
 import shutil
+import struct
 import subprocess
 import sys
 import tempfile
@@ -33,6 +34,44 @@ FUNCTIONS = b"\xb0\x00\x2c\xb0\x02\x10\x2d" + b"\xb0\x01\x2c\x21\x2d"
 GOOD = b"\x00\xb0\x00\x2b\xb1\x00\x00\x3e"
 UNDERFLOW = b"\xb0\x01\x2b"
 TWO_DEPTHS = b"\xb1\x00\x01\x49\x58\xb0\x07\x59\x21"
+
+# The flags of a component (OpenType specification, `glyf`): its arguments have two bytes each; it has one scale, or a matrix; another one follows; the
+# glyph's program follows.
+WORDS, SCALE, MORE, MATRIX, PROGRAM = 0x0001, 0x0008, 0x0020, 0x0080, 0x0100
+
+
+def simple(program: bytes) -> bytes:
+    """A glyph of 4 points with this program."""
+    return struct.pack(">h8xHH", 1, 3, len(program)) + program
+
+
+def composite(components: list[tuple[int, int]], program: bytes = b"") -> bytes:
+    """A glyph that is made of these components, each with its number and flags, and that has this program."""
+    glyph = struct.pack(">h8x", -1)
+    for place, (number, flags) in enumerate(components):
+        is_last = place == len(components) - 1
+        flags |= (PROGRAM if program else 0) if is_last else MORE
+        size = (4 if flags & WORDS else 2) + (2 if flags & SCALE else 8 if flags & MATRIX else 0)
+        glyph += struct.pack(">HH", flags, number) + bytes(size)
+    return glyph + (struct.pack(">H", len(program)) + program if program else b"")
+
+
+# Glyphs of which some may be drawn with hints: 1 and 6 are refused; 3 and 8 are made of 1, 4 of 3, and 7 of 6. The others are made of accepted ones alone.
+COMPOSITES = [
+    simple(GOOD),
+    simple(UNDERFLOW),
+    composite([(0, 0)]),
+    composite([(0, 0), (1, 0)]),
+    composite([(3, 0)]),
+    composite([(2, 0), (0, 0)], GOOD),
+    composite([(0, 0)], UNDERFLOW),
+    composite([(6, 0)]),
+    composite([(0, WORDS | SCALE), (1, 0)]),
+    composite([(0, WORDS | MATRIX), (2, SCALE)]),
+    b"",
+]
+# A POP with nothing on the stack.
+REFUSED_CVT_PROGRAM = b"\x21"
 
 # What the example prints of each font.
 PRINTED = {
@@ -101,7 +140,14 @@ def fails_example(line: pathlib.Path, folder: pathlib.Path) -> bool:
 def fails_calls(programs: dict[str, pathlib.Path], folder: pathlib.Path) -> bool:
     """Whether a call with odd pointers or lengths is answered otherwise than the header says, or memory is misused."""
     failed = False
-    words = [str(folder / "serif.ttf"), str(folder / "broken.ttf"), str(folder / "serif.cert")]
+    fonts = {
+        "composites.ttf": hostile.font_of_glyphs(COMPOSITES, FUNCTIONS),
+        "cvt.ttf": hostile.font_of_glyphs([simple(GOOD)] * 3, FUNCTIONS, prep=REFUSED_CVT_PROGRAM),
+        "circle.ttf": hostile.font_of_glyphs([composite([(1, 0)]), composite([(0, 0)])]),
+    }
+    for name, data in fonts.items():
+        (folder / name).write_bytes(data)
+    words = [str(folder / name) for name in ("serif.ttf", "broken.ttf", "serif.cert", *fonts)]
     for name in ("calls", "calls++"):
         ran = run([str(programs[name]), *words])
         failed |= differs(name, (ran.returncode, ran.stdout), (0, "all calls answered as the header says\n"))

@@ -7,16 +7,19 @@
  * (crates/hintcheck_c/src/lib.rt, the clauses `accepted`), and so is the rest of the answer, except that `points` is how many were made
  * (the clauses `verdict` and `fault`).
  *
+ * hintcheck_may_hint says of each glyph of a font whether it may be drawn with hints, also where some programs are refused: that no run of
+ * what is run to draw it reaches a fault is proved too (the clauses `hinted`).
+ *
  * hintcheck_verdict_symbolic follows values that are computed, and accepts far more fonts. Its acceptance is a theorem too, but about a machine
  * that works more as interpreters do: it keeps control values, and computes exactly. docs/EMBEDDING.md says which premises that adds.
  *
  * Units: lengths, offsets and places are in bytes. Ownership: everything that is handed in stays the caller's, is only read (except for
- * `refusals` and `answer`, which are written), and isn't kept: there is no state between calls. What is handed in is aligned as C asks,
- * and `refusals` and `answer` overlap neither each other nor the bytes of the font or of the certificate. Memory is taken with malloc
- * while a call runs, and given back before it returns. Threads: calls may run at once in several threads, each with its own `refusals`
- * and `answer`; not from a signal handler, and not in the forked child of a process with threads. Time: `points` bounds how often a state
- * is carried on (that no more is counted is proved); docs/EMBEDDING.md says which numbers real fonts need, and what time that bounds.
- * `steps` bounds the search of hintcheck_verdict_symbolic.
+ * `refusals`, `may_hint` and `answer`, which are written), and isn't kept: there is no state between calls. What is handed in is aligned as
+ * C asks, and `refusals`, `may_hint` and `answer` overlap neither each other nor the bytes of the font or of the certificate. Memory is
+ * taken with malloc while a call runs, and given back before it returns. Threads: calls may run at once in several threads, each with its
+ * own `refusals`, `may_hint` and `answer`; not from a signal handler, and not in the forked child of a process with threads. Time: `points`
+ * bounds how often a state is carried on (that no more is counted is proved); docs/EMBEDDING.md says which numbers real fonts need, and
+ * what time that bounds. `steps` bounds the search by the symbolic profile.
  */
 #ifndef HINTCHECK_H
 #define HINTCHECK_H
@@ -110,9 +113,7 @@ typedef struct hintcheck_answer {
     size_t listed;     /* how many of these were written to `refusals`: the first ones, as many as there was room for */
 } hintcheck_answer;
 
-/* Where the status is HINTCHECK_REFUSED, hints may stay on for some glyphs if `listed` is `refused`, so that all refusals are known, and
- * neither the font program nor the CVT program is among them: for each glyph whose program isn't refused and that reaches no refused one
- * through its components, at any depth. To draw a composite glyph, a renderer runs the glyph programs of its components too. */
+/* Where the status is HINTCHECK_REFUSED, hints may stay on for some glyphs: hintcheck_may_hint says for which. */
 
 /* Compiles only where the compiler lays out the structs as the library does: the array has no length that is allowed otherwise. */
 typedef char hintcheck_layout_is_right[
@@ -133,6 +134,10 @@ uint32_t hintcheck_verdict_symbolic_of_bytes(const uint8_t *font, size_t font_le
                                              size_t room, hintcheck_answer *answer);
 uint32_t hintcheck_check_of_bytes(const uint8_t *font, size_t font_length, const uint8_t *certificate, size_t certificate_length,
                                   uint64_t points, hintcheck_refusal *refusals, size_t room, hintcheck_answer *answer);
+uint32_t hintcheck_may_hint_of_bytes(const uint8_t *font, size_t font_length, uint64_t points, uint8_t *may_hint, size_t room,
+                                     hintcheck_answer *answer);
+uint32_t hintcheck_may_hint_symbolic_of_bytes(const uint8_t *font, size_t font_length, uint64_t steps, uint8_t *may_hint, size_t room,
+                                              hintcheck_answer *answer);
 
 bool hintcheck_reason_text_of_number(uint32_t number, const uint8_t **text);
 
@@ -157,6 +162,15 @@ static inline uint32_t hintcheck_usage(hintcheck_answer *answer)
         answer->listed = 0;
     }
     return HINTCHECK_USAGE;
+}
+
+/* Answers so, and says that no glyph may be drawn with hints. */
+static inline uint32_t hintcheck_no_hints(uint8_t *may_hint, size_t room, hintcheck_answer *answer)
+{
+    for (size_t i = 0; may_hint && i < room; i++) {
+        may_hint[i] = 0;
+    }
+    return hintcheck_usage(answer);
 }
 
 /* Checks the programs of the font in `font_length` bytes at `font`, and returns the status. At most `points` points are made, or
@@ -205,6 +219,39 @@ static inline uint32_t hintcheck_check(const uint8_t *font, size_t font_length, 
     }
     return hintcheck_check_of_bytes(font ? font : no_bytes, font_length, certificate ? certificate : no_bytes, certificate_length, points,
                                     refusals ? refusals : &no_room, room, answer);
+}
+
+/* Checks the programs of the font as hintcheck_verdict does, returns the same status, and says of each glyph whether it may be drawn with
+ * hints. To draw a composite glyph, a renderer runs the glyph programs of its components too. So `may_hint[g]` is 1 exactly where the font
+ * program, the CVT program, the program of glyph g and those of its components, at any depth, are accepted: then no run of one of them
+ * reaches a fault, also where the status is HINTCHECK_REFUSED. All of the array's `room` entries are written: the others are 0, those past
+ * the last glyph too, and all of them where the font program or the CVT program is refused, or where there is no verdict. 65,535 entries
+ * are room enough for any font; with fewer than there are glyphs, nothing is said of the glyphs after these. No refusals are listed, and
+ * answer->listed is 0. A null pointer with a length of 0 is no bytes, or no room. At HINTCHECK_USAGE too all entries are 0, unless
+ * `may_hint` is the null pointer. */
+static inline uint32_t hintcheck_may_hint(const uint8_t *font, size_t font_length, uint64_t points, uint8_t *may_hint, size_t room,
+                                          hintcheck_answer *answer)
+{
+    static const uint8_t no_bytes[1] = {0};
+    uint8_t no_room;
+    if (!answer || (!font && font_length) || (!may_hint && room)) {
+        return hintcheck_no_hints(may_hint, room, answer);
+    }
+    return hintcheck_may_hint_of_bytes(font ? font : no_bytes, font_length, points, may_hint ? may_hint : &no_room, room, answer);
+}
+
+/* Checks the programs of the font by the symbolic profile, as hintcheck_verdict_symbolic does, and says of each glyph whether it may be
+ * drawn with hints, as hintcheck_may_hint does. What an entry of 1 promises holds as long as no glyph whose entry is 0 is drawn with hints
+ * (docs/EMBEDDING.md, "The symbolic profile"). */
+static inline uint32_t hintcheck_may_hint_symbolic(const uint8_t *font, size_t font_length, uint64_t steps, uint8_t *may_hint, size_t room,
+                                                   hintcheck_answer *answer)
+{
+    static const uint8_t no_bytes[1] = {0};
+    uint8_t no_room;
+    if (!answer || (!font && font_length) || (!may_hint && room)) {
+        return hintcheck_no_hints(may_hint, room, answer);
+    }
+    return hintcheck_may_hint_symbolic_of_bytes(font ? font : no_bytes, font_length, steps, may_hint ? may_hint : &no_room, room, answer);
 }
 
 #ifdef __cplusplus

@@ -1,5 +1,7 @@
 /* Calls the library with pointers and lengths of all kinds, and says where an answer isn't what the header says.
- * Usage: calls ACCEPTED.ttf REFUSED.ttf CERT [short], where CERT is the accepted font's certificate. `short` leaves out what takes much memory. */
+ * Usage: calls ACCEPTED.ttf REFUSED.ttf CERT COMPOSITES.ttf CVT.ttf CIRCLE.ttf [short]
+ * CERT is the accepted font's certificate; COMPOSITES.ttf has composite glyphs, the CVT program of CVT.ttf is refused, and the glyphs of CIRCLE.ttf are
+ * made of each other. `short` leaves out what takes much memory. */
 #include <hintcheck.h>
 #include <stdio.h>
 #include <stdlib.h>
@@ -77,6 +79,62 @@ static void call_oddly(const uint8_t *accepted, size_t accepted_length)
     expect(hintcheck_verdict(accepted, accepted_length, HINTCHECK_UNLIMITED, NULL, 1, &answer) == HINTCHECK_USAGE, "null room");
     expect(hintcheck_verdict(accepted, accepted_length, HINTCHECK_UNLIMITED, NULL, 0, NULL) == HINTCHECK_USAGE, "a null answer");
     expect(hintcheck_version() == HINTCHECK_VERSION, "the version");
+}
+
+/* Whether an array has these entries, and then zeros. */
+static int has(const uint8_t *may_hint, size_t room, const uint8_t *entries, size_t count)
+{
+    for (size_t i = 0; i < room; i++) {
+        if (may_hint[i] != (i < count ? entries[i] : 0)) {
+            return 0;
+        }
+    }
+    return 1;
+}
+
+static void call_may_hint(const uint8_t *composites, size_t length)
+{
+    /* As bench/embedding.py makes the glyphs of COMPOSITES.ttf: 1 and 6 are refused, 3 and 8 are made of 1, 4 of 3, and 7 of 6. */
+    static const uint8_t entries[11] = {1, 0, 1, 0, 0, 1, 0, 0, 0, 1, 1};
+    hintcheck_answer answer;
+    uint8_t may_hint[16];
+    memset(may_hint, 0x55, sizeof may_hint);
+    expect(hintcheck_may_hint(composites, length, HINTCHECK_UNLIMITED, may_hint, 16, &answer) == HINTCHECK_REFUSED, "composite glyphs");
+    expect(has(may_hint, 16, entries, 11), "which may be drawn with hints");
+    expect(answer.status == HINTCHECK_REFUSED && answer.fault == 0 && answer.points > 0, "the status beside it");
+    expect(answer.programs == 13 && answer.refused == 2 && answer.listed == 0, "the counts beside it");
+    uint64_t needed = answer.points;
+    memset(may_hint, 0x55, sizeof may_hint);
+    expect(hintcheck_may_hint(composites, length, needed, may_hint, 4, &answer) == HINTCHECK_REFUSED, "room for four glyphs");
+    expect(has(may_hint, 4, entries, 4) && may_hint[4] == 0x55, "four entries");
+    expect(hintcheck_may_hint(composites, length, needed - 1, may_hint, 16, &answer) == HINTCHECK_BUDGET, "glyphs with too few points");
+    expect(has(may_hint, 16, NULL, 0) && answer.fault == 46 && answer.points == needed - 1, "no glyph then");
+    expect(hintcheck_may_hint(composites, length, needed, NULL, 0, &answer) == HINTCHECK_REFUSED && answer.refused == 2, "room for no glyph");
+    memset(may_hint, 0x55, sizeof may_hint);
+    expect(hintcheck_may_hint_symbolic(composites, length, HINTCHECK_USUAL_STEPS, may_hint, 16, &answer) == HINTCHECK_REFUSED, "composite glyphs by symbolic states");
+    expect(has(may_hint, 16, entries, 11) && answer.refused == 2 && answer.points == 0, "which may be drawn with hints by symbolic states");
+}
+
+static void call_may_hint_of_none(const uint8_t *cvt, size_t cvt_length, const uint8_t *circle, size_t circle_length)
+{
+    hintcheck_answer answer;
+    uint8_t may_hint[4];
+    memset(may_hint, 0x55, sizeof may_hint);
+    expect(hintcheck_may_hint(cvt, cvt_length, HINTCHECK_UNLIMITED, may_hint, 4, &answer) == HINTCHECK_REFUSED, "a refused CVT program");
+    expect(has(may_hint, 4, NULL, 0) && answer.refused == 1, "no glyph after it");
+    memset(may_hint, 0x55, sizeof may_hint);
+    expect(hintcheck_may_hint_symbolic(cvt, cvt_length, HINTCHECK_USUAL_STEPS, may_hint, 4, &answer) == HINTCHECK_REFUSED, "the same by symbolic states");
+    expect(has(may_hint, 4, NULL, 0) && answer.refused == 1, "no glyph after it by symbolic states");
+    memset(may_hint, 0x55, sizeof may_hint);
+    expect(hintcheck_may_hint(circle, circle_length, HINTCHECK_UNLIMITED, may_hint, 4, &answer) == HINTCHECK_FAULT, "a glyph that is made of itself");
+    expect(has(may_hint, 4, NULL, 0) && answer.fault == 8, "no glyph of such a font");
+    memset(may_hint, 0x55, sizeof may_hint);
+    expect(hintcheck_may_hint(NULL, 1, HINTCHECK_UNLIMITED, may_hint, 4, &answer) == HINTCHECK_USAGE, "a null font with room for glyphs");
+    expect(has(may_hint, 4, NULL, 0) && answer.status == HINTCHECK_USAGE, "no glyph of it");
+    memset(may_hint, 0x55, sizeof may_hint);
+    expect(hintcheck_may_hint_symbolic(circle, circle_length, 0, may_hint, 4, NULL) == HINTCHECK_USAGE, "a null answer with room for glyphs");
+    expect(has(may_hint, 4, NULL, 0), "no glyph without an answer");
+    expect(hintcheck_may_hint(circle, circle_length, 0, NULL, 1, &answer) == HINTCHECK_USAGE, "null room for a glyph");
 }
 
 /* The text of each number from 0 on: of a reason its own, and else none. */
@@ -165,25 +223,34 @@ static void call_with_many_bytes(const uint8_t *accepted, size_t accepted_length
 
 int main(int argc, char **argv)
 {
-    if (argc < 4) {
-        fprintf(stderr, "usage: calls ACCEPTED.ttf REFUSED.ttf CERT [short]\n");
+    if (argc < 7) {
+        fprintf(stderr, "usage: calls ACCEPTED.ttf REFUSED.ttf CERT COMPOSITES.ttf CVT.ttf CIRCLE.ttf [short]\n");
         return 2;
     }
     size_t accepted_length = 0, refused_length = 0, certificate_length = 0;
+    size_t composites_length = 0, cvt_length = 0, circle_length = 0;
     uint8_t *accepted = read_file(argv[1], &accepted_length);
     uint8_t *refused = read_file(argv[2], &refused_length);
     uint8_t *certificate = read_file(argv[3], &certificate_length);
+    uint8_t *composites = read_file(argv[4], &composites_length);
+    uint8_t *cvt = read_file(argv[5], &cvt_length);
+    uint8_t *circle = read_file(argv[6], &circle_length);
     call_verdict(accepted, accepted_length, refused, refused_length);
     call_check(accepted, accepted_length, refused, refused_length, certificate, certificate_length);
     call_oddly(accepted, accepted_length);
+    call_may_hint(composites, composites_length);
+    call_may_hint_of_none(cvt, cvt_length, circle, circle_length);
     call_reason_text();
     call_within(accepted, accepted_length, HINTCHECK_ACCEPTED, certificate, certificate_length);
-    if (argc == 4) {
+    if (argc == 7) {
         call_with_many_bytes(accepted, accepted_length);
     }
     free(accepted);
     free(refused);
     free(certificate);
+    free(composites);
+    free(cvt);
+    free(circle);
     if (!failed) {
         printf("all calls answered as the header says\n");
     }

@@ -1,3 +1,5 @@
 pub mod Refusals
 pub mod Answers
 pub mod ReasonTexts
+pub mod MayHint
+pub mod Representation

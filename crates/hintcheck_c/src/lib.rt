@@ -2,7 +2,7 @@
 //! says for each what it takes and answers.
 #![tactic(auto)]
 
-ghost use Rattle.std.specs.Prelude.{◌≡◌, ◌≢◌, ◌<◌, ◌≤◌, ◌↔◌, [], IfErr, IfOk, length, true};
+ghost use Rattle.std.specs.Prelude.{◌≡◌, ◌≢◌, ◌<◌, ◌≤◌, ◌↔◌, ℕ, [], IfErr, IfOk, length, replicate, slice_index, true};
 ghost use Rattle.tt_code.specs.Refusals.{number_of, reason_text};
 ghost use Rattle.tt_code.specs.declared.reason.Reason.{Reason};
 ghost use Rattle.tt_family.specs.Budgets.{IsExceeded, Spends};
@@ -11,10 +11,12 @@ ghost use Rattle.hintcheck_fonts.specs.FontPrograms.{IsSafeFont};
 ghost use Rattle.hintcheck_fonts.specs.FontAnswers.{HoldRefusedFont, HoldSafeFont, HoldSymbolicRefusedFont, HoldSymbolicSafeFont};
 ghost use Rattle.hintcheck_fonts.specs.SymbolicVerdicts.{IsSymbolicVerdict};
 ghost use Rattle.hintcheck_c.specs.Answers.{AnswersCheck, AnswersCheckFault, AnswersFontFault, AnswersSymbolicVerdict, AnswersVerdict, IsFaultOfCheck, IsFaultOfVerdict};
+ghost use Rattle.hintcheck_c.specs.MayHint.{AnswersMayHint, AnswersMayHintSymbolic, HoldSafeGlyph, HoldSymbolicSafeGlyphs};
 ghost use Rattle.hintcheck_c.specs.ReasonTexts.{IsReasonNumber, c_string};
 ghost use Rattle.tt_font.specs.Reading.{FontData, Reads};
 
 mod answer;
+mod hinted;
 mod reason;
 mod refusal;
 
@@ -24,6 +26,7 @@ use hintcheck_fonts::{
     Budget, CheckFontFault, Verdict, VerdictFault, check_font_within, verdict_symbolic_within,
     verdict_within,
 };
+use hinted::{answer_hinting, answer_no_hinting, judge_hinting, judge_hinting_symbolic};
 use reason::{TEXT_SIZE, c_string_of, reason_of};
 pub use refusal::HintcheckRefusal;
 use std::alloc::Global;
@@ -198,6 +201,75 @@ pub extern "C" fn hintcheck_check_of_bytes(
     *answer = match check_bytes(alloc, font, certificate, &mut budget) {
         Ok(verdict) => answer_verdict(&verdict, refusals, budget.made()),
         Err(fault) => fault_of_check(&fault, budget.made()),
+    };
+    answer.status
+}
+
+/// Answers with the verdict on the programs of the font in these bytes, or with why there is none,
+/// and returns the answer's status. At most this many points are made. No refusal is listed: an
+/// array has an entry for each glyph instead, as far as it goes, which is 1 exactly where the font
+/// program, the CVT program, the glyph's program and those of its components at any depth are
+/// accepted. The other entries are 0.
+#[unsafe(no_mangle)]
+pub extern "C" fn hintcheck_may_hint_of_bytes(
+    alloc: Global,
+    font: &[u8],
+    points: u64,
+    may_hint: &mut [u8],
+    answer: &mut HintcheckAnswer,
+) -> u32
+    // Where a glyph's entry is 1, the bytes hold a font, and no run of the font program, of the CVT
+    // program, of the glyph's program or of a component's reaches a fault.
+    ensures hinted { (id : ℕ) → slice_index may_hint.new id ≡ 1 → HoldSafeGlyph font.now id }
+    // The answer is the font's verdict in numbers, and the entries are those that it tells; or why
+    // there is none, and each entry is 0.
+    ensures verdict { result ≤ 1 → AnswersMayHint font.now answer.new may_hint.new }
+    ensures fault { 2 ≤ result → AnswersFontFault font.now answer.new [] [] }
+    ensures none { 2 ≤ result → may_hint.new ≡ replicate (length may_hint.old) 0 }
+    ensures status { result ≤ 4 }
+    // What it costs: no more points than may be made, and all of these where the status is 4.
+    ensures points { answer.new.points ≤ points }
+    ensures exceeded { result ≡ 4 → answer.new.points ≡ points }
+    ensures told { answer.new.status ≡ result }
+    ensures room { length may_hint.new ≡ length may_hint.old }
+{
+    let mut budget = Budget::of(points);
+    *answer = match judge_hinting(alloc, font, &mut budget) {
+        Ok(hinting) => answer_hinting(&hinting, may_hint, budget.made()),
+        Err(fault) => answer_no_hinting(&fault, may_hint, budget.made()),
+    };
+    answer.status
+}
+
+/// Answers as `hintcheck_may_hint_of_bytes` does, with the verdict by symbolic states. The search
+/// makes at most this many steps, and programs for which that is too little are refused; no points
+/// are counted.
+#[unsafe(no_mangle)]
+pub extern "C" fn hintcheck_may_hint_symbolic_of_bytes(
+    alloc: Global,
+    font: &[u8],
+    steps: u64,
+    may_hint: &mut [u8],
+    answer: &mut HintcheckAnswer,
+) -> u32
+    // Where an entry is 1, the bytes hold a font, and as long as the only glyph programs that are run
+    // are those of glyphs with an entry of 1 and of their components, no run of these, of the font
+    // program or of the CVT program reaches a fault, on the machine that keeps control values.
+    ensures hinted { (id : ℕ) → slice_index may_hint.new id ≡ 1
+        → HoldSymbolicSafeGlyphs font.now may_hint.new }
+    // The answer is a verdict by symbolic states in numbers, and the entries are those that it
+    // tells; or why there is none, and each entry is 0.
+    ensures verdict { result ≤ 1 → AnswersMayHintSymbolic font.now answer.new may_hint.new }
+    ensures fault { 2 ≤ result → AnswersFontFault font.now answer.new [] [] }
+    ensures none { 2 ≤ result → may_hint.new ≡ replicate (length may_hint.old) 0 }
+    ensures status { result ≤ 3 }
+    ensures points { answer.new.points ≡ 0 }
+    ensures told { answer.new.status ≡ result }
+    ensures room { length may_hint.new ≡ length may_hint.old }
+{
+    *answer = match judge_hinting_symbolic(alloc, font, steps) {
+        Ok(hinting) => answer_hinting(&hinting, may_hint, 0),
+        Err(fault) => answer_no_hinting(&fault, may_hint, 0),
     };
     answer.status
 }

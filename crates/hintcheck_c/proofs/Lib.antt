@@ -1,0 +1,3 @@
+pub mod HintedGlyphs
+pub mod HintingAnswers
+pub mod SafeGlyphs

@@ -1,0 +1,4 @@
+pub mod FontFacts
+pub mod Chains
+pub mod Retaining
+pub mod ComponentTests
