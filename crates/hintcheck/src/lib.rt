@@ -20,7 +20,8 @@ pub use hintcheck_fonts::{
     read_font, upgrade, verdict, verdict_symbolic, verdict_symbolic_within, verdict_within,
 };
 pub use hintcheck_words::{
-    Detail, FailOn, Format, Profile, ScanOptions, Task, TaskFault, WordFault, read_words, word_bytes,
+    Detail, FailOn, Format, Profile, ScanOptions, Task, TaskFault, WordFault, read_words,
+    word_bytes,
 };
 pub use instruction_list::list_program;
 pub use neighbours::{Neighbour, Neighbours};
