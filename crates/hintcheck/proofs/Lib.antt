@@ -11,4 +11,3 @@ pub mod ProgramsBefore
 pub mod TellingFaults
 pub mod WrittenObjects
 pub mod CertificateFaults
-pub mod NeighbourLemmas

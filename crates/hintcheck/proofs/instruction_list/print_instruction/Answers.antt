@@ -1,5 +1,4 @@
 -- proofs/listing/print_instruction/Answers.antt
-use Rattle.std.proofs.Common.{sym}
 use Rattle.std.proofs.lemmas.Result.{on_ok_weaker}
 use Rattle.hintcheck.proofs.ListingLemmas.{line_joined}
 use Rattle.hintcheck.proofs.instruction_list.print_instruction.Goals as goal

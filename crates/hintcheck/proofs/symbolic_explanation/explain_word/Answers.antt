@@ -1,6 +1,5 @@
 use Rattle.std.proofs.lemmas.Result.{IfOk-weaker}
 use Rattle.hintcheck.proofs.NameLemmas.{named_few}
-use Rattle.hintcheck.proofs.NeighbourLemmas.{fault_of_offset}
 use Rattle.hintcheck.proofs.symbolic_explanation.explain_word.Goals as goal
 
 pub check_offset-requires : goal.check_offset-requires
