@@ -22,7 +22,7 @@ impl<'a> ExploredProgram<'a> {
     /// Returns in which program a context is.
     pub(crate) fn spot(&self, context: u32) -> Spot {
         if context < self.certificate.contexts() {
-            self.certificate.spot(context)
+            self.certificate.builder().spot(context)
         } else {
             Spot::Main
         }
@@ -70,7 +70,7 @@ impl<'a> ExploredProgram<'a> {
     /// If memory runs out.
     pub(crate) fn frames(&self, alloc: Global, context: u32) -> Result<Vec<Frame>, AllocError> {
         if context < self.certificate.contexts() {
-            self.certificate.frames(alloc, context)
+            self.certificate.builder().frames(alloc, context)
         } else {
             Ok(Vec::new(alloc))
         }
@@ -97,7 +97,7 @@ impl<'a> ExploredProgram<'a> {
     /// Returns the first point of a function's body in the context that has the parent's frames and
     /// this one more, if the search knows that context.
     fn start_of(&self, parent: u32, frame: Frame) -> Option<PointKey> {
-        let context = self.certificate.number(parent, frame)?;
+        let context = self.certificate.builder().number(parent, frame)?;
         Some((context, body_offset(frame.body)))
     }
 }

@@ -27,7 +27,7 @@ use tt_font::{Font, FontFault};
 use tt_stream::Source;
 
 /// Why a font isn't checked by its certificate.
-#[derive(Debug, Drop, Error)]
+#[derive(Clone, Copy, Debug, Drop, Error)]
 pub enum CheckFontFault {
     /// The font's own fault, or that memory ran out while the font was read.
     #[error(transparent)]

@@ -4,7 +4,7 @@
 ghost use Rattle.std.specs.Prelude.{◌≡◌, ◌≢◌, IfErr, IfOk, None, Ok, Err, Some};
 ghost use Rattle.tt_family.specs.Budgets.{EndTellsBudget, Spends};
 ghost use Rattle.tt_stream.specs.Reads.{ConsumesBeginning};
-ghost use Rattle.hintcheck_fonts.specs.BudgetAnswers.{CheckTells, CheckTellsBudget, FindNextTellsBudget, IsCheckFaultOutsideFont, check_ended};
+ghost use Rattle.hintcheck_fonts.specs.BudgetAnswers.{CheckTells, CheckTellsBudget, FindNextTellsBudget, IsCheckFaultOutsideFont};
 ghost use Rattle.hintcheck_fonts.specs.CertificateFaults.{CountsCheck, IsCheckFaultOutsideFontAndBudget};
 ghost use Rattle.hintcheck_fonts.specs.CheckedFonts.{Finds, IsTold};
 ghost use Rattle.hintcheck_fonts.specs.FailedReads.{EndsInCall, HasRead};
@@ -12,7 +12,7 @@ ghost use Rattle.hintcheck_fonts.specs.FindingSessions.{IsForFinding, IsFoundAns
 ghost use Rattle.hintcheck_fonts.specs.FontPrograms.{IsFontInRange};
 ghost use Rattle.hintcheck_fonts.specs.Sessions.{AnswersNext, IsForChecking, IsNextFault, IsSoundAnswer, ReadsOn, Stage, new_standing, over, standing_at};
 ghost use Rattle.hintcheck_fonts.specs.Representation.ProgramOrder.{stage_of};
-ghost use Rattle.hintcheck_fonts.specs.Representation.SessionStages.{KeepsFound, KeepsGood, KeepsKnown, StepsBySection, StopsInSection, fault_of, read_of, standing_of};
+ghost use Rattle.hintcheck_fonts.specs.Representation.SessionStages.{KeepsFound, KeepsGood, KeepsKnown, StepsBySection, StopsInSection, read_of, standing_of};
 ghost use Rattle.hintcheck_fonts.specs.declared.font_check.CheckFontFault.{CheckFontFault as AnyFault};
 ghost use Rattle.hintcheck_fonts.specs.Representation.ReadProgress.{input_from};
 
@@ -40,61 +40,13 @@ pub struct Outcome {
     pub refused: Option<Refused>,
 }
 
-/// The fault that a session met.
-#[derive(Clone, Copy)]
-enum SessionFault {
-    Form(u64),
-    Read,
-    OutOfMemory,
-    Budget,
-}
-
-impl SessionFault {
-    /// Returns the fault of a call, which isn't the font's.
-    fn of(fault: &CheckFontFault) -> Self
-        requires { IsCheckFaultOutsideFont fault.now }
-        ensures { fault_of result ≡ fault.now }
-    {
-        match fault {
-            CheckFontFault::Form(place) => SessionFault::Form(*place),
-            CheckFontFault::Read => SessionFault::Read,
-            CheckFontFault::OutOfMemory(_) | CheckFontFault::Font(_) => SessionFault::OutOfMemory,
-            CheckFontFault::Budget => SessionFault::Budget,
-        }
-    }
-
-    /// Returns the fault of a call that ended without an answer.
-    fn of_end(by: Exhausted) -> Self
-        ensures { fault_of result ≡ check_ended by }
-    {
-        match by {
-            Exhausted::Memory => SessionFault::OutOfMemory,
-            Exhausted::Budget => SessionFault::Budget,
-        }
-    }
-
-    /// Returns the fault as each call that checks returns it.
-    fn reported(self) -> CheckFontFault
-        ensures { result ≡ fault_of self }
-    {
-        match self {
-            SessionFault::Form(place) => CheckFontFault::Form(place),
-            SessionFault::Read => CheckFontFault::Read,
-            SessionFault::OutOfMemory => CheckFontFault::OutOfMemory(AllocError),
-            SessionFault::Budget => CheckFontFault::Budget,
-        }
-    }
-
-    /// Returns the fault as each call that finds returns it.
-    fn found(self) -> FindFontFault
-        ensures { result ≡ found_fault (fault_of self) }
-    {
-        match self {
-            SessionFault::Budget => FindFontFault::Budget,
-            SessionFault::Form(_) | SessionFault::Read | SessionFault::OutOfMemory => {
-                FindFontFault::OutOfMemory(AllocError)
-            }
-        }
+/// Returns the fault of a session as each call that finds returns it.
+fn found(fault: CheckFontFault) -> FindFontFault
+    ensures { result ≡ found_fault fault }
+{
+    match fault {
+        CheckFontFault::Budget => FindFontFault::Budget,
+        _ => FindFontFault::OutOfMemory(AllocError),
     }
 }
 
@@ -240,7 +192,7 @@ pub struct Session<'a> {
     programs: FontPrograms<'a>,
     decoder: Decoder,
     progress: Option<Progress>,
-    fault: Option<SessionFault>,
+    fault: Option<CheckFontFault>,
 }
 
 // Written out, so that who holds a session proves in one step that its memory is given back.
@@ -261,7 +213,7 @@ impl<'a> Model for Session<'a> {
     ghost use Rattle.hintcheck_fonts.specs.Sessions.{Standing};
     ghost use Rattle.hintcheck_fonts.specs.FontPrograms.{IsFontInRange};
     ghost use Rattle.hintcheck_fonts.specs.Representation.ProgramOrder.{stage_of};
-    ghost use Rattle.hintcheck_fonts.specs.Representation.SessionStages.{KeepsFound, KeepsGood, fault_in, read_of};
+    ghost use Rattle.hintcheck_fonts.specs.Representation.SessionStages.{KeepsFound, KeepsGood, read_of};
 
     ghost Value = { Standing };
 
@@ -269,7 +221,7 @@ impl<'a> Model for Session<'a> {
       font = s.programs.font.now;
       stage = stage_of s.programs;
       read = read_of s.progress;
-      fault = fault_in s.fault;
+      fault = s.fault;
     } };
 
     ghost invariant = { λ s. IsFontInRange s.programs.font.now
@@ -334,12 +286,12 @@ impl<'a> Session<'a> {
             → IfErr result IsCheckFaultOutsideFontAndBudget }
     {
         if let Some(fault) = self.fault {
-            return Err(fault.reported());
+            return Err(fault);
         }
         let checked = self.check_next_within(alloc, source, &mut Budget::unlimited());
-        if let Some(SessionFault::Budget) = self.fault {
+        if let Some(CheckFontFault::Budget) = self.fault {
             // No font has so many points.
-            self.fault = Some(SessionFault::OutOfMemory);
+            self.fault = Some(CheckFontFault::OutOfMemory(AllocError));
             return Err(CheckFontFault::OutOfMemory(AllocError));
         }
         checked
@@ -391,13 +343,13 @@ impl<'a> Session<'a> {
         ensures ends { self.old.fault ≡ None → CheckTells budget.old budget.new result }
     {
         if let Some(fault) = self.fault {
-            return Err(fault.reported());
+            return Err(fault);
         }
         if self.programs.is_over() {
             return Ok(None);
         }
         if budget.is_exceeded() {
-            self.fault = Some(SessionFault::Budget);
+            self.fault = Some(CheckFontFault::Budget);
             return Err(CheckFontFault::Budget);
         }
         let answer = check_from(
@@ -409,7 +361,7 @@ impl<'a> Session<'a> {
             budget,
         );
         if let Err(fault) = &answer {
-            self.fault = Some(SessionFault::of(fault));
+            self.fault = Some(*fault);
         }
         answer
     }
@@ -441,13 +393,13 @@ impl<'a> Session<'a> {
         ensures finding { IsForFinding self.new }
     {
         if let Some(fault) = self.fault {
-            return Err(fault.found());
+            return Err(found(fault));
         }
         match self.find_next_within(alloc, &mut Budget::unlimited()) {
             Ok(found) => Ok(found),
             Err(_) => {
                 // No font has so many points.
-                self.fault = Some(SessionFault::OutOfMemory);
+                self.fault = Some(CheckFontFault::OutOfMemory(AllocError));
                 Err(FindFontFault::OutOfMemory(AllocError))
             }
         }
@@ -483,19 +435,19 @@ impl<'a> Session<'a> {
             → FindNextTellsBudget budget.new result }
     {
         if let Some(fault) = self.fault {
-            return Err(fault.found());
+            return Err(found(fault));
         }
         if self.programs.is_over() {
             return Ok(None);
         }
         if budget.is_exceeded() {
-            self.fault = Some(SessionFault::Budget);
+            self.fault = Some(CheckFontFault::Budget);
             return Err(FindFontFault::Budget);
         }
         match find_from(alloc, &mut self.programs, budget) {
             Ok(found) => Ok(found),
             Err(by) => {
-                self.fault = Some(SessionFault::of_end(by));
+                self.fault = Some(CheckFontFault::from(by));
                 Err(FindFontFault::from(by))
             }
         }

@@ -285,7 +285,7 @@ pub(crate) fn told_of(context: &Context<'_>, kind: &str, words: &mut Words<'_>) 
 fn show_frames(alloc: Global, text: &mut String, family: &Certificate, number: u32) -> Result<()> {
     ensure!(number < family.contexts(), "no such context");
     text.push_str(" calls")?;
-    let frames = family.frames(alloc, number)?;
+    let frames = family.builder().frames(alloc, number)?;
     for frame in &frames {
         write!(text, " {}", frame_text(alloc, frame)?)?;
     }

@@ -53,8 +53,8 @@ impl Certificate {
         Certificate { builder }
     }
 
-    /// Returns the builder that holds the family.
-    pub(crate) fn builder(&self) -> &Builder
+    /// Lends the builder that holds the family: it tells what a context is, and which number one has.
+    pub fn builder(&self) -> &Builder
         ensures { result.now ≡ self.now }
     {
         &self.builder
@@ -90,47 +90,6 @@ impl Certificate {
         ensures some { IfSome result (IsContextAt self.now.contexts number) }
     {
         self.builder.context(number)
-    }
-
-    /// Returns in which program a context is.
-    pub fn spot(&self, context: u32) -> Spot
-        requires { context < length self.now.contexts }
-        ensures { result ≡ spot_of (frames_at self.now.contexts context) }
-    {
-        self.builder.spot(context)
-    }
-
-    /// Returns the number of the context that has the parent's frames and this one more: `None` if
-    /// there is none.
-    pub fn number(&self, parent: u32, frame: Frame) -> Option<u32>
-        ensures none { parent < length self.now.contexts → result ≡ None
-            → HasChild self.now.contexts parent frame → ⊥ }
-        ensures some { IfSome result (IsChild self.now.contexts parent frame) }
-    {
-        self.builder.number(parent, frame)
-    }
-
-    /// Returns a context's frames, the outermost first.
-    ///
-    /// # Errors
-    /// If memory runs out.
-    pub fn frames(&self, alloc: Global, number: u32) -> Result<Vec<Frame>, AllocError>
-        requires { number < length self.now.contexts }
-        ensures { IfOk result (λ frames.
-            frames.items ≡ reverse (frames_at self.now.contexts number)) }
-    {
-        self.builder.frames(alloc, number)
-    }
-
-    /// Replaces what a list holds by a context's frames, the outermost first.
-    ///
-    /// # Errors
-    /// If memory runs out; then the list may hold any of them.
-    pub fn read_frames(&self, number: u32, frames: &mut Vec<Frame>) -> Result<(), AllocError>
-        requires { number < length self.now.contexts }
-        ensures { OnOk result (frames.new.items ≡ reverse (frames_at self.now.contexts number)) }
-    {
-        self.builder.read_frames(number, frames)
     }
 
     /// Returns the state at a point.

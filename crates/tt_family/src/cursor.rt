@@ -125,7 +125,8 @@ impl<'a> Cursor<'a> {
         ensures is_next { IfOk result (λ _. self.new.is_next ≡ self.old.is_next) }
     {
         if context != self.context {
-            certificate.read_frames(context, &mut self.frames)?;
+            let builder = certificate.builder();
+            builder.read_frames(context, &mut self.frames)?;
             self.context = context;
         }
         Ok(())

@@ -103,11 +103,14 @@ pub(crate) fn look_up_successor(
         Landing::In { context, offset } => Ok((context, offset)),
         Landing::Body { parent, frame } => {
             let offset = body_offset(frame.body);
-            match certificate.number(parent, frame) {
+            match certificate.builder().number(parent, frame) {
                 Some(number) => Ok((number, offset)),
                 None => Err(missing(Spot::of_body(frame.body), offset)),
             }
         }
-        Landing::Beyond { context } => Err(missing(certificate.spot(context), u32::MAX)),
+        Landing::Beyond { context } => {
+            let spot = certificate.builder().spot(context);
+            Err(missing(spot, u32::MAX))
+        },
     }
 }

@@ -50,7 +50,7 @@ pub(crate) fn fault_in(
         (saturated_offset offset) failed }
 {
     Refusal::Refused {
-        spot: certificate.spot(context),
+        spot: certificate.builder().spot(context),
         offset,
         failed,
     }

@@ -1,5 +1,5 @@
 -- What a session keeps of a font's programs. (Representation: no public clause cites it.)
-use Rattle.std.specs.Prelude.{◌≡◌, ℕ, ◌+◌, ◌≤◌, List, [], ◌∷◌, ◌++◌, Option, Some, None, alloc_error, length, Result, Ok, slice_get}
+use Rattle.std.specs.Prelude.{◌≡◌, ℕ, ◌+◌, ◌≤◌, List, [], ◌∷◌, ◌++◌, Option, Some, None, length, Result, Ok, slice_get}
 use Rattle.tt_code.specs.Cut.{Instruction}
 use Rattle.tt_cert.specs.Answers.{input_at}
 use Rattle.tt_cert.specs.Reading.{header_at}
@@ -22,8 +22,6 @@ use Rattle.hintcheck_fonts.specs.declared.font_check.CheckFontFault.{CheckFontFa
 use Rattle.hintcheck_fonts.specs.declared.font_check.CheckFontFault.TheVariants as fault
 use Rattle.hintcheck_fonts.specs.declared.sections.Progress.{Progress}
 use Rattle.hintcheck_report.specs.declared.refused.Refused.{Refused}
-use Rattle.hintcheck_fonts.specs.declared.session.SessionFault.{SessionFault}
-use Rattle.hintcheck_fonts.specs.declared.session.SessionFault.TheVariants as session
 use Rattle.hintcheck_fonts.specs.declared.session.Outcome.{Outcome}
 
 -- the form and the place, once the header was read
@@ -34,17 +32,6 @@ read_of (Some p) = Some (p.form, p.place)
 -- a session without a fault over these programs
 abbrev pub standing_of : Programs (ℕ × ℕ) → Option Progress → Standing
 standing_of p read = standing_at p.font.now (stage_of p) (read_of read)
-
--- the fault that each call returns
-abbrev pub fault_of : SessionFault → CheckFontFault
-fault_of (session.Form place) = fault.Form place
-fault_of session.Read = fault.Read
-fault_of session.OutOfMemory = fault.OutOfMemory alloc_error
-fault_of session.Budget = fault.Budget
-
-abbrev pub fault_in : Option SessionFault → Option CheckFontFault
-fault_in None = None
-fault_in (Some m) = Some (fault_of m)
 
 -- What is kept of accepted programs is what is known where their good families end, and the next
 -- glyph's number is at most the count of glyphs.
