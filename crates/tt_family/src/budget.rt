@@ -11,10 +11,8 @@ use tt_abs::Exhausted;
 pub struct Budget {
     /// How many points may be made in all.
     most: u64,
-    /// How many of them are left.
-    left: u64,
-    /// Whether one more was to be made than may be.
-    is_over: bool,
+    /// How many of them are left; None once one more was to be made than may be.
+    left: Option<u64>,
 }
 
 impl Budget {
@@ -24,8 +22,7 @@ impl Budget {
     {
         Budget {
             most: points,
-            left: points,
-            is_over: false,
+            left: Some(points),
         }
     }
 
@@ -40,14 +37,14 @@ impl Budget {
     pub fn made(&self) -> u64
         ensures { result ≡ made_by self.now }
     {
-        self.most.saturating_sub(self.left)
+        self.most.saturating_sub(self.left.unwrap_or(0))
     }
 
     /// Whether one more point was to be made than may be.
     pub fn is_exceeded(&self) -> bool
         ensures { IsTrue result ↔ IsExceeded self.now }
     {
-        self.is_over
+        self.left.is_none()
     }
 
     /// Counts one more point: nothing else does.
@@ -59,11 +56,15 @@ impl Budget {
         ensures exceeded { OnErr result (Exceeds self.old self.new) }
         ensures budget { EndTellsBudget self.old self.new result }
     {
-        if self.left == 0 {
-            self.is_over = true;
-            return Err(Exhausted::Budget);
+        match self.left {
+            Some(left) if left > 0 => {
+                self.left = Some(left - 1);
+                Ok(())
+            }
+            _ => {
+                self.left = None;
+                Err(Exhausted::Budget)
+            }
         }
-        self.left -= 1;
-        Ok(())
     }
 }

@@ -99,18 +99,16 @@ pub(crate) fn look_up_successor(
     ensures within { IfErr result IsOfNoBudget }
 {
     certificate.order_facts();
-    match landing_of(certificate.builder(), context, way) {
+    let builder = certificate.builder();
+    match landing_of(builder, context, way) {
         Landing::In { context, offset } => Ok((context, offset)),
         Landing::Body { parent, frame } => {
             let offset = body_offset(frame.body);
-            match certificate.builder().number(parent, frame) {
+            match builder.number(parent, frame) {
                 Some(number) => Ok((number, offset)),
                 None => Err(missing(Spot::of_body(frame.body), offset)),
             }
         }
-        Landing::Beyond { context } => {
-            let spot = certificate.builder().spot(context);
-            Err(missing(spot, u32::MAX))
-        },
+        Landing::Beyond { context } => Err(missing(builder.spot(context), u32::MAX)),
     }
 }
