@@ -11,7 +11,7 @@ use Rattle.tt_abs.specs.declared.exhausted.Exhausted.TheVariants.{Memory, Budget
 use Rattle.hintcheck_explain.specs.declared.asked.ExplainFault.TheVariants as explaining
 use Rattle.tt_stream.specs.declared.text.PrintFailed.TheVariants as failed
 use Rattle.hintcheck.specs.Commands.{TellsFailure, fault_of_explain}
-use Rattle.hintcheck.specs.CommandFaults.{IsFaultOfExplanation}
+use Rattle.hintcheck.specs.CommandFaults.{IsEndOfWork, IsFaultOfExplanation}
 use Rattle.hintcheck.specs.Explanations.{IsAnswered, Refuses, TellsProgram, cvt_accepted, cvt_refused, font_accepted, font_refused, glyph_accepted, glyph_refused}
 use Rattle.hintcheck_fonts.specs.FontPrograms.{cvt_subject, font_of, font_subject, glyph_subject}
 use Rattle.tt_abs.specs.Failures.{reason_of}
@@ -33,6 +33,7 @@ use Rattle.hintcheck_fonts.proofs.FontEnds.{least_of}
 use Rattle.hintcheck_fonts.proofs.ProgramSteps.{glyph_of}
 use Rattle.hintcheck_fonts.proofs.ProgramVerdictLemmas.{HasFlow, accepted_found, found_refusal}
 use Rattle.hintcheck.specs.declared.commands.faults.CommandFault.{CommandFault}
+use Rattle.hintcheck.specs.declared.commands.faults.CommandFault.TheVariants as command
 
 -- a failed write of an explanation
 pub failed_text : (S : Type 0) {T : Type 0} (e : ExplainFault) (r : Result T CommandFault) (old new : ℕ) → TellsExplained {T = S} (Err e) old new → IsErrAnd r (λ told. told ≡ fault_of_explain e) → TellsFailure r old new
@@ -48,6 +49,13 @@ fault_of_text (explaining.Write failed.Write) (Err told) is = rw is tt
 fault_of_text (explaining.Write failed.Format) (Err told) is = rw is tt
 fault_of_text (explaining.Exhausted Memory) (Err told) is = rw is tt
 fault_of_text (explaining.Exhausted Points) (Err told) is = rw is tt
+
+-- work that ended without an answer wrote nothing
+pub ended_failures : {T : Type 0} (f : CommandFault) (r : Result T CommandFault) (n : ℕ) → IsErrAnd r (λ told. told ≡ f) → IsEndOfWork f → TellsFailure r n n
+ended_failures f (Ok x) n is ended = absurd is
+ended_failures command.OutOfMemory (Err told) n is ended = rw is refl
+ended_failures command.Budget (Err told) n is ended = rw is refl
+ended_failures _ (Err told) n is ended = absurd ended
 
 -- what was explained of a program, whatever it was searched for by
 pub answered : (x : Subject) (s : AnySetting) (r : Result Explained ExplainFault) (e : Explained) → IsSubjectOf x s → HasFlow (setting_of s) s.start.now → r ≡ Ok e
@@ -65,7 +73,7 @@ answered x s r explained.Refused subject h is accepted refused =
 -- a program that can't be cut is refused
 pub uncut_answered : (x : Subject) (f : Refusal) → Refuses f → IfRefused x.name f (IsRefusedFor x) → IsAnswered x explained.Refused
 uncut_answered x (fault.Refused spot offset test) refuses refused = (reported_at x.name spot offset (reason_of test), refused.refusal)
-uncut_answered x (fault.OutOfMemory e) refuses refused = absurd refuses
+uncut_answered x (fault.Exhausted by) refuses refused = absurd refuses
 
 -- what the exit status of a program tells that was explained
 pub font_told : (d : FontData) (e : Explained) (status : ℕ) → IsAnswered (font_subject d) e → (e ≡ explained.Accepted → status ≡ 0) → (e ≡ explained.Refused → status ≡ 1) → TellsProgram d name.Font status

@@ -16,7 +16,7 @@ fault_of_scan : (q : Request) → IsNoScan q → IsFaultOfRequest q fault.ScanFa
 fault_of_scan (bare maxp cvt points contours program profile) no_scan is = is
 fault_of_scan (verdict font budget profile) no_scan is = is.0
 fault_of_scan (scan fonts options) no_scan is = no_scan
-fault_of_scan (explain font program offset profile) no_scan is = elim is [ inl reading ↦ reading | inr some ↦ some.1.1 ]
+fault_of_scan (explain font program offset budget profile) no_scan is = elim is.0 [ inl reading ↦ reading | inr some ↦ some.1.1 ]
 fault_of_scan (find font certificate budget) no_scan is = elim is.0 [ inl e ↦ cc | inr other ↦ other.1 ]
 fault_of_scan (check font certificate budget) no_scan is = is.0
 fault_of_scan (list font program detail) no_scan is = elim is [ inl reading ↦ reading | inr some ↦ some.1 ]
@@ -26,7 +26,7 @@ unfinished_scan : (q : Request) → IsNoScan q → IsFaultOfRequest q fault.Scan
 unfinished_scan (bare maxp cvt points contours program profile) no_scan is = is
 unfinished_scan (verdict font budget profile) no_scan is = is.0
 unfinished_scan (scan fonts options) no_scan is = no_scan
-unfinished_scan (explain font program offset profile) no_scan is = elim is [ inl reading ↦ reading | inr some ↦ some.1.1 ]
+unfinished_scan (explain font program offset budget profile) no_scan is = elim is.0 [ inl reading ↦ reading | inr some ↦ some.1.1 ]
 unfinished_scan (find font certificate budget) no_scan is = elim is.0 [ inl e ↦ cc | inr other ↦ other.1 ]
 unfinished_scan (check font certificate budget) no_scan is = is.0
 unfinished_scan (list font program detail) no_scan is = elim is [ inl reading ↦ reading | inr some ↦ some.1 ]
@@ -51,7 +51,7 @@ pub verdict_no_scan : (q : Request) → IsForVerdict q → IsNoScan q
 verdict_no_scan (bare maxp cvt points contours program profile) is = tt
 verdict_no_scan (verdict font budget profile) is = tt
 verdict_no_scan (scan fonts options) is = is
-verdict_no_scan (explain font program offset profile) is = tt
+verdict_no_scan (explain font program offset budget profile) is = tt
 verdict_no_scan (find font certificate budget) is = tt
 verdict_no_scan (check font certificate budget) is = tt
 verdict_no_scan (list font program detail) is = tt

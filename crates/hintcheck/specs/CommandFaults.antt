@@ -178,6 +178,12 @@ abbrev pub IsFaultOfLines : CommandFault → Type 0
 IsFaultOfLines fault.OutOfMemory = Unit {0}
 IsFaultOfLines other = IsFaultOfPrinting other
 
+-- memory or the budget ran out
+abbrev pub IsEndOfWork : CommandFault → Type 0
+IsEndOfWork fault.OutOfMemory = Unit {0}
+IsEndOfWork fault.Budget = Unit {0}
+IsEndOfWork other = ⊥
+
 -- why a program isn't explained, whichever it is: its lines aren't printed, or the budget is
 -- exceeded
 abbrev pub IsFaultOfExplanation : CommandFault → Type 0

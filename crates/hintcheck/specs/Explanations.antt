@@ -101,4 +101,4 @@ IsAnswered x explained.Refused = (r : Refused) × IsRefusal x r
 -- the fault refuses a program
 abbrev pub Refuses : Refusal → Type 0
 Refuses (fault.Refused spot offset failed) = Unit {0}
-Refuses (fault.OutOfMemory e) = ⊥
+Refuses (fault.Exhausted by) = ⊥

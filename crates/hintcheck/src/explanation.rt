@@ -6,7 +6,7 @@ ghost use Rattle.tt_abs.specs.Settings.{setting_of};
 ghost use Rattle.tt_abs.specs.StateFlow.{FunctionsFit};
 ghost use Rattle.hintcheck_explain.specs.Faults.{AsksForInstruction};
 ghost use Rattle.hintcheck.specs.Commands.{TellsFailure};
-ghost use Rattle.hintcheck.specs.CommandFaults.{IsFaultOfExplaining, IsFaultOfExplanation, IsFaultOfLines, IsWithin};
+ghost use Rattle.hintcheck.specs.CommandFaults.{IsEndOfWork, IsFaultOfExplaining, IsFaultOfExplanation, IsFaultOfLines, IsWithin};
 ghost use Rattle.hintcheck.specs.Explanations.{HasPlace, HasPlaceIn, HoldAcceptedProgram, HoldPlace, HoldRefusedProgram, IsAnswered, IsRefusedIn, Refuses, TellsProgram};
 ghost use Rattle.hintcheck_fonts.specs.FontPrograms.{IsFontInRange};
 ghost use Rattle.hintcheck.specs.Listing.{program_in};
@@ -173,7 +173,7 @@ fn refused_before<'a>(
         (λ refused. IfSome refused (λ _. IsRefusedIn programs.new.font.now called)) }
     ensures there { IfOk result (λ refused. refused ≡ None
         → IsAt programs.new.font.now called (stage_of programs.new)) }
-    ensures faults { IfErr result IsFaultOfExplanation }
+    ensures faults { IfErr result IsEndOfWork }
 {
     while !programs.is_at(called) {
         let outcome = programs.judge_next(alloc, judge, budget)?;

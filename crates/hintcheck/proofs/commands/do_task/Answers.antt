@@ -15,13 +15,13 @@ use Rattle.hintcheck.proofs.PrintedLemmas.{prints_for_verdict, prints_upgrade, p
 use Rattle.hintcheck.proofs.ScanFaults.{passed_no_scan, printing_no_scan, task_no_scan, verdict_no_scan}
 use Rattle.hintcheck.proofs.commands.do_task.Goals as goal
 
-for_verdict : (t : Task) → ((fonts : Vec (String Global) Global) (options : ScanOptions) → t ≡ task.Scan fonts options → ⊥) → ((font program : String Global) (offset : Option ℕ) (profile : Profile) → t ≡ task.Explain font program offset profile → ⊥)
+for_verdict : (t : Task) → ((fonts : Vec (String Global) Global) (options : ScanOptions) → t ≡ task.Scan fonts options → ⊥) → ((font program : String Global) (offset budget : Option ℕ) (profile : Profile) → t ≡ task.Explain font program offset budget profile → ⊥)
     → ((font program : String Global) (detail : Detail) → t ≡ task.List font program detail → ⊥) → ((old new : String Global) → t ≡ task.Upgrade old new → ⊥) → IsForVerdict (asked t)
 unfolding asked
 for_verdict (task.Bare maxp cvt points contours program profile) scan explain other another = tt
 for_verdict (task.Verdict font budget profile) scan explain other another = tt
 for_verdict (task.Scan fonts options) scan explain other another = absurd (scan fonts options refl)
-for_verdict (task.Explain font program offset profile) scan explain other another = absurd (explain font program offset profile refl)
+for_verdict (task.Explain font program offset budget profile) scan explain other another = absurd (explain font program offset budget profile refl)
 for_verdict (task.Find font certificate budget) scan explain other another = tt
 for_verdict (task.Check font certificate budget) scan explain other another = tt
 for_verdict (task.List font program detail) scan explain other another = absurd (other font program detail refl)

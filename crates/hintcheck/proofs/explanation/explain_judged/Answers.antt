@@ -2,7 +2,7 @@ use Rattle.std.proofs.Common.{Bor, ap, subst}
 use Rattle.tt_font.specs.Reading.{FontData}
 use Rattle.hintcheck.specs.Explanations.{TellsProgram}
 use Rattle.hintcheck_fonts.specs.Representation.ProgramOrder.{stage_of}
-use Rattle.hintcheck.proofs.ExplanationLemmas.{next_told}
+use Rattle.hintcheck.proofs.ExplanationLemmas.{ended_failures, next_told}
 use Rattle.hintcheck.proofs.explanation.explain_judged.Goals as goal
 
 pub returns-clause-tells : goal.returns-clause-tells
@@ -13,3 +13,6 @@ returns-clause-tells g c =
     subst (λ (d : FontData). TellsProgram d c.args.called c.exit_status.result) font
     (next_told programs.font.now c.args.called (stage_of programs) x c.in_ok-explained.explained c.exit_status.result next name kept (c.in_ok-explained.ensures.answered x next)
     c.exit_status.ensures.accepted c.exit_status.ensures.refused)
+
+pub returns-in_err-refused-clause-failures : goal.returns-in_err-refused-clause-failures
+returns-in_err-refused-clause-failures g c = ended_failures c.in_err-refused.field-0.0 c.from_residual.result _ c.from_residual.ensures.1 c.in_err-refused.ensures.faults

@@ -54,7 +54,7 @@ loop-alloc-preserved c =
       font = c.judge_next.ensures.font ∙ i.font;
       known = subst (λ (f : Bor FontData). KeepsKnown f.now t) (sym c.judge_next.ensures.font) (stays_known d j s t c.in_ok-outcome.outcome c.in_ok-outcome.ensures.answer i.known);
       way = still_on_way d j c.args.called s t c.in_ok-outcome.outcome c.in_ok-outcome.ensures.answer (λ here. let yes = c.is_at.ensures.1 here in let no = c.loop-alloc-test.true in cc) i.way
-          (λ o is. sym (c.refused_by.ensures.some o is) ∙ c.in_default-refused_by.is);
+          (λ o is. sym (c.refused_by.ensures.some o is) ∙ c.in_default.is);
     }
 
 pub returns-clause-there : goal.returns-clause-there

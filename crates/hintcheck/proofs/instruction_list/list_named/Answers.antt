@@ -1,4 +1,3 @@
--- proofs/listing/list_named/Answers.antt
 use Rattle.std.specs.Prelude.{codes}
 use Rattle.std.specs.Io.KnownBytes.{Appends}
 use Rattle.std.proofs.Common.{ℕ, List, [], ◌++◌, subst}
@@ -6,7 +5,7 @@ use Rattle.tt_code.specs.declared.reason.Reason.{Reason}
 use Rattle.tt_font.specs.Reading.{no_glyph}
 use Rattle.hintcheck_fonts.specs.FontPrograms.{font_of, glyph_subject, one_glyph_font}
 use Rattle.hintcheck_fonts.specs.Programs.{IsRefusal, Subject}
-use Rattle.tt_family.specs.Checks.{IsOutOfMemory}
+use Rattle.tt_family.specs.Checks.{IsExhausted}
 use Rattle.tt_abs.specs.Failures.{reason_of}
 use Rattle.tt_abs.specs.declared.refusal.Refusal.{Refusal}
 use Rattle.tt_abs.specs.declared.refusal.Refusal.TheVariants as fault
@@ -22,7 +21,7 @@ use Rattle.hintcheck.proofs.instruction_list.list_named.Goals as goal
 
 refusal_of : (x : Subject) (f : Refusal) → IfRefused x.name f (IsRefusedFor x) → IfRefused x.name f (IsRefusal x)
 refusal_of x (fault.Refused spot offset failed) is = is.refusal
-refusal_of x (fault.OutOfMemory e) is = tt
+refusal_of x (fault.Exhausted by) is = tt
 
 -- a program of these bytes in some font
 in_some_font : List ℕ → Subject
@@ -44,5 +43,5 @@ returns-in_ok-writeln-in-Err-Refused-clause-told g c = λ one.
     let L : Reason → Type 0 = λ r. Appends (g.O.Sink.contents c.args.out.now) (g.O.Sink.contents c.writeln.new.self) (refused_text (refused_in c.args.named.name e.offset r) ++ codes "\n") in
     tells_unlisted x c.args.named.name (reported_at x.name e.field-0-0 e.offset (reason_of e.failed)) (g.O.Sink.contents c.args.out.now) (g.O.Sink.contents c.writeln.new.self)
     (subst F e.field-0-is (refusal_of x e.field-0 (uncut_refusal x e.field-0 (e.ensures.uncut x.name))))
-    (λ is cut structured. subst IsOutOfMemory e.field-0-is (e.ensures.only is cut structured))
+    (λ is cut structured. subst IsExhausted e.field-0-is (e.ensures.only is cut structured))
     (subst L (rw e.field-0-is at c.reason.ensures) (rw e.field-0-is at (subst W c.refused_at-refused.ensures c.in_ok-writeln-in-Err-Refused.ensures.written)))
