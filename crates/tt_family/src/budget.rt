@@ -33,11 +33,15 @@ impl Budget {
         Budget::of(u64::MAX)
     }
 
-    /// Returns how many points were made.
+    /// Returns how many points were made: all that may be, where the budget is exceeded.
     pub fn made(&self) -> u64
-        ensures { result ≡ made_by self.now }
+        ensures made { result ≡ made_by self.now }
+        ensures all { IsExceeded self.now → result ≡ self.now.most }
     {
-        self.most.saturating_sub(self.left.unwrap_or(0))
+        match self.left {
+            Some(left) => self.most.saturating_sub(left),
+            None => self.most,
+        }
     }
 
     /// Whether one more point was to be made than may be.
