@@ -1,5 +1,5 @@
 -- The fault of a check, or of a search, with the greatest budget, whose end is told as out of memory.
-use Rattle.std.specs.Prelude.{◌≡◌, ℕ, List, Option, Err, Result}
+use Rattle.std.specs.Prelude.{ℕ, List, Option, Err}
 use Rattle.tt_font.specs.Conditions.{Condition}
 use Rattle.hintcheck_fonts.specs.BudgetAnswers.{CheckWithinTellsFontFault, FindWithinTellsFontFault, check_unlimited, find_unlimited}
 use Rattle.hintcheck_fonts.specs.CertificateFaults.{CheckTellsFontFault, CountsCheck, CountsFind, FindTellsFontFault}
@@ -55,10 +55,3 @@ font_found condition find.Budget told = told
 font_found condition (find.Font font) told = told
 font_found condition find.Write told = told
 font_found condition (find.OutOfMemory error) told = told
-
--- only a failed write is told as one
-pub write_unlimited : (fault : FindFontFault) → find_unlimited fault ≡ find.Write → fault ≡ find.Write
-write_unlimited find.Budget is = cc
-write_unlimited (find.Font font) is = cc
-write_unlimited find.Write is = is
-write_unlimited (find.OutOfMemory error) is = cc

@@ -1,4 +1,4 @@
-use Rattle.hintcheck_fonts.proofs.UnlimitedFaults.{counts_found, font_found, write_unlimited}
+use Rattle.hintcheck_fonts.proofs.UnlimitedFaults.{counts_found, font_found}
 use Rattle.hintcheck_fonts.proofs.certificate.find_font.Goals as goal
 
 pub returns-in-Err-clause-failures : goal.returns-in-Err-clause-failures
