@@ -6,7 +6,8 @@ ghost use Rattle.std.specs.Option.{option_copied};
 ghost use Rattle.tt_abs.specs.Entries.{Ascends};
 ghost use Rattle.tt_abs.specs.Settings.{setting_of};
 ghost use Rattle.tt_abs.specs.StateFlow.{FunctionsFit};
-ghost use Rattle.tt_family.specs.Budgets.{Spends, TellsBudget};
+ghost use Rattle.tt_family.specs.Budgets.{IsExceeded, Spends, TellsBudget};
+ghost use Rattle.tt_abs.specs.declared.exhausted.Exhausted.{Exhausted as Ended};
 ghost use Rattle.tt_find.specs.FoundSubjects.{AreCounted, HasLeastContexts, HasOnlyNeeded, IsJustifiedFor, IsLeastFor, TellsNoEnd, TellsNoneIsGood};
 ghost use Rattle.tt_find.specs.Representation.BudgetStops.{StopTellsBudget};
 ghost use Rattle.tt_find.specs.Representation.Solvers.{updates_of};
@@ -481,6 +482,7 @@ pub fn explore(
     ensures none_good { IfOk result (λ explored. IfSome explored.fault
         (TellsNoneIsGood setting.now)) }
     ensures spends { Spends budget.old budget.new }
+    ensures budget { IfErr result (λ by. by ≡ Ended.Budget → IsExceeded budget.new) }
 {
     let mut solver = Solver::new(alloc);
     let kept = KeptStates::Everywhere;
