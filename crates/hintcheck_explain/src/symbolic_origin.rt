@@ -7,7 +7,7 @@ use std::fmt;
 use tt_abs::{Kind, Setting, Spot};
 use tt_cert::Name;
 use tt_code::Program;
-use tt_symbolic_check::Place as SearchedPlace;
+use tt_symbolic_check::Site;
 use tt_symbolic_search::SymbolOrigin;
 
 /// The codes of RS and RCVT.
@@ -45,12 +45,12 @@ pub(crate) struct SymbolOriginText<'a> {
 
 impl SymbolOriginText<'_> {
     /// Returns a place as it is printed.
-    fn place(&self, at: SearchedPlace) -> Place {
+    fn place(&self, at: Site) -> Place {
         Place::at(self.program, at.spot, at.offset)
     }
 
     /// Returns the code of the instruction at a place, if one is there.
-    fn code_at(&self, at: SearchedPlace) -> Option<u8> {
+    fn code_at(&self, at: Site) -> Option<u8> {
         let instruction = code_of(self.setting, at.spot).at(at.offset)?;
         Some(instruction.code())
     }

@@ -3,7 +3,7 @@
 use crate::origins::Origins;
 use crate::track::Track;
 use std::alloc::{AllocError, Global};
-use tt_symbolic_check::Place;
+use tt_symbolic_check::Site;
 use tt_symbolic_state::State;
 use tt_symbolic_state::cell::Cell;
 
@@ -18,10 +18,10 @@ pub struct Question {
 #[derive(Clone, Copy, Debug, PartialEq, Eq)]
 pub enum SymbolOrigin {
     /// The instruction at this place makes it, or reads it where nothing is known of it.
-    Made(Place),
+    Made(Site),
     /// States that met at this place had different numbers. Each is told where it was known.
     Met {
-        at: Place,
+        at: Site,
         first: Option<i32>,
         second: Option<i32>,
     },
