@@ -35,16 +35,18 @@ pub(super) fn bare_verdict(
     budget: Option<u64>,
     profile: Profile,
 ) -> Result<Verdict, CommandFault>
-    ensures safe { IfOk result (λ verdict. verdict.refused ≡ [] → SpellSafeBy profile
-        words.maxp.now words.cvt words.points words.contours words.program.now) }
-    ensures refused { IfOk result (λ verdict. verdict.refused ≢ [] → SpellRefusedBy profile
-        words.maxp.now words.cvt words.points words.contours words.program.now) }
-    ensures given { IfOk result (SpellVerdictBy profile
-        words.maxp.now words.cvt words.points words.contours words.program.now) }
+    ensures safe { IfOk result (λ verdict. verdict.refused ≡ []
+        → SpellSafeBy profile words.entry.maxp.now words.entry.cvt words.entry.points
+        words.entry.contours words.entry.program.now) }
+    ensures refused { IfOk result (λ verdict. verdict.refused ≢ []
+        → SpellRefusedBy profile words.entry.maxp.now words.entry.cvt words.entry.points
+        words.entry.contours words.entry.program.now) }
+    ensures given { IfOk result (SpellVerdictBy profile words.entry.maxp.now words.entry.cvt
+        words.entry.points words.entry.contours words.entry.program.now) }
     ensures fault { IfErr result IsNoWriteFault }
-    ensures faults { IfErr result (λ fault.
-        IsFaultOfGlyph words.maxp.now words.program.now fault × IsWithin budget fault) }
-    ensures none { OnOk result (SpellNoFault words.maxp.now words.program.now) }
+    ensures faults { IfErr result (λ fault. IsFaultOfGlyph
+        words.entry.maxp.now words.entry.program.now fault × IsWithin budget fault) }
+    ensures none { OnOk result (SpellNoFault words.entry.maxp.now words.entry.program.now) }
 {
     let maxp = word_bytes(alloc, words.maxp).map_err(|fault| CommandFault::of_word(
         fault,
