@@ -13,7 +13,7 @@ IsNoScan (scan fonts options expected) = ⊥
 IsNoScan other = Unit {0}
 
 fault_of_scan : (q : Request) → IsNoScan q → IsFaultOfRequest q fault.ScanFault → ⊥
-fault_of_scan (bare maxp cvt points contours program budget profile) no_scan is = is
+fault_of_scan (bare maxp cvt points contours program budget profile) no_scan is = is.0
 fault_of_scan (verdict font budget profile) no_scan is = is.0
 fault_of_scan (scan fonts options expected) no_scan is = no_scan
 fault_of_scan (explain font program offset budget profile format) no_scan is = elim is.0 [ inl reading ↦ reading | inr some ↦ some.1.1 ]
@@ -23,7 +23,7 @@ fault_of_scan (list font program detail) no_scan is = elim is [ inl reading ↦ 
 fault_of_scan (upgrade old new) no_scan is = elim is [ inl e ↦ cc | inr other ↦ other.1 ]
 
 unfinished_scan : (q : Request) → IsNoScan q → IsFaultOfRequest q fault.ScanUnfinished → ⊥
-unfinished_scan (bare maxp cvt points contours program budget profile) no_scan is = is
+unfinished_scan (bare maxp cvt points contours program budget profile) no_scan is = is.0
 unfinished_scan (verdict font budget profile) no_scan is = is.0
 unfinished_scan (scan fonts options expected) no_scan is = no_scan
 unfinished_scan (explain font program offset budget profile format) no_scan is = elim is.0 [ inl reading ↦ reading | inr some ↦ some.1.1 ]

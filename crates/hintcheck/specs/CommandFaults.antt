@@ -73,12 +73,13 @@ pub record SpellFault (maxp program : List ℕ) (told : Numbered) : Type 0 where
   pub beside : told.1 ≡ Other
 
 -- Why there is no verdict on one glyph program: the first of the words that spells no bytes, or
--- else the fault of `maxp`.
+-- else the fault of `maxp`; or the budget is exceeded, where these have none.
 abbrev pub IsFaultOfGlyph : List ℕ → List ℕ → CommandFault → Type 0
 IsFaultOfGlyph maxp program fault.MaxpWord = IsHexWord maxp → ⊥
 IsFaultOfGlyph maxp program fault.ProgramWord = IsHexWord maxp × (IsHexWord program → ⊥)
 IsFaultOfGlyph maxp program (fault.Font numbered) = SpellFault maxp program numbered
 IsFaultOfGlyph maxp program fault.OutOfMemory = Unit {0}
+IsFaultOfGlyph maxp program fault.Budget = SpellNoFault maxp program
 IsFaultOfGlyph maxp program other = ⊥
 
 -- why there is no verdict on a font file
@@ -222,7 +223,7 @@ IsFaultOfFileExplaining word offset reported =
 -- Why what is asked for isn't answered.
 abbrev pub IsFaultOfRequest : Request → CommandFault → Type 0
 IsFaultOfRequest (bare maxp cvt points contours program budget profile) reported =
-    IsFaultOfGlyph maxp (unwrap_or program []) reported
+    IsFaultOfGlyph maxp (unwrap_or program []) reported × IsWithin budget reported
 IsFaultOfRequest (verdict font budget profile) reported =
     IsFaultOfFontFile reported × IsWithin budget reported
 IsFaultOfRequest (scan fonts options expected) reported = IsFaultOfScan options reported

@@ -23,7 +23,7 @@ mod upgrade_task;
 mod verdict_lines;
 mod verdict_task;
 
-use bare_task::{bare_verdict, word_or_empty};
+use bare_task::{BareWords, bare_verdict, word_or_empty};
 use check_task::check_verdict;
 use explain_task::explain_of_file;
 use faults::CommandFault;
@@ -80,17 +80,18 @@ fn verdict_on<R: Files + AllocGlobal>(rt: &R, task: &Task) -> Result<Verdict, Co
             points,
             contours,
             program,
+            budget,
             profile,
-            ..
-        } => bare_verdict(
-            rt.alloc(),
-            maxp,
-            *cvt,
-            *points,
-            *contours,
-            word_or_empty(program),
-            *profile,
-        ),
+        } => {
+            let words = BareWords {
+                maxp,
+                cvt: *cvt,
+                points: *points,
+                contours: *contours,
+                program: word_or_empty(program),
+            };
+            bare_verdict(rt.alloc(), words, *budget, *profile)
+        }
         Task::Verdict {
             font,
             budget,
