@@ -221,13 +221,13 @@ IsFaultOfFileExplaining word offset reported =
 
 -- Why what is asked for isn't answered.
 abbrev pub IsFaultOfRequest : Request → CommandFault → Type 0
-IsFaultOfRequest (bare maxp cvt points contours program profile) reported =
+IsFaultOfRequest (bare maxp cvt points contours program budget profile) reported =
     IsFaultOfGlyph maxp (unwrap_or program []) reported
 IsFaultOfRequest (verdict font budget profile) reported =
     IsFaultOfFontFile reported × IsWithin budget reported
-IsFaultOfRequest (scan fonts options) reported = IsFaultOfScan options reported
-IsFaultOfRequest (explain font program offset budget profile) reported =
-    IsFaultOfFileExplaining program offset reported × IsWithin budget reported
+IsFaultOfRequest (scan fonts options expected) reported = IsFaultOfScan options reported
+IsFaultOfRequest (explain font program offset budget profile format) reported =
+    IsFaultOfFileExplaining (unwrap_or program []) offset reported × IsWithin budget reported
 IsFaultOfRequest (find font certificate budget) reported =
     IsFaultOfFinding font certificate reported × IsWithin budget reported
 IsFaultOfRequest (check font certificate budget) reported =
@@ -239,11 +239,12 @@ IsFaultOfRequest (upgrade old new) reported = IsFaultOfUpgrading old new reporte
 -- of `find` and of `upgrade` are two different ones; and those of `explain` name a program of some
 -- font, and an instruction of it by an offset, if any.
 abbrev pub HasNoFault : Request → Type 0
-HasNoFault (bare maxp cvt points contours program profile) =
+HasNoFault (bare maxp cvt points contours program budget profile) =
     SpellNoFault maxp (unwrap_or program [])
 HasNoFault (verdict font budget profile) = Unit {0}
-HasNoFault (scan fonts options) = options.fail_on ≢ Unknown
-HasNoFault (explain font program offset budget profile) = (bytes : List ℕ) × HoldPlace bytes program offset
+HasNoFault (scan fonts options expected) = options.fail_on ≢ Unknown
+HasNoFault (explain font program offset budget profile format) =
+    (bytes : List ℕ) × HoldPlace bytes (unwrap_or program []) offset
 HasNoFault (find font certificate budget) = font ≢ certificate
 HasNoFault (check font certificate budget) = Unit {0}
 HasNoFault (list font program detail) = Unit {0}

@@ -77,13 +77,13 @@ HoldPassing other profile bytes = HoldSafeBy profile bytes
 -- `explain`, some bytes hold a font whose program of this name is accepted. A listing and an
 -- upgrade tell nothing of safety.
 abbrev pub IsSafeRequest : Request → Type 0
-IsSafeRequest (bare maxp cvt points contours program profile) =
+IsSafeRequest (bare maxp cvt points contours program budget profile) =
     SpellSafeBy profile maxp cvt points contours (unwrap_or program [])
 IsSafeRequest (verdict font budget profile) = (bytes : List ℕ) × HoldSafeBy profile bytes
-IsSafeRequest (scan fonts options) =
+IsSafeRequest (scan fonts options expected) =
     All (λ font. (bytes : List ℕ) × HoldPassing options.fail_on options.profile bytes) fonts
-IsSafeRequest (explain font program offset budget profile) =
-    (bytes : List ℕ) × HoldAcceptedBy profile bytes program
+IsSafeRequest (explain font program offset budget profile format) =
+    (bytes : List ℕ) × HoldAcceptedBy profile bytes (unwrap_or program [])
 IsSafeRequest (find font certificate budget) = (bytes : List ℕ) × HoldSafeFont bytes
 IsSafeRequest (check font certificate budget) = (bytes : List ℕ) × HoldSafeFont bytes
 IsSafeRequest (list font program detail) = Unit {0}
@@ -177,7 +177,7 @@ pub record IsCheckOn (bytes : List ℕ) (judgement : Judgement) : Type 0 where
 -- The verdict is the one that is asked for: on the glyph program of `bare`; and for `verdict`,
 -- `find` and `check` on a font that some bytes hold. The others ask for no verdict of this kind.
 abbrev pub IsVerdictAsked : Request → Judgement → Type 0
-IsVerdictAsked (bare maxp cvt points contours program profile) judgement =
+IsVerdictAsked (bare maxp cvt points contours program budget profile) judgement =
     SpellVerdictBy profile maxp cvt points contours (unwrap_or program []) judgement
 IsVerdictAsked (verdict font budget profile) judgement =
     (bytes : List ℕ) × IsVerdictBy profile bytes judgement
@@ -185,8 +185,8 @@ IsVerdictAsked (find font certificate budget) judgement =
     (bytes : List ℕ) × IsVerdictOn bytes judgement
 IsVerdictAsked (check font certificate budget) judgement =
     (bytes : List ℕ) × IsCheckOn bytes judgement
-IsVerdictAsked (scan fonts options) judgement = ⊥
-IsVerdictAsked (explain font program offset budget profile) judgement = ⊥
+IsVerdictAsked (scan fonts options expected) judgement = ⊥
+IsVerdictAsked (explain font program offset budget profile format) judgement = ⊥
 IsVerdictAsked (list font program detail) judgement = ⊥
 IsVerdictAsked (upgrade old new) judgement = ⊥
 
@@ -196,13 +196,13 @@ IsVerdictAsked (upgrade old new) judgement = ⊥
 -- font whose program of this name is refused, or one before it. For `list`, some bytes hold a font
 -- whose program of this name can't be cut or isn't structured. An upgrade is never refused.
 abbrev pub IsRefusedRequest : Request → Type 0
-IsRefusedRequest (bare maxp cvt points contours program profile) =
+IsRefusedRequest (bare maxp cvt points contours program budget profile) =
     SpellRefusedBy profile maxp cvt points contours (unwrap_or program [])
 IsRefusedRequest (verdict font budget profile) = (bytes : List ℕ) × HoldRefusedBy profile bytes
-IsRefusedRequest (scan fonts options) =
+IsRefusedRequest (scan fonts options expected) =
     (bytes : List ℕ) × HoldFailing options.fail_on options.profile bytes
-IsRefusedRequest (explain font program offset budget profile) =
-    (bytes : List ℕ) × HoldUnacceptedBy profile bytes program
+IsRefusedRequest (explain font program offset budget profile format) =
+    (bytes : List ℕ) × HoldUnacceptedBy profile bytes (unwrap_or program [])
 IsRefusedRequest (find font certificate budget) = (bytes : List ℕ) × HoldRefusedFont bytes
 IsRefusedRequest (check font certificate budget) = (bytes : List ℕ) × HoldFont bytes
 IsRefusedRequest (list font program detail) = (bytes : List ℕ) × HoldUnlistedProgram bytes program

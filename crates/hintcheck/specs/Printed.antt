@@ -17,10 +17,10 @@ use Rattle.hintcheck.specs.declared.commands.faults.CommandFault.{CommandFault}
 
 -- the profile by which what is asked for is checked
 abbrev pub profile_of : Request → Profile
-profile_of (bare maxp cvt points contours program profile) = profile
+profile_of (bare maxp cvt points contours program budget profile) = profile
 profile_of (verdict font budget profile) = profile
-profile_of (scan fonts options) = options.profile
-profile_of (explain font program offset budget profile) = profile
+profile_of (scan fonts options expected) = options.profile
+profile_of (explain font program offset budget profile format) = profile
 profile_of other = Strict
 
 -- The lines of the verdict that is asked for were written, where the written bytes are known: of
@@ -47,12 +47,12 @@ PrintsUpgrade old new =
 
 -- What was asked for is answered in these lines; those of `explain` are left unspecified.
 abbrev pub Prints : Request → ℕ → Option (List ℕ) → Option (List ℕ) → Type 0
-Prints (bare maxp cvt points contours program profile) status old new =
-    PrintsVerdict (bare maxp cvt points contours program profile) status old new
+Prints (bare maxp cvt points contours program budget profile) status old new =
+    PrintsVerdict (bare maxp cvt points contours program budget profile) status old new
 Prints (verdict font budget profile) status old new =
     PrintsVerdict (verdict font budget profile) status old new
-Prints (scan fonts options) status old new = PrintsScan options fonts status old new
-Prints (explain font program offset budget profile) status old new = Unit {0}
+Prints (scan fonts options expected) status old new = PrintsScan options fonts status old new
+Prints (explain font program offset budget profile format) status old new = Unit {0}
 Prints (find font certificate budget) status old new =
     PrintsVerdict (find font certificate budget) status old new
 Prints (check font certificate budget) status old new =

@@ -9,7 +9,7 @@ use Rattle.tt_cert.specs.declared.name.Name.{Name}
 use Rattle.tt_cert.specs.declared.name.Name.TheVariants as name
 use Rattle.hintcheck_words.specs.declared.words.FailOn.{FailOn}
 use Rattle.hintcheck_words.specs.declared.words.Format.{Format}
-use Rattle.hintcheck_words.specs.declared.words.Format.TheVariants.{Lines, Json}
+use Rattle.hintcheck_words.specs.declared.words.Format.TheVariants.{Lines, Json, Causes}
 use Rattle.hintcheck_words.specs.declared.words.Profile.{Profile}
 use Rattle.hintcheck_words.specs.declared.words.ScanOptions.{ScanOptions}
 use Rattle.hintcheck.specs.Commands.{status_of}
@@ -107,6 +107,7 @@ object_of options s =
 abbrev pub in_format : Format → List ℕ → List ℕ → List ℕ
 in_format Lines line object = line
 in_format Json line object = object
+in_format Causes line object = line
 
 -- what is printed of it
 abbrev pub text_of : ScanOptions → Scanned → List ℕ

@@ -81,6 +81,7 @@ fn verdict_on<R: Files + AllocGlobal>(rt: &R, task: &Task) -> Result<Verdict, Co
             contours,
             program,
             profile,
+            ..
         } => bare_verdict(
             rt.alloc(),
             maxp,
@@ -132,14 +133,18 @@ fn do_task<R: Files + AllocGlobal, O: Sink, E: Sink>(
     ensures untold { E.failures err.old ≤ E.failures err.new }
 {
     match task {
-        Task::Scan { fonts, options } => scan_fonts(rt, fonts, *options, out, err),
+        Task::Scan { fonts, options, .. } => scan_fonts(rt, fonts, *options, out, err),
         Task::Explain {
             font,
             program,
             offset,
             budget,
             profile,
-        } => explain_of_file(rt, font, program, *offset, *budget, *profile, out),
+            ..
+        } => {
+            let word = word_or_empty(program);
+            explain_of_file(rt, font, word, *offset, *budget, *profile, out)
+        }
         Task::List {
             font,
             program,

@@ -56,7 +56,7 @@ pub(super) fn tell_summary<E: Sink>(err: &mut E, fonts: usize, tally: Tally, for
     ensures { E.failures err.old ≤ E.failures err.new }
 {
     match format {
-        Format::Lines => {
+        Format::Lines | Format::Causes => {
             let _ = print_summary(err, fonts, tally);
         }
         Format::Json => {}

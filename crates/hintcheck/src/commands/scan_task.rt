@@ -149,7 +149,7 @@ fn tell_judged<O: Sink>(
     ensures faults { IfErr result (IsFaultOfTelling options) }
 {
     match options.format {
-        Format::Lines => Ok(print_line(out, name, verdict, options.profile)?),
+        Format::Lines | Format::Causes => Ok(print_line(out, name, verdict, options.profile)?),
         Format::Json => print_verdict_object(alloc, out, name, verdict, options.profile, status),
     }
 }
@@ -169,7 +169,7 @@ fn tell_unread<O: Sink>(
     ensures faults { IfErr result (IsFaultOfTelling options) }
 {
     match options.format {
-        Format::Lines => Ok(writeln!(out, "{name}: fault: {fault}")?),
+        Format::Lines | Format::Causes => Ok(writeln!(out, "{name}: fault: {fault}")?),
         Format::Json => print_fault_object(alloc, out, name, fault, options.profile),
     }
 }

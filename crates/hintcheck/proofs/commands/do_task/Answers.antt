@@ -4,6 +4,7 @@ use Rattle.std.specs.Io.KnownBytes.{Appends}
 use Rattle.std.proofs.lemmas.Result.{IfErr-weaker, IfOk-weaker, on_ok_weaker}
 use Rattle.hintcheck_words.specs.Requests.{asked}
 use Rattle.hintcheck_words.specs.declared.words.Detail.{Detail}
+use Rattle.hintcheck_words.specs.declared.words.Format.{Format}
 use Rattle.hintcheck_words.specs.declared.words.Profile.{Profile}
 use Rattle.hintcheck_words.specs.declared.words.ScanOptions.{ScanOptions}
 use Rattle.hintcheck_words.specs.declared.words.Task.{Task}
@@ -15,13 +16,13 @@ use Rattle.hintcheck.proofs.PrintedLemmas.{prints_for_verdict, prints_upgrade, p
 use Rattle.hintcheck.proofs.ScanFaults.{passed_no_scan, printing_no_scan, task_no_scan, verdict_no_scan}
 use Rattle.hintcheck.proofs.commands.do_task.Goals as goal
 
-for_verdict : (t : Task) → ((fonts : Vec (String Global) Global) (options : ScanOptions) → t ≡ task.Scan fonts options → ⊥) → ((font program : String Global) (offset budget : Option ℕ) (profile : Profile) → t ≡ task.Explain font program offset budget profile → ⊥)
+for_verdict : (t : Task) → ((fonts : Vec (String Global) Global) (options : ScanOptions) (expected : Option (String Global)) → t ≡ task.Scan fonts options expected → ⊥) → ((font : String Global) (program : Option (String Global)) (offset budget : Option ℕ) (profile : Profile) (format : Format) → t ≡ task.Explain font program offset budget profile format → ⊥)
     → ((font program : String Global) (detail : Detail) → t ≡ task.List font program detail → ⊥) → ((old new : String Global) → t ≡ task.Upgrade old new → ⊥) → IsForVerdict (asked t)
 unfolding asked
-for_verdict (task.Bare maxp cvt points contours program profile) scan explain other another = tt
+for_verdict (task.Bare maxp cvt points contours program budget profile) scan explain other another = tt
 for_verdict (task.Verdict font budget profile) scan explain other another = tt
-for_verdict (task.Scan fonts options) scan explain other another = absurd (scan fonts options refl)
-for_verdict (task.Explain font program offset budget profile) scan explain other another = absurd (explain font program offset budget profile refl)
+for_verdict (task.Scan fonts options expected) scan explain other another = absurd (scan fonts options expected refl)
+for_verdict (task.Explain font program offset budget profile format) scan explain other another = absurd (explain font program offset budget profile format refl)
 for_verdict (task.Find font certificate budget) scan explain other another = tt
 for_verdict (task.Check font certificate budget) scan explain other another = tt
 for_verdict (task.List font program detail) scan explain other another = absurd (other font program detail refl)
@@ -58,12 +59,12 @@ returns-in-Scan-clause-none g c = on_ok_weaker c.scan_fonts.result (λ none. rw 
 pub returns-in-Explain-clause-safe : goal.returns-in-Explain-clause-safe
 unfolding asked
 returns-in-Explain-clause-safe g c =
-    IfOk-weaker c.explain_of_file.result _ _ (λ status accepted zero. rw c.in-Explain.is (rw (← c.deref-in-Explain-2.ensures) (accepted zero))) c.explain_of_file.ensures.accepted
+    IfOk-weaker c.explain_of_file.result _ _ (λ status accepted zero. rw c.in-Explain.is (rw (← c.word_or_empty-word.ensures) (accepted zero))) c.explain_of_file.ensures.accepted
 
 pub returns-in-Explain-clause-refused : goal.returns-in-Explain-clause-refused
 unfolding asked
 returns-in-Explain-clause-refused g c =
-    IfOk-weaker c.explain_of_file.result _ _ (λ status refused one. rw c.in-Explain.is (rw (← c.deref-in-Explain-2.ensures) (refused one))) c.explain_of_file.ensures.refused
+    IfOk-weaker c.explain_of_file.result _ _ (λ status refused one. rw c.in-Explain.is (rw (← c.word_or_empty-word.ensures) (refused one))) c.explain_of_file.ensures.refused
 
 pub returns-in-Explain-clause-printed : goal.returns-in-Explain-clause-printed
 unfolding asked
@@ -72,7 +73,7 @@ returns-in-Explain-clause-printed g c = IfOk-weaker c.explain_of_file.result _ _
 pub returns-in-Explain-clause-faults : goal.returns-in-Explain-clause-faults
 unfolding asked
 returns-in-Explain-clause-faults g c =
-    IfErr-weaker c.explain_of_file.result _ _ (λ told is. inl (rw c.in-Explain.is (rw (← c.deref-in-Explain-2.ensures) is))) c.explain_of_file.ensures.faults
+    IfErr-weaker c.explain_of_file.result _ _ (λ told is. inl (rw c.in-Explain.is (rw (← c.word_or_empty-word.ensures) is))) c.explain_of_file.ensures.faults
 
 pub returns-in-Explain-clause-scanned : goal.returns-in-Explain-clause-scanned
 unfolding asked
@@ -82,7 +83,7 @@ returns-in-Explain-clause-scanned g c =
 pub returns-in-Explain-clause-none : goal.returns-in-Explain-clause-none
 unfolding asked
 returns-in-Explain-clause-none g c =
-    on_ok_weaker c.explain_of_file.result (λ none. rw c.in-Explain.is (rw (← c.deref-in-Explain-2.ensures) none)) c.explain_of_file.ensures.none
+    on_ok_weaker c.explain_of_file.result (λ none. rw c.in-Explain.is (rw (← c.word_or_empty-word.ensures) none)) c.explain_of_file.ensures.none
 
 pub returns-in-List-clause-safe : goal.returns-in-List-clause-safe
 unfolding asked

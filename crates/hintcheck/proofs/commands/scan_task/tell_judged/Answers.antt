@@ -1,9 +1,13 @@
+use Rattle.std.proofs.Common.{inl, inr}
 use Rattle.std.proofs.lemmas.Result.{IfErr-weaker, on_ok_weaker}
 use Rattle.hintcheck.proofs.TellingFaults.{lines_told}
 use Rattle.hintcheck.proofs.commands.scan_task.tell_judged.Goals as goal
 
 pub returns-in_ok-print_line-in-Lines-clause-written : goal.returns-in_ok-print_line-in-Lines-clause-written
-returns-in_ok-print_line-in-Lines-clause-written g c = rw c.in-Lines.is c.in_ok-print_line-in-Lines.ensures.written
+returns-in_ok-print_line-in-Lines-clause-written g c = elim c.in-Lines.is [
+  | inl is ↦ rw is c.in_ok-print_line-in-Lines.ensures.written
+  | inr is ↦ rw is c.in_ok-print_line-in-Lines.ensures.written
+]
 
 pub returns-in-Json-clause-written : goal.returns-in-Json-clause-written
 returns-in-Json-clause-written g c =

@@ -1,3 +1,4 @@
+use Rattle.std.proofs.Common.{inl, inr}
 use Rattle.std.proofs.lemmas.Result.{IfErr-weaker, on_ok_weaker}
 use Rattle.hintcheck.proofs.ScannedLines.{fault_line}
 use Rattle.hintcheck.proofs.TellingFaults.{lines_told}
@@ -6,7 +7,8 @@ use Rattle.hintcheck.proofs.commands.scan_task.tell_unread.Goals as goal
 pub returns-in_ok-writeln-in-Lines-clause-written : goal.returns-in_ok-writeln-in-Lines-clause-written
 returns-in_ok-writeln-in-Lines-clause-written g c =
     let contents = g.O.Sink.contents in
-    rw c.in-Lines.is (fault_line c.args.options.profile c.args.name.now c.args.fault.now (contents c.args.out.now) (contents c.writeln.new.self) c.requires c.in_ok-writeln-in-Lines.ensures.written)
+    let written = fault_line c.args.options.profile c.args.name.now c.args.fault.now (contents c.args.out.now) (contents c.writeln.new.self) c.requires c.in_ok-writeln-in-Lines.ensures.written in
+    elim c.in-Lines.is [ inl is ↦ rw is written | inr is ↦ rw is written ]
 
 pub returns-in-Json-clause-written : goal.returns-in-Json-clause-written
 returns-in-Json-clause-written g c =
