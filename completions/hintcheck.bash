@@ -11,7 +11,7 @@ _hintcheck() {
         verdict) options='--symbolic --points --json --help' ;;
         scan) options='--symbolic --points --fail-on --json --help' ;;
         find | check) options='--points --help' ;;
-        explain) options='--symbolic --points --help' ;;
+        explain) options='--symbolic --points --json --help' ;;
         bare) options='--symbolic --help' ;;
         list) options='--numbers --help' ;;
     esac

@@ -16,6 +16,6 @@ complete -c hintcheck -n "__fish_seen_subcommand_from verdict scan explain bare"
 complete -c hintcheck -n "__fish_seen_subcommand_from verdict scan explain find check" -l points -x -d 'How many points may be made'
 complete -c hintcheck -n "__fish_seen_subcommand_from scan" -l fail-on -x -a possible -d 'For which refused programs the status is 1'
 complete -c hintcheck -n "__fish_seen_subcommand_from list" -l numbers -d 'List the numbers that instructions push'
-complete -c hintcheck -n "__fish_seen_subcommand_from verdict scan" -l json -d 'Print an object of JSON for each font'
+complete -c hintcheck -n "__fish_seen_subcommand_from verdict scan explain" -l json -d 'Print an object of JSON'
 complete -c hintcheck -n "__fish_seen_subcommand_from verdict scan explain find check list upgrade" -F
 complete -c hintcheck -n "__fish_seen_subcommand_from help" -a "$commands"
