@@ -414,9 +414,9 @@ fn expect_option<'a>(alloc: Global) -> Arg<'a>
     ensures rule { rule_of result ≡ expect_rule }
     ensures local { result.global ≡ false }
 {
-    Arg::new(alloc, "FILE")
-        .long("expect")
-        .help("The name of a file that lists known refusals: only others count")
+    Arg::new(alloc, "FILE").long("expect").help(
+        "The name of a file that lists known refusals: only others count",
+    )
 }
 
 /// Makes the option `--causes`.
