@@ -119,7 +119,8 @@ fn tell_next<O: Sink>(
 
 /// Returns the exit status of a program that was explained.
 pub(crate) fn exit_status(explained: Explained) -> u8
-    ensures { result ≡ status_of_explained explained }
+    ensures status { result ≡ status_of_explained explained }
+    ensures few { result ≤ 1 }
 {
     match explained {
         Explained::Accepted => 0,
