@@ -6,8 +6,11 @@ use Rattle.hintcheck_words.specs.declared.words.Format.TheVariants.{Lines, Json,
 use Rattle.hintcheck_words.specs.declared.words.Profile.{Profile}
 use Rattle.hintcheck.specs.CommandFaults.{HasObject, IsFaultOfExplainingAs, IsFaultOfFileExplaining, IsFaultOfFontFile, IsFaultOfLines, IsFaultOfObject, IsUnexplained, IsWithin}
 use Rattle.hintcheck.specs.Commands.{IsNoWriteFault, TellsFailure, status_of}
-use Rattle.hintcheck.specs.JsonObjects.{unread_object}
-use Rattle.hintcheck.specs.Printed.{PrintsExplanation, PrintsExplanationAs, unexplained}
+use Rattle.hintcheck.specs.JsonObjects.{explanation_object, unread_object}
+use Rattle.hintcheck.specs.Explanations.{status_of_explained}
+use Rattle.hintcheck.specs.MeansSafe.{HoldExplainedBy}
+use Rattle.hintcheck_explain.specs.declared.asked.Explained.{Explained}
+use Rattle.hintcheck.specs.Printed.{PrintsExplanation, PrintsExplanationAs, explained, unexplained}
 use Rattle.hintcheck.specs.Representation.ToldFaults.{fault_in_memory, is_of_font_file}
 use Rattle.hintcheck.specs.Scans.{IsOfScan}
 use Rattle.hintcheck.specs.declared.commands.faults.CommandFault.{CommandFault}
@@ -79,6 +82,12 @@ pub told_printed : (font word : List ℕ) (offset budget : Option ℕ) (profile 
     → Appends old new (unread_object font profile f) → PrintsExplanation font word offset budget profile (status_of told) old new
 told_printed font word offset budget profile f told old new un same written =
     subst (λ (n : ℕ). PrintsExplanation font word offset budget profile n old new) (sym same) (unexplained f old new un written)
+
+-- an object tells what is answered
+pub explained_printed : (font word : List ℕ) (offset budget : Option ℕ) (profile : Profile) (bytes text : List ℕ) (e : Explained) (status : ℕ) (old new : Option (List ℕ)) → HoldExplainedBy profile bytes word e
+    → status ≡ status_of_explained e → Appends old new (explanation_object font profile word e text) → PrintsExplanation font word offset budget profile status old new
+explained_printed font word offset budget profile bytes text e status old new holds is written =
+    subst (λ (n : ℕ). PrintsExplanation font word offset budget profile n old new) (sym is) (explained bytes text e old new holds written)
 
 -- a fault of explaining, or of an object that isn't printed, isn't told in an object
 pub explaining_untold : (word : List ℕ) (offset : Option ℕ) (f : CommandFault) → IsFaultOfFileExplaining word offset f → IsOfScan f → ⊥

@@ -4,6 +4,7 @@ use Rattle.std.proofs.lemmas.List.Folds.{flat_map-map}
 use Rattle.std.specs.Prelude.{flat_map}
 use Rattle.std.specs.Str.Lines.{lines}
 use Rattle.hintcheck_explain.specs.declared.asked.Explained.{Explained}
+use Rattle.hintcheck_explain.specs.declared.asked.Explained.TheVariants as explained
 use Rattle.hintcheck.specs.Explanations.{status_of_explained}
 use Rattle.std.specs.Fmt.{decimal}
 use Rattle.std.specs.Io.KnownBytes.{Appends}
@@ -70,3 +71,13 @@ pub explanation_written : (name : List ℕ) (profile : Profile) (status : ℕ) (
 explanation_written name profile status word e text o p q r s status_is first second third fourth =
     let start = subst (λ n. Appends o p (beginning name profile n)) status_is first in
     appends_both o p s _ _ start (appends_three p q r s _ _ _ second third fourth)
+
+-- how a program is refused, if it is refused so
+pub refusal_written : (e : Explained) (r : Refused) (o p q s : Option (List ℕ)) → e ≡ explained.Refused r → Appends o p (codes "\"refused\":") → Appends p q (refused_object r) → Appends q s (codes ",")
+    → Appends o s (refusal_member e)
+refusal_written e r o p q s is first second third = subst (λ (x : Explained). Appends o s (refusal_member x)) (sym is) (appends_three o p q s _ _ _ first second third)
+
+-- the lines of a text
+pub lines_written : (text : List ℕ) (texts : List (Bor (List ℕ))) (o p q r : Option (List ℕ)) → map (λ (line : Bor (List ℕ)). line.now) texts ≡ lines text → Appends o p (codes "\"lines\":[")
+    → Appends p q (strings (map (λ (line : Bor (List ℕ)). line.now) texts)) → Appends q r (codes "]}\n") → Appends o r (lines_member (lines text))
+lines_written text texts o p q r are first second third = appends_three o p q r _ _ _ first (subst (λ (ls : List (List ℕ)). Appends p q (strings ls)) are second) third
