@@ -11,3 +11,4 @@ pub mod ProgramsBefore
 pub mod TellingFaults
 pub mod WrittenObjects
 pub mod CertificateFaults
+pub mod ObjectFaults

@@ -1,4 +1,4 @@
--- Only a scan has a fault that comes after the last line.
+-- Only a scan, or an explanation, has a fault that is told in what is printed.
 use Rattle.std.proofs.Common.{◌≡◌, inl, inr, IfErr, IsErrAnd, Result, Ok, Err, subst}
 use Rattle.hintcheck_words.specs.Requests.{Request, bare, check, explain, find, list, scan, upgrade, verdict}
 use Rattle.hintcheck.specs.CommandFaults.{IsFaultOfPrinting, IsFaultOfRequest, IsFaultOfTask}
@@ -7,16 +7,17 @@ use Rattle.hintcheck.specs.Scans.{IsOfScan}
 use Rattle.hintcheck.specs.declared.commands.faults.CommandFault.{CommandFault}
 use Rattle.hintcheck.specs.declared.commands.faults.CommandFault.TheVariants as fault
 
--- no scan is asked for
+-- neither a scan nor an explanation in an object is asked for
 abbrev pub IsNoScan : Request → Type 0
 IsNoScan (scan fonts options expected) = ⊥
+IsNoScan (explain font program offset budget profile format) = ⊥
 IsNoScan other = Unit {0}
 
 fault_of_scan : (q : Request) → IsNoScan q → IsFaultOfRequest q fault.ScanFault → ⊥
 fault_of_scan (bare maxp cvt points contours program budget profile) no_scan is = is.0
 fault_of_scan (verdict font budget profile) no_scan is = is.0
 fault_of_scan (scan fonts options expected) no_scan is = no_scan
-fault_of_scan (explain font program offset budget profile format) no_scan is = elim is.0 [ inl reading ↦ reading | inr some ↦ some.1.1 ]
+fault_of_scan (explain font program offset budget profile format) no_scan is = no_scan
 fault_of_scan (find font certificate budget) no_scan is = elim is.0 [ inl e ↦ cc | inr other ↦ other.1 ]
 fault_of_scan (check font certificate budget) no_scan is = is.0
 fault_of_scan (list font program detail) no_scan is = elim is [ inl reading ↦ reading | inr some ↦ some.1 ]
@@ -26,7 +27,7 @@ unfinished_scan : (q : Request) → IsNoScan q → IsFaultOfRequest q fault.Scan
 unfinished_scan (bare maxp cvt points contours program budget profile) no_scan is = is.0
 unfinished_scan (verdict font budget profile) no_scan is = is.0
 unfinished_scan (scan fonts options expected) no_scan is = no_scan
-unfinished_scan (explain font program offset budget profile format) no_scan is = elim is.0 [ inl reading ↦ reading | inr some ↦ some.1.1 ]
+unfinished_scan (explain font program offset budget profile format) no_scan is = no_scan
 unfinished_scan (find font certificate budget) no_scan is = elim is.0 [ inl e ↦ cc | inr other ↦ other.1 ]
 unfinished_scan (check font certificate budget) no_scan is = is.0
 unfinished_scan (list font program detail) no_scan is = elim is [ inl reading ↦ reading | inr some ↦ some.1 ]
@@ -51,7 +52,7 @@ pub verdict_no_scan : (q : Request) → IsForVerdict q → IsNoScan q
 verdict_no_scan (bare maxp cvt points contours program budget profile) is = tt
 verdict_no_scan (verdict font budget profile) is = tt
 verdict_no_scan (scan fonts options expected) is = is
-verdict_no_scan (explain font program offset budget profile format) is = tt
+verdict_no_scan (explain font program offset budget profile format) is = is
 verdict_no_scan (find font certificate budget) is = tt
 verdict_no_scan (check font certificate budget) is = tt
 verdict_no_scan (list font program detail) is = tt

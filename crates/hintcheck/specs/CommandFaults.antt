@@ -6,6 +6,7 @@ use Rattle.tt_font.specs.declared.fault.FontFault.TheVariants.{OutOfMemory}
 use Rattle.hintcheck_words.specs.HexWords.{IsHexWord, Spells}
 use Rattle.hintcheck_words.specs.Requests.{Request, bare, check, explain, find, is_taken, list, meaning, scan, upgrade, verdict}
 use Rattle.hintcheck_words.specs.declared.words.FailOn.TheVariants.{Unknown}
+use Rattle.hintcheck_words.specs.declared.words.Format.{Format}
 use Rattle.hintcheck_words.specs.declared.words.Format.TheVariants.{Json}
 use Rattle.hintcheck_words.specs.declared.words.ScanOptions.{ScanOptions}
 use Rattle.hintcheck.specs.Commands.{ReadsToEnd, status_of}
@@ -220,6 +221,41 @@ IsFaultOfFileExplaining word offset reported =
     IsFaultOfReading reported
     ⊎ ((bytes : List ℕ) × IsFaultOfExplaining bytes word offset reported)
 
+-- Why no program with this name of a font file is explained within this budget, if there is one.
+pub record IsUnexplained (word : List ℕ) (offset budget : Option ℕ) (reported : CommandFault)
+    : Type 0 where
+  pub of_file : IsFaultOfFontFile reported
+  pub why : IsFaultOfFileExplaining word offset reported
+  pub within : IsWithin budget reported
+
+-- there is an object to be printed: that of an explanation, or of a font file's fault
+abbrev pub HasObject : List ℕ → Option ℕ → Option ℕ → Type 0
+HasObject word offset budget = ((bytes : List ℕ) × HoldPlace bytes word offset)
+    ⊎ ((reported : CommandFault) × IsUnexplained word offset budget reported)
+
+-- Why the program with this name of a font file isn't explained by an object: there is no such
+-- program, or no such place in it; memory ran out; the object isn't printed; or it tells a font
+-- file's fault, which gives the same exit status.
+abbrev pub IsFaultOfObject : List ℕ → Option ℕ → Option ℕ → CommandFault → Type 0
+IsFaultOfObject word offset budget fault.ProgramName =
+    (bytes : List ℕ) × HoldNoSuchProgram bytes word
+IsFaultOfObject word offset budget (fault.OffsetWord told) =
+    (bytes : List ℕ) × HoldNoSuchPlace bytes word offset told
+IsFaultOfObject word offset budget fault.OutOfMemory = Unit {0}
+IsFaultOfObject word offset budget fault.ScanFault = (reported : CommandFault)
+    × IsUnexplained word offset budget reported × (status_of reported ≡ 2)
+IsFaultOfObject word offset budget fault.ScanUnfinished = (reported : CommandFault)
+    × IsUnexplained word offset budget reported × (status_of reported ≡ 3)
+IsFaultOfObject word offset budget other =
+    HasObject word offset budget × IsFaultOfPrinting other
+
+-- why the program with this name of a font file isn't explained in this form
+abbrev pub IsFaultOfExplainingAs : Format → List ℕ → Option ℕ → Option ℕ → CommandFault → Type 0
+IsFaultOfExplainingAs Json word offset budget reported =
+    IsFaultOfObject word offset budget reported
+IsFaultOfExplainingAs other word offset budget reported =
+    IsFaultOfFileExplaining word offset reported × IsWithin budget reported
+
 -- Why what is asked for isn't answered.
 abbrev pub IsFaultOfRequest : Request → CommandFault → Type 0
 IsFaultOfRequest (bare maxp cvt points contours program budget profile) reported =
@@ -228,7 +264,7 @@ IsFaultOfRequest (verdict font budget profile) reported =
     IsFaultOfFontFile reported × IsWithin budget reported
 IsFaultOfRequest (scan fonts options expected) reported = IsFaultOfScan options reported
 IsFaultOfRequest (explain font program offset budget profile format) reported =
-    IsFaultOfFileExplaining (unwrap_or program []) offset reported × IsWithin budget reported
+    IsFaultOfExplainingAs format (unwrap_or program []) offset budget reported
 IsFaultOfRequest (find font certificate budget) reported =
     IsFaultOfFinding font certificate reported × IsWithin budget reported
 IsFaultOfRequest (check font certificate budget) reported =

@@ -12,13 +12,14 @@ use Rattle.hintcheck_words.specs.Requests.{Request, bare, check, explain, find, 
 use Rattle.hintcheck.specs.CommandFaults.{IsFaultOfFontFile, MeansNoFault, TellsFault}
 use Rattle.hintcheck.specs.Commands.{status_of}
 use Rattle.hintcheck.specs.declared.commands.faults.CommandFault.{CommandFault}
+use Rattle.hintcheck_explain.specs.declared.asked.Explained.{Explained}
 use Rattle.hintcheck_fonts.specs.BarePrograms.{bare_font, bare_subject}
-use Rattle.hintcheck.specs.Explanations.{HoldAcceptedProgram, HoldRefusedProgram}
+use Rattle.hintcheck.specs.Explanations.{HoldAcceptedProgram, HoldExplained, HoldRefusedProgram}
 use Rattle.hintcheck_fonts.specs.FontPrograms.{IsSafeFont, IsSafeGlyph}
 use Rattle.hintcheck.specs.Listing.{HoldUnlistedProgram}
 use Rattle.hintcheck_fonts.specs.Programs.{HasGoodFamily, IsRefusal}
 use Rattle.hintcheck.specs.RefusalClasses.{number_of_class}
-use Rattle.hintcheck.specs.SymbolicExplanations.{HoldSymbolicAcceptedProgram, HoldSymbolicRefusedProgram}
+use Rattle.hintcheck.specs.SymbolicExplanations.{HoldSymbolicAcceptedProgram, HoldSymbolicExplained, HoldSymbolicRefusedProgram}
 use Rattle.hintcheck.specs.SymbolicAnswers.{SpellGlyph, SpellSymbolicSafeGlyph, SpellSymbolicVerdict}
 use Rattle.hintcheck_fonts.specs.FontAnswers.{HoldRefusedFont, HoldSafeFont, HoldSymbolicRefusedFont, HoldSymbolicSafeFont, IsSymbolicVerdictOn, IsVerdictOn}
 use Rattle.hintcheck_fonts.specs.Verdicts.{Judgement}
@@ -50,6 +51,12 @@ HoldSafeBy Symbolic bytes = HoldSymbolicSafeFont bytes
 abbrev pub HoldAcceptedBy : Profile → List ℕ → List ℕ → Type 0
 HoldAcceptedBy Strict bytes word = HoldAcceptedProgram bytes word
 HoldAcceptedBy Symbolic bytes word = HoldSymbolicAcceptedProgram bytes word
+
+-- the bytes hold a font, and the word is the name of a program of it, of which this is answered by
+-- this profile
+abbrev pub HoldExplainedBy : Profile → List ℕ → List ℕ → Explained → Type 0
+HoldExplainedBy Strict bytes word e = HoldExplained bytes word e
+HoldExplainedBy Symbolic bytes word e = HoldSymbolicExplained bytes word e
 
 -- the verdict is that of this profile on the font that is in the bytes
 abbrev pub IsVerdictBy : Profile → List ℕ → Judgement → Type 0

@@ -130,7 +130,8 @@ pub record PrintsScan (options : ScanOptions) (names : List (List ℕ)) (status 
   pub greatest : status ≡ greatest_status options.fail_on scanned
   pub written : Appends old new (flat_map (text_of options) scanned)
 
--- the fault is a scan's, which comes after the last line
+-- the fault is told in what is printed: a scan's, which comes after the last line, or that of an
+-- explanation's object
 abbrev pub IsOfScan : CommandFault → Type 0
 IsOfScan fault.ScanFault = Unit {0}
 IsOfScan fault.ScanUnfinished = Unit {0}

@@ -11,6 +11,8 @@ ghost use Rattle.hintcheck.specs.Scans.{IsOfScan};
 
 mod bare_task;
 mod check_task;
+mod explain_lines;
+mod explain_object;
 mod explain_task;
 pub mod faults;
 mod files;
@@ -141,10 +143,10 @@ fn do_task<R: Files + AllocGlobal, O: Sink, E: Sink>(
             offset,
             budget,
             profile,
-            ..
+            format,
         } => {
             let word = word_or_empty(program);
-            explain_of_file(rt, font, word, *offset, *budget, *profile, out)
+            explain_of_file(rt, font, word, *offset, *budget, *profile, *format, out)
         }
         Task::List {
             font,
@@ -167,7 +169,7 @@ fn do_task<R: Files + AllocGlobal, O: Sink, E: Sink>(
 /// names no program of the font; `OffsetWord` for an offset at which none of the program's
 /// instructions begins; `ClassWord` where a scan is to fail for reasons of a class that doesn't
 /// exist; `ScanFault` and `ScanUnfinished` where a font of a scan has a fault, which its line
-/// tells; `Budget` where more points were to be made than `--points` allows; `CertificateWord`
+/// tells, or one of which a program was to be explained, which the object tells; `Budget` where more points were to be made than `--points` allows; `CertificateWord`
 /// where a font's file is to be its certificate's; `NewWord` where an old certificate's file is to
 /// be the new one's; `Font` for the first fault of the font or of `bare`'s `maxp`, which may be
 /// that memory ran out; `Form`, `Read`, `File` and `OutOfMemory`.
@@ -184,12 +186,13 @@ pub fn try_command<R: Files + AllocGlobal, O: Sink, E: Sink>(
     ensures refused { IfOk result
         (λ status. status ≡ 1 → MeansRefused (map (λ w. w.now) words.entry.now)) }
     // What is printed is the answer: a verdict, a line for each font file of a scan, the lines of a
-    // program, or how many sections were upgraded. Those of an explanation are left unspecified.
+    // program, how many sections were upgraded, or the object of an explanation. The lines of an
+    // explanation are left unspecified.
     ensures printed { IfOk result (λ status. is_taken (map (λ w. w.now) words.entry.now) ≡ true
         → MeansPrinted (map (λ w. w.now) words.entry.now) status
         (O.contents out.old) (O.contents out.new)) }
     // Where a font file of a scan has a fault, the lines of all its files are printed before the
-    // fault is returned.
+    // fault is returned; and the object that tells a fault in place of an explanation.
     ensures scanned { IfErr result (λ fault. IsOfScan fault
         → MeansPrinted (map (λ w. w.now) words.entry.now) (status_of fault)
         (O.contents out.old) (O.contents out.new)) }
@@ -239,7 +242,8 @@ pub fn command<R: Files + AllocGlobal, O: Sink, E: Sink>(
     // Where the status is 2 or 3, a fault of the words gives it; otherwise they have none where the
     // command line takes them.
     ensures told { 2 ≤ result → TellsFault (map (λ w. w.now) words.entry.now) result }
-    // If that is the fault of a font file of a scan, the lines of all its files are printed.
+    // If that is the fault of a font file of a scan, the lines of all its files are printed; and
+    // likewise the object that tells a fault in place of an explanation.
     ensures scanned { 2 ≤ result → TellsScanned (map (λ w. w.now) words.entry.now) result
         (O.contents out.old) (O.contents out.new) }
     ensures none { result ≤ 1 → is_taken (map (λ w. w.now) words.entry.now) ≡ true

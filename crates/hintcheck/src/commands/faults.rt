@@ -3,6 +3,8 @@
 ghost use Rattle.std.specs.Prelude.{◌≡◌, ◌≤◌};
 ghost use Rattle.hintcheck.specs.Commands.{IsNoWriteFault, fault_of_word, status_of};
 ghost use Rattle.hintcheck.specs.Containers.{container_beside, container_of};
+ghost use Rattle.hintcheck.specs.Representation.ToldFaults.{is_of_font_file};
+ghost use Rattle.hintcheck.specs.Scans.{IsOfScan};
 
 use crate::neighbours::Neighbours;
 use hintcheck_explain::ExplainFault;
@@ -377,6 +379,32 @@ impl CommandFault {
         match fault {
             WordFault::BadWord => bad,
             WordFault::OutOfMemory(AllocError) => CommandFault::OutOfMemory,
+        }
+    }
+
+    /// Whether the fault is of a kind that a font file has.
+    pub(super) fn is_of_font_file(&self) -> bool
+        ensures { result ≡ is_of_font_file self.now }
+    {
+        matches!(
+            self,
+            CommandFault::Font(_)
+                | CommandFault::Unopened(_)
+                | CommandFault::Read
+                | CommandFault::OutOfMemory
+                | CommandFault::Budget
+        )
+    }
+
+    /// Returns the fault that stands for this one once it is told in what is printed: its exit
+    /// status is the same.
+    pub(super) fn told(&self) -> CommandFault
+        ensures of_scan { IsOfScan result }
+        ensures status { status_of result ≡ status_of self.now }
+    {
+        match self.status() {
+            UNREADABLE => CommandFault::ScanFault,
+            _ => CommandFault::ScanUnfinished,
         }
     }
 

@@ -68,7 +68,8 @@ returns-in-Explain-clause-refused g c =
 
 pub returns-in-Explain-clause-printed : goal.returns-in-Explain-clause-printed
 unfolding asked
-returns-in-Explain-clause-printed g c = IfOk-weaker c.explain_of_file.result _ _ (λ status few. rw c.in-Explain.is tt) c.explain_of_file.ensures.status
+returns-in-Explain-clause-printed g c =
+    IfOk-weaker c.explain_of_file.result _ _ (λ status printed. rw c.in-Explain.is (rw (← c.word_or_empty-word.ensures) printed)) c.explain_of_file.ensures.printed
 
 pub returns-in-Explain-clause-faults : goal.returns-in-Explain-clause-faults
 unfolding asked
@@ -78,7 +79,7 @@ returns-in-Explain-clause-faults g c =
 pub returns-in-Explain-clause-scanned : goal.returns-in-Explain-clause-scanned
 unfolding asked
 returns-in-Explain-clause-scanned g c =
-    IfErr-weaker c.explain_of_file.result _ _ (λ told is of. absurd (task_no_scan (asked c.args.task.now) told (rw c.in-Explain.is tt) is of)) (returns-in-Explain-clause-faults g c)
+    IfErr-weaker c.explain_of_file.result _ _ (λ told scanned of. rw c.in-Explain.is (rw (← c.word_or_empty-word.ensures) (scanned of))) c.explain_of_file.ensures.told
 
 pub returns-in-Explain-clause-none : goal.returns-in-Explain-clause-none
 unfolding asked

@@ -1,4 +1,5 @@
 use Rattle.std.proofs.lemmas.Result.{IfOk-weaker}
+use Rattle.hintcheck.proofs.ExplanationLemmas.{word_told}
 use Rattle.hintcheck.proofs.NameLemmas.{named_few}
 use Rattle.hintcheck.proofs.PlaceLemmas.{place_in}
 use Rattle.hintcheck.proofs.explanation.explain_word.Goals as goal
@@ -10,14 +11,8 @@ pub explain_named-requires-clause-place : goal.explain_named-requires-clause-pla
 explain_named-requires-clause-place g c =
     place_in c.in_ok-read.read c.in-Some.named.name c.in-Some.named.bytes.now c.args.offset c.in-Some.ensures.program c.in_ok-check_offset-in-Some.ensures.begins
 
-pub returns-in-Some-clause-accepted : goal.returns-in-Some-clause-accepted
-returns-in-Some-clause-accepted g c =
+pub returns-in-Some-clause-answered : goal.returns-in-Some-clause-answered
+returns-in-Some-clause-answered g c =
     IfOk-weaker c.explain_named.result _ _
-    (λ status tells zero. record { font = c.in_ok-read.read; reads = c.in_ok-read.ensures.reads; name = c.in-Some.named.name; text = c.in-Some.ensures.text; accepted = tells.accepted zero })
-    c.explain_named.ensures.tells
-
-pub returns-in-Some-clause-refused : goal.returns-in-Some-clause-refused
-returns-in-Some-clause-refused g c =
-    IfOk-weaker c.explain_named.result _ _
-    (λ status tells one. record { font = c.in_ok-read.read; reads = c.in_ok-read.ensures.reads; name = c.in-Some.named.name; text = c.in-Some.ensures.text; refused = tells.refused one })
+    (λ e tells. word_told c.args.font.now c.args.word.now c.in_ok-read.read c.in-Some.named.name e c.in_ok-read.ensures.reads c.in-Some.ensures.text tells)
     c.explain_named.ensures.tells
