@@ -10,4 +10,6 @@ pub mod ExplanationLemmas
 pub mod ProgramsBefore
 pub mod TellingFaults
 pub mod WrittenObjects
+pub mod CauseLemmas
 pub mod CertificateFaults
+pub mod ToldCauses

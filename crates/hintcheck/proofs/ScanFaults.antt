@@ -1,5 +1,5 @@
 -- Only a scan has a fault that comes after the last line.
-use Rattle.std.proofs.Common.{◌≡◌, inl, inr, IfErr, IsErrAnd, Result, Ok, Err, subst}
+use Rattle.std.proofs.Common.{◌≡◌, inl, inr, IfErr, IsErrAnd, None, Result, Ok, Some, Err, subst}
 use Rattle.hintcheck_words.specs.Requests.{Request, bare, check, explain, find, list, scan, upgrade, verdict}
 use Rattle.hintcheck.specs.CommandFaults.{IsFaultOfPrinting, IsFaultOfRequest, IsFaultOfTask}
 use Rattle.hintcheck.specs.Commands.{IsForVerdict}
@@ -16,7 +16,8 @@ fault_of_scan : (q : Request) → IsNoScan q → IsFaultOfRequest q fault.ScanFa
 fault_of_scan (bare maxp cvt points contours program budget profile) no_scan is = is
 fault_of_scan (verdict font budget profile) no_scan is = is.0
 fault_of_scan (scan fonts options expected) no_scan is = no_scan
-fault_of_scan (explain font program offset budget profile format) no_scan is = elim is.0 [ inl reading ↦ reading | inr some ↦ some.1.1 ]
+fault_of_scan (explain font None offset budget profile format) no_scan is = is.0
+fault_of_scan (explain font (Some program) offset budget profile format) no_scan is = elim is.0 [ inl reading ↦ reading | inr some ↦ some.1.1 ]
 fault_of_scan (find font certificate budget) no_scan is = elim is.0 [ inl e ↦ cc | inr other ↦ other.1 ]
 fault_of_scan (check font certificate budget) no_scan is = is.0
 fault_of_scan (list font program detail) no_scan is = elim is [ inl reading ↦ reading | inr some ↦ some.1 ]
@@ -26,7 +27,8 @@ unfinished_scan : (q : Request) → IsNoScan q → IsFaultOfRequest q fault.Scan
 unfinished_scan (bare maxp cvt points contours program budget profile) no_scan is = is
 unfinished_scan (verdict font budget profile) no_scan is = is.0
 unfinished_scan (scan fonts options expected) no_scan is = no_scan
-unfinished_scan (explain font program offset budget profile format) no_scan is = elim is.0 [ inl reading ↦ reading | inr some ↦ some.1.1 ]
+unfinished_scan (explain font None offset budget profile format) no_scan is = is.0
+unfinished_scan (explain font (Some program) offset budget profile format) no_scan is = elim is.0 [ inl reading ↦ reading | inr some ↦ some.1.1 ]
 unfinished_scan (find font certificate budget) no_scan is = elim is.0 [ inl e ↦ cc | inr other ↦ other.1 ]
 unfinished_scan (check font certificate budget) no_scan is = is.0
 unfinished_scan (list font program detail) no_scan is = elim is [ inl reading ↦ reading | inr some ↦ some.1 ]

@@ -1,10 +1,11 @@
 -- What is printed for what the words of a command line ask for.
-use Rattle.std.specs.Prelude.{◌≡◌, ◌≢◌, ℕ, List, [], Option, Some}
+use Rattle.std.specs.Prelude.{◌≡◌, ◌≢◌, ℕ, List, [], None, Option, Some}
 use Rattle.std.specs.Io.KnownBytes.{Appends}
 use Rattle.hintcheck_words.specs.Requests.{Request, bare, check, explain, find, list, meaning, scan, upgrade, verdict}
 use Rattle.hintcheck_words.specs.declared.words.Detail.{Detail}
 use Rattle.hintcheck_words.specs.declared.words.Profile.{Profile}
 use Rattle.hintcheck_words.specs.declared.words.Profile.TheVariants.{Strict}
+use Rattle.hintcheck.specs.CauseAnswers.{PrintsCauses}
 use Rattle.hintcheck.specs.Commands.{status_of}
 use Rattle.hintcheck.specs.CommandFaults.{IsFaultOfWords}
 use Rattle.hintcheck.specs.Listing.{HoldListedProgram, HoldToldProgram}
@@ -45,14 +46,17 @@ abbrev pub PrintsUpgrade : Option (List ℕ) → Option (List ℕ) → Type 0
 PrintsUpgrade old new =
     (count : ℕ) × IsNumberOfPrograms count × Appends old new (upgraded_line count)
 
--- What was asked for is answered in these lines; those of `explain` are left unspecified.
+-- What was asked for is answered in these lines; those that explain one program are left
+-- unspecified.
 abbrev pub Prints : Request → ℕ → Option (List ℕ) → Option (List ℕ) → Type 0
 Prints (bare maxp cvt points contours program budget profile) status old new =
     PrintsVerdict (bare maxp cvt points contours program budget profile) status old new
 Prints (verdict font budget profile) status old new =
     PrintsVerdict (verdict font budget profile) status old new
 Prints (scan fonts options expected) status old new = PrintsScan options fonts status old new
-Prints (explain font program offset budget profile format) status old new = Unit {0}
+Prints (explain font None offset budget profile format) status old new =
+    PrintsCauses profile status old new
+Prints (explain font (Some program) offset budget profile format) status old new = Unit {0}
 Prints (find font certificate budget) status old new =
     PrintsVerdict (find font certificate budget) status old new
 Prints (check font certificate budget) status old new =

@@ -1,2 +1,3 @@
 -- What the code prints beside the answers: private contracts cite these, and no public one does.
+pub mod CauseLists
 pub mod ScanSummaries
