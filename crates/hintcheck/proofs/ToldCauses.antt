@@ -1,9 +1,11 @@
 -- What is printed of the causes of refusal, piece by piece.
-use Rattle.std.proofs.Common.{◌≡◌, ◌≢◌, ◌≤◌, ◌<◌, ◌+◌, ◌∙◌, ℕ, All, IfOk, List, [], ◌∷◌, ◌++◌, OnOk, Option, Result, Ok, Err, None, Some, ap, append_assoc, append-nil, arith, codes, length, map, refl, subst, sym, take}
+use Rattle.std.proofs.Common.{◌≡◌, ◌≢◌, ◌≤◌, ◌<◌, ◌+◌, ◌∙◌, ℕ, All, IfOk, List, [], ◌∷◌, ◌++◌, OnOk, Option, Result, Ok, Err, None, Some, ap, append_assoc, append-nil, arith, codes, inl, inr, length, map, min, refl, subst, sym, take}
 use Rattle.std.specs.Prelude.{find}
 use Rattle.std.specs.Fmt.{decimal}
 use Rattle.std.specs.Io.KnownBytes.{Appends}
 use Rattle.std.specs.List.{count_by, flat_map}
+use Rattle.std.proofs.lemmas.Bool.{cases_lt}
+use Rattle.std.proofs.lemmas.List.{take_all}
 use Rattle.std.proofs.lemmas.List.Elements.{All-head, All-nil, All-tail}
 use Rattle.tt_code.specs.Refusals.{class_of, number_of, reason_text}
 use Rattle.tt_cert.specs.declared.name.Name.{Name}
@@ -23,18 +25,32 @@ use Rattle.hintcheck.specs.declared.commands.faults.CommandFault.{CommandFault}
 use Rattle.hintcheck_fonts.specs.Verdicts.{Judgement}
 use Rattle.hintcheck_report.specs.declared.refused.Refused.{Refused}
 
+pieces : (a b c d e p f g h i j k l n m : List ℕ) → (a ++ (b ++ (c ++ (d ++ e)))) ++ (p ++ ((f ++ (g ++ (h ++ (i ++ (j ++ (k ++ l)))))) ++ (n ++ m))) ≡ a ++ (b ++ (c ++ (d ++ (e ++ (p ++ (f ++ (g ++ (h ++ (i ++ (j ++ (k ++ (l ++ (n ++ m)))))))))))))
+pieces a b c d e p f g h i j k l n m = simp append_assoc
+
 -- the line of a cause, by its pieces
-pub cause_written : (called : Option (List ℕ)) (first : Refused) (programs : List Name) (count number : ℕ) (word class : List ℕ) (o p q r s t : Option (List ℕ)) → count ≡ length programs → word ≡ programs_word count → number ≡ number_of first.reason
-    → class ≡ class_text (class_of first.reason) → Appends o p (codes "  " ++ (decimal count ++ (codes " " ++ (word ++ codes ": ")))) → Appends p q (shared_place_text first.place.program first.place)
-    → Appends q r (codes ": " ++ (decimal number ++ (codes " " ++ (reason_text first.reason ++ (codes " (" ++ (class ++ codes "): ")))))) → Appends r s (names_text called (take 5 programs)) → Appends s t (more_text count ++ codes "\n")
+pub cause_written : (called : Option (List ℕ)) (first : Refused) (programs shown : List Name) (count number : ℕ) (word class : List ℕ) (o p q r s t : Option (List ℕ)) → count ≡ length programs → word ≡ programs_word count → number ≡ number_of first.reason
+    → class ≡ class_text (class_of first.reason) → shown ≡ take 5 programs → Appends o p (codes "  " ++ (decimal count ++ (codes " " ++ (word ++ codes ": ")))) → Appends p q (shared_place_text first.place.program first.place)
+    → Appends q r (codes ": " ++ (decimal number ++ (codes " " ++ (reason_text first.reason ++ (codes " (" ++ (class ++ codes "): ")))))) → Appends r s (names_text called shown) → Appends s t (more_text count ++ codes "\n")
     → Appends o t (cause_text called first programs)
-cause_written called first programs count number word class o p q r s t count_is word_is number_is class_is a b c d e =
-    let head : List ℕ = codes "  " ++ (decimal count ++ (codes " " ++ (word ++ codes ": "))) in
-    let place : List ℕ = shared_place_text first.place.program first.place in
-    let why : List ℕ = codes ": " ++ (decimal number ++ (codes " " ++ (reason_text first.reason ++ (codes " (" ++ (class ++ codes "): "))))) in
-    let names : List ℕ = names_text called (take 5 programs) in
-    let text : head ++ (place ++ (why ++ (names ++ (more_text count ++ codes "\n")))) ≡ cause_text called first programs = rw (class_is, number_is, word_is, count_is) (simp append_assoc) in
-    subst (Appends o t) text (appends_both o p t _ _ a (appends_both p q t _ _ b (appends_both q r t _ _ c (appends_both r s t _ _ d e))))
+cause_written called first programs shown count number word class o p q r s t count_is word_is number_is class_is shown_is a b c d e =
+    let head : List ℕ → ℕ → List ℕ = λ w n. codes "  " ++ (decimal n ++ (codes " " ++ (w ++ codes ": "))) in
+    let why : List ℕ → ℕ → List ℕ = λ x n. codes ": " ++ (decimal n ++ (codes " " ++ (reason_text first.reason ++ (codes " (" ++ (x ++ codes "): "))))) in
+    let start : Appends o p (head (programs_word (length programs)) (length programs)) = subst (λ n. Appends o p (head (programs_word n) n)) count_is (subst (λ w. Appends o p (head w count)) word_is a) in
+    let middle : Appends q r (why (class_text (class_of first.reason)) (number_of first.reason)) = subst (λ n. Appends q r (why (class_text (class_of first.reason)) n)) number_is (subst (λ x. Appends q r (why x number)) class_is c) in
+    let named : Appends r s (names_text called (take 5 programs)) = subst (λ ns. Appends r s (names_text called ns)) shown_is d in
+    let last : Appends s t (more_text (length programs) ++ codes "\n") = subst (λ n. Appends s t (more_text n ++ codes "\n")) count_is e in
+    subst (Appends o t)
+    (pieces (codes "  ") (decimal (length programs)) (codes " ") (programs_word (length programs)) (codes ": ") (shared_place_text first.place.program first.place) (codes ": ") (decimal (number_of first.reason)) (codes " ") (reason_text first.reason) (codes " (")
+      (class_text (class_of first.reason)) (codes "): ") (names_text called (take 5 programs)) (more_text (length programs) ++ codes "\n"))
+    (appends_both o p t _ _ start (appends_both p q t _ _ b (appends_both q r t _ _ middle (appends_both r s t _ _ named last))))
+
+-- the first five programs
+pub first_five : (xs ys : List Name) (k : ℕ) → xs ≡ ys → k ≡ min (length xs) 5 → take k xs ≡ take 5 ys
+first_five xs ys k same is = elim (cases_lt (length xs) 5) [
+  | inl short ↦ let all : k ≡ length xs = omega arith in ap (λ n. take n xs) all ∙ take_all (length xs) xs (omega arith) ∙ sym (take_all 5 xs (omega arith)) ∙ ap (take 5) same
+  | inr long ↦ let five : k ≡ 5 = omega arith in ap (λ n. take n xs) five ∙ ap (take 5) same
+]
 
 -- the lines of causes, by the programs that are told for each
 lines_same : (rs : List Refused) (cs : List Cause) → All (λ (c : Cause). c.programs.items ≡ programs_of rs c.first) cs → flat_map (λ (c : Cause). cause_text None c.first c.programs.items) cs ≡ cause_lines rs (map (λ (c : Cause). c.first) cs)
@@ -50,10 +66,10 @@ causes_written rs cs old new are has written = record { causes = map (λ (c : Ca
 -- without causes no program is refused
 pub none_refused : (rs causes : List Refused) → AreCauses rs causes → causes ≡ [] → rs ≡ []
 none_refused [] causes are none = refl
-none_refused (r ∷ rs) causes are none = absurd (no_count (sym (ap (count_by (λ cause. is_same_cause cause r)) none) ∙ are.one 0 r (omega arith)))
+none_refused (r ∷ rs) causes are none = absurd (no_count (count_by (λ cause. is_same_cause cause r) causes) (ap (count_by (λ cause. is_same_cause cause r)) none) (are.one 0 r (omega arith)))
   where
-    no_count : 0 ≡ 1 → ⊥
-    no_count e = omega arith
+    no_count : (n : ℕ) → n ≡ 0 → n ≡ 1 → ⊥
+    no_count n e f = omega arith
 
 -- and with causes some are
 pub some_refused_for : (rs causes : List Refused) (c : Refused) (cs : List Refused) → AreCauses rs causes → causes ≡ c ∷ cs → rs ≡ [] → ⊥

@@ -137,12 +137,14 @@ fn explain_font<O: Sink>(
         profile,
         steps: budget,
     };
-    let mut points = Budget::of(budget.unwrap_or(u64::MAX));
-    match explain_within(alloc, font, judging, &mut points, out) {
-        // No font has so many points.
-        Err(CommandFault::Budget) if budget.is_none() => Err(CommandFault::OutOfMemory),
-        told => told,
-    }
+    let Some(most) = budget else {
+        return match explain_within(alloc, font, judging, &mut Budget::unlimited(), out) {
+            // No font has so many points.
+            Err(CommandFault::Budget) => Err(CommandFault::OutOfMemory),
+            told => told,
+        };
+    };
+    explain_within(alloc, font, judging, &mut Budget::of(most), out)
 }
 
 /// Prints for which causes programs of the font file with this name are refused by a profile, the
