@@ -1,5 +1,5 @@
 -- What the exit statuses 0 and 1 mean: what was asked for is safe, or refused.
-use Rattle.std.specs.Prelude.{◌≡◌, ◌↔◌, ◌+◌, ◌≤◌, ◌<◌, ℕ, All, List, [], Some, length, true, unwrap_or}
+use Rattle.std.specs.Prelude.{◌≡◌, ◌↔◌, ◌+◌, ◌≤◌, ◌<◌, ℕ, All, List, [], None, Some, length, true, unwrap_or}
 use Rattle.tt_code.specs.declared.reason.ReasonClass.TheVariants.{PossibleFault}
 use Rattle.tt_font.specs.Reading.{FontData, GlyphData, Reads}
 use Rattle.hintcheck_words.specs.HexWords.{Spells}
