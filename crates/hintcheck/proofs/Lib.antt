@@ -10,5 +10,7 @@ pub mod ExplanationLemmas
 pub mod ProgramsBefore
 pub mod TellingFaults
 pub mod WrittenObjects
+pub mod CauseLemmas
 pub mod CertificateFaults
 pub mod ObjectFaults
+pub mod ToldCauses

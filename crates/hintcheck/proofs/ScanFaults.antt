@@ -1,5 +1,5 @@
--- Only a scan, or an explanation, has a fault that is told in what is printed.
-use Rattle.std.proofs.Common.{◌≡◌, inl, inr, IfErr, IsErrAnd, Result, Ok, Err, subst}
+-- Only a scan, or an explanation in an object, has a fault that is told in what is printed.
+use Rattle.std.proofs.Common.{◌≡◌, inl, inr, IfErr, IsErrAnd, None, Result, Ok, Some, Err, subst}
 use Rattle.hintcheck_words.specs.Requests.{Request, bare, check, explain, find, list, scan, upgrade, verdict}
 use Rattle.hintcheck.specs.CommandFaults.{IsFaultOfPrinting, IsFaultOfRequest, IsFaultOfTask}
 use Rattle.hintcheck.specs.Commands.{IsForVerdict}
@@ -7,17 +7,18 @@ use Rattle.hintcheck.specs.Scans.{IsOfScan}
 use Rattle.hintcheck.specs.declared.commands.faults.CommandFault.{CommandFault}
 use Rattle.hintcheck.specs.declared.commands.faults.CommandFault.TheVariants as fault
 
--- neither a scan nor an explanation in an object is asked for
+-- neither a scan nor the explanation of one program is asked for
 abbrev pub IsNoScan : Request → Type 0
 IsNoScan (scan fonts options expected) = ⊥
-IsNoScan (explain font program offset budget profile format) = ⊥
+IsNoScan (explain font (Some program) offset budget profile format) = ⊥
 IsNoScan other = Unit {0}
 
 fault_of_scan : (q : Request) → IsNoScan q → IsFaultOfRequest q fault.ScanFault → ⊥
 fault_of_scan (bare maxp cvt points contours program budget profile) no_scan is = is.0
 fault_of_scan (verdict font budget profile) no_scan is = is.0
 fault_of_scan (scan fonts options expected) no_scan is = no_scan
-fault_of_scan (explain font program offset budget profile format) no_scan is = no_scan
+fault_of_scan (explain font None offset budget profile format) no_scan is = is.0
+fault_of_scan (explain font (Some program) offset budget profile format) no_scan is = no_scan
 fault_of_scan (find font certificate budget) no_scan is = elim is.0 [ inl e ↦ cc | inr other ↦ other.1 ]
 fault_of_scan (check font certificate budget) no_scan is = is.0
 fault_of_scan (list font program detail) no_scan is = elim is [ inl reading ↦ reading | inr some ↦ some.1 ]
@@ -27,7 +28,8 @@ unfinished_scan : (q : Request) → IsNoScan q → IsFaultOfRequest q fault.Scan
 unfinished_scan (bare maxp cvt points contours program budget profile) no_scan is = is.0
 unfinished_scan (verdict font budget profile) no_scan is = is.0
 unfinished_scan (scan fonts options expected) no_scan is = no_scan
-unfinished_scan (explain font program offset budget profile format) no_scan is = no_scan
+unfinished_scan (explain font None offset budget profile format) no_scan is = is.0
+unfinished_scan (explain font (Some program) offset budget profile format) no_scan is = no_scan
 unfinished_scan (find font certificate budget) no_scan is = elim is.0 [ inl e ↦ cc | inr other ↦ other.1 ]
 unfinished_scan (check font certificate budget) no_scan is = is.0
 unfinished_scan (list font program detail) no_scan is = elim is [ inl reading ↦ reading | inr some ↦ some.1 ]

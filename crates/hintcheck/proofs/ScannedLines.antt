@@ -15,7 +15,7 @@ use Rattle.hintcheck_words.specs.declared.words.ScanOptions.{ScanOptions}
 use Rattle.hintcheck.specs.CommandFaults.{IsFaultOfFontFile}
 use Rattle.hintcheck.specs.FaultTexts.{command_fault_text}
 use Rattle.hintcheck.specs.RefusalClasses.{number_of_class}
-use Rattle.hintcheck.specs.Scans.{Answer, IsAnswer, PrintsScan, Scanned, counts_text, greatest_status, judged, left_out_text, line_of, status_of_answer, summary, text_of, unread}
+use Rattle.hintcheck.specs.Scans.{Answer, HasCauses, IsAnswer, PrintsScan, Scanned, TellsFont, counts_text, greatest_status, judged, left_out_text, line_of, status_of_answer, summary, text_of, unread}
 use Rattle.hintcheck.specs.Texts.{profile_text}
 use Rattle.hintcheck_fonts.specs.Verdicts.{Judgement}
 use Rattle.hintcheck.specs.declared.commands.faults.CommandFault.{CommandFault}
@@ -46,21 +46,25 @@ greatest-append f (x ∷ xs) ys = omega (arith, greatest-append f xs ys)
 abbrev Answered : ScanOptions → Scanned → Type 0
 Answered options s = IsAnswer options.profile options.budget s.answer
 
+abbrev Caused : ScanOptions → Scanned → Type 0
+Caused options s = HasCauses options.format s.answer s.causes
+
 -- no font file
 pub scans_none : (options : ScanOptions) (old : Option (List ℕ)) → PrintsScan options [] 0 old old
-scans_none options old = record { scanned = []; names_are = refl; answers = All-nil (Answered options); greatest = refl; written = appends_nothing old }
+scans_none options old = record { scanned = []; names_are = refl; answers = All-nil (Answered options); causes = All-nil (Caused options); greatest = refl; written = appends_nothing old }
 
 -- one font file
 pub scans_one : (options : ScanOptions) (name : List ℕ) (answer : Answer) (status : ℕ) (old new : Option (List ℕ)) → IsAnswer options.profile options.budget answer → status ≡ status_of_answer options.fail_on answer
-    → Appends old new (text_of options (record { name = name; answer = answer })) → PrintsScan options (name ∷ []) status old new
-scans_one options name answer status old new is same written =
-    let s : Scanned = record { name = name; answer = answer } in
+    → TellsFont options name answer old new → PrintsScan options (name ∷ []) status old new
+scans_one options name answer status old new is same tells =
+    let s : Scanned = record { name = name; answer = answer; causes = tells.causes } in
     record {
       scanned = s ∷ [];
       names_are = refl;
       answers = All-cons (Answered options) s [] is (All-nil (Answered options));
+      causes = All-cons (Caused options) s [] tells.are (All-nil (Caused options));
       greatest = omega arith;
-      written = subst (Appends old new) (sym (append-nil (text_of options s))) written;
+      written = subst (Appends old new) (sym (append-nil (text_of options s))) tells.written;
     }
 
 -- font files, and then others
@@ -70,6 +74,7 @@ scans_both options a b s t old mid new first second =
       scanned = first.scanned ++ second.scanned;
       names_are = map-append (λ s. s.name) first.scanned second.scanned ∙ ap (λ x. x ++ map (λ s. s.name) second.scanned) first.names_are ∙ ap (λ y. a ++ y) second.names_are;
       answers = All-append (Answered options) first.scanned second.scanned first.answers second.answers;
+      causes = All-append (Caused options) first.scanned second.scanned first.causes second.causes;
       greatest = omega (arith, greatest-append options.fail_on first.scanned second.scanned, first.greatest, second.greatest);
       written = subst (Appends old new) (sym (flat_map-append (text_of options) first.scanned second.scanned)) (appends_both old mid new _ _ first.written second.written);
     }
@@ -109,7 +114,7 @@ glyph_summary programs (x ∷ xs) r id first is =
 -- the line of a font of which glyph programs are refused, by the first of them
 pub glyph_line : (profile : Profile) (name : List ℕ) (programs : ℕ) (v : Judgement) (rs shown : List Refused) (r : Refused) (id : ℕ) (old new : Option (List ℕ)) → Some r ≡ slice_get rs 0 → rs ≡ v.refused
     → shown ≡ v.refused → programs ≡ v.programs → r.program ≡ Glyph id → Appends old new (name ++ (codes ": refused: " ++ ((counts_text programs shown ++ profile_text profile) ++ codes "\n")))
-    → Appends old new (line_of profile (record { name = name; answer = judged v }))
+    → Appends old new (line_of profile name (judged v))
 glyph_line profile name programs v rs shown r id old new first rs_are shown_are programs_are is written =
     let e : summary v.programs v.refused ≡ codes "refused: " ++ counts_text v.programs v.refused =
     glyph_summary v.programs v.refused r id (subst (λ xs. Some r ≡ slice_get xs 0) rs_are first) is in
@@ -121,7 +126,7 @@ glyph_line profile name programs v rs shown r id old new first rs_are shown_are 
 
 -- the line of a font file with a fault
 pub fault_line : (profile : Profile) (name : List ℕ) (f : CommandFault) (old new : Option (List ℕ)) → IsFaultOfFontFile f
-    → AppendsText (Some name ++? (Some (codes ": fault: ") ++? (command_fault_text f ++? Some (codes "\n")))) old new → Appends old new (line_of profile (record { name = name; answer = unread f }))
+    → AppendsText (Some name ++? (Some (codes ": fault: ") ++? (command_fault_text f ++? Some (codes "\n")))) old new → Appends old new (line_of profile name (unread f))
 fault_line profile name (fault.Font numbered) old new is written = written
 fault_line profile name (fault.Unopened why) old new is written = written
 fault_line profile name fault.Read old new is written = written

@@ -7,7 +7,7 @@ use Rattle.hintcheck_words.specs.HexWords.{IsHexWord, Spells}
 use Rattle.hintcheck_words.specs.Requests.{Request, bare, check, explain, find, is_taken, list, meaning, scan, upgrade, verdict}
 use Rattle.hintcheck_words.specs.declared.words.FailOn.TheVariants.{Unknown}
 use Rattle.hintcheck_words.specs.declared.words.Format.{Format}
-use Rattle.hintcheck_words.specs.declared.words.Format.TheVariants.{Json}
+use Rattle.hintcheck_words.specs.declared.words.Format.TheVariants.{Json, Lines}
 use Rattle.hintcheck_words.specs.declared.words.ScanOptions.{ScanOptions}
 use Rattle.hintcheck.specs.Commands.{ReadsToEnd, status_of}
 use Rattle.hintcheck.specs.Containers.{container_beside}
@@ -48,6 +48,13 @@ IsWithin budget reported = reported ≡ fault.Budget → budget ≢ None
 abbrev pub IsFaultWithin : Option ℕ → Option (List ℕ) → Option (List ℕ) → CommandFault → Type 0
 IsFaultWithin budget old new fault.Budget = budget ≢ None
 IsFaultWithin budget old new other = IsFaultOfSource old new other
+
+-- why there is no verdict on the font in these bytes within a budget: their first fault, or the
+-- budget is exceeded
+abbrev pub IsFaultInBudget : List ℕ → CommandFault → Type 0
+IsFaultInBudget bytes (fault.Font numbered) = IsFaultOfFont bytes numbered
+IsFaultInBudget bytes fault.Budget = Unit {0}
+IsFaultInBudget bytes other = ⊥
 
 -- all bytes were read, and have no fault as those of a font
 abbrev pub ReadNoFault : Option (List ℕ) → Option (List ℕ) → Type 0
@@ -93,10 +100,10 @@ IsFaultOfFontFile fault.Budget = Unit {0}
 IsFaultOfFontFile other = ⊥
 
 -- Why a scan with these options has a fault: the word names no class of reasons; memory ran out at
--- an object of JSON; or one of the font files has a fault that gives the same exit status.
+-- an object of JSON or at the causes; or one of the font files has a fault that gives the same exit status.
 abbrev pub IsFaultOfScan : ScanOptions → CommandFault → Type 0
 IsFaultOfScan options fault.ClassWord = options.fail_on ≡ Unknown
-IsFaultOfScan options fault.OutOfMemory = options.format ≡ Json
+IsFaultOfScan options fault.OutOfMemory = options.format ≢ Lines
 IsFaultOfScan options fault.ScanFault =
     (reported : CommandFault) × IsFaultOfFontFile reported × (status_of reported ≡ 2)
 IsFaultOfScan options fault.ScanUnfinished =
@@ -172,7 +179,7 @@ IsFaultOfPrinting other = ⊥
 
 -- why what a scan with these options tells of a font file isn't printed
 abbrev pub IsFaultOfTelling : ScanOptions → CommandFault → Type 0
-IsFaultOfTelling options fault.OutOfMemory = options.format ≡ Json
+IsFaultOfTelling options fault.OutOfMemory = options.format ≢ Lines
 IsFaultOfTelling options other = IsFaultOfPrinting other
 
 -- why the lines of a program aren't printed
@@ -256,6 +263,11 @@ IsFaultOfExplainingAs Json word offset budget reported =
 IsFaultOfExplainingAs other word offset budget reported =
     IsFaultOfFileExplaining word offset reported × IsWithin budget reported
 
+-- why the causes for which programs of a font file are refused aren't told: there is no verdict on
+-- it, or a text isn't printed
+abbrev pub IsFaultOfFontCauses : CommandFault → Type 0
+IsFaultOfFontCauses reported = IsFaultOfFontFile reported ⊎ IsFaultOfPrinting reported
+
 -- Why what is asked for isn't answered.
 abbrev pub IsFaultOfRequest : Request → CommandFault → Type 0
 IsFaultOfRequest (bare maxp cvt points contours program budget profile) reported =
@@ -263,8 +275,10 @@ IsFaultOfRequest (bare maxp cvt points contours program budget profile) reported
 IsFaultOfRequest (verdict font budget profile) reported =
     IsFaultOfFontFile reported × IsWithin budget reported
 IsFaultOfRequest (scan fonts options expected) reported = IsFaultOfScan options reported
-IsFaultOfRequest (explain font program offset budget profile format) reported =
-    IsFaultOfExplainingAs format (unwrap_or program []) offset budget reported
+IsFaultOfRequest (explain font None offset budget profile format) reported =
+    IsFaultOfFontFile reported × IsWithin budget reported
+IsFaultOfRequest (explain font (Some program) offset budget profile format) reported =
+    IsFaultOfExplainingAs format program offset budget reported
 IsFaultOfRequest (find font certificate budget) reported =
     IsFaultOfFinding font certificate reported × IsWithin budget reported
 IsFaultOfRequest (check font certificate budget) reported =
@@ -280,8 +294,9 @@ HasNoFault (bare maxp cvt points contours program budget profile) =
     SpellNoFault maxp (unwrap_or program [])
 HasNoFault (verdict font budget profile) = Unit {0}
 HasNoFault (scan fonts options expected) = options.fail_on ≢ Unknown
-HasNoFault (explain font program offset budget profile format) =
-    (bytes : List ℕ) × HoldPlace bytes (unwrap_or program []) offset
+HasNoFault (explain font None offset budget profile format) = Unit {0}
+HasNoFault (explain font (Some program) offset budget profile format) =
+    (bytes : List ℕ) × HoldPlace bytes program offset
 HasNoFault (find font certificate budget) = font ≢ certificate
 HasNoFault (check font certificate budget) = Unit {0}
 HasNoFault (list font program detail) = Unit {0}

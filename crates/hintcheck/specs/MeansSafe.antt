@@ -1,5 +1,5 @@
 -- What the exit statuses 0 and 1 mean: what was asked for is safe, or refused.
-use Rattle.std.specs.Prelude.{◌≡◌, ◌↔◌, ◌+◌, ◌≤◌, ◌<◌, ℕ, All, List, [], Some, length, true, unwrap_or}
+use Rattle.std.specs.Prelude.{◌≡◌, ◌↔◌, ◌+◌, ◌≤◌, ◌<◌, ℕ, All, List, [], None, Some, length, true, unwrap_or}
 use Rattle.tt_code.specs.declared.reason.ReasonClass.TheVariants.{PossibleFault}
 use Rattle.tt_font.specs.Reading.{FontData, GlyphData, Reads}
 use Rattle.hintcheck_words.specs.HexWords.{Spells}
@@ -81,16 +81,18 @@ HoldPassing other profile bytes = HoldSafeBy profile bytes
 -- and `check`, some bytes hold a safe font: no contract of the runtime tells which bytes a file
 -- has, so that these can't be named here. For `scan` this holds for each of the names; where it
 -- fails for possible faults alone, no more than that the verdict on each has none of them. For
--- `explain`, some bytes hold a font whose program of this name is accepted. A listing and an
--- upgrade tell nothing of safety.
+-- `explain`, some bytes hold a font whose program of this name is accepted; without a name, a safe
+-- font. A listing and an upgrade tell nothing of safety.
 abbrev pub IsSafeRequest : Request → Type 0
 IsSafeRequest (bare maxp cvt points contours program budget profile) =
     SpellSafeBy profile maxp cvt points contours (unwrap_or program [])
 IsSafeRequest (verdict font budget profile) = (bytes : List ℕ) × HoldSafeBy profile bytes
 IsSafeRequest (scan fonts options expected) =
     All (λ font. (bytes : List ℕ) × HoldPassing options.fail_on options.profile bytes) fonts
-IsSafeRequest (explain font program offset budget profile format) =
-    (bytes : List ℕ) × HoldAcceptedBy profile bytes (unwrap_or program [])
+IsSafeRequest (explain font None offset budget profile format) =
+    (bytes : List ℕ) × HoldSafeBy profile bytes
+IsSafeRequest (explain font (Some program) offset budget profile format) =
+    (bytes : List ℕ) × HoldAcceptedBy profile bytes program
 IsSafeRequest (find font certificate budget) = (bytes : List ℕ) × HoldSafeFont bytes
 IsSafeRequest (check font certificate budget) = (bytes : List ℕ) × HoldSafeFont bytes
 IsSafeRequest (list font program detail) = Unit {0}
@@ -208,8 +210,10 @@ IsRefusedRequest (bare maxp cvt points contours program budget profile) =
 IsRefusedRequest (verdict font budget profile) = (bytes : List ℕ) × HoldRefusedBy profile bytes
 IsRefusedRequest (scan fonts options expected) =
     (bytes : List ℕ) × HoldFailing options.fail_on options.profile bytes
-IsRefusedRequest (explain font program offset budget profile format) =
-    (bytes : List ℕ) × HoldUnacceptedBy profile bytes (unwrap_or program [])
+IsRefusedRequest (explain font None offset budget profile format) =
+    (bytes : List ℕ) × HoldRefusedBy profile bytes
+IsRefusedRequest (explain font (Some program) offset budget profile format) =
+    (bytes : List ℕ) × HoldUnacceptedBy profile bytes program
 IsRefusedRequest (find font certificate budget) = (bytes : List ℕ) × HoldRefusedFont bytes
 IsRefusedRequest (check font certificate budget) = (bytes : List ℕ) × HoldFont bytes
 IsRefusedRequest (list font program detail) = (bytes : List ℕ) × HoldUnlistedProgram bytes program

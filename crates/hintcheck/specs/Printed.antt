@@ -1,5 +1,5 @@
 -- What is printed for what the words of a command line ask for.
-use Rattle.std.specs.Prelude.{◌≡◌, ◌≢◌, ℕ, List, [], Option, Some, unwrap_or}
+use Rattle.std.specs.Prelude.{◌≡◌, ◌≢◌, ℕ, List, [], None, Option, Some}
 use Rattle.std.specs.Io.KnownBytes.{Appends}
 use Rattle.hintcheck_words.specs.Requests.{Request, bare, check, explain, find, list, meaning, scan, upgrade, verdict}
 use Rattle.hintcheck_words.specs.declared.words.Detail.{Detail}
@@ -7,6 +7,7 @@ use Rattle.hintcheck_words.specs.declared.words.Format.{Format}
 use Rattle.hintcheck_words.specs.declared.words.Format.TheVariants.{Json}
 use Rattle.hintcheck_words.specs.declared.words.Profile.{Profile}
 use Rattle.hintcheck_words.specs.declared.words.Profile.TheVariants.{Strict}
+use Rattle.hintcheck.specs.CauseAnswers.{PrintsCauses}
 use Rattle.hintcheck.specs.Commands.{status_of}
 use Rattle.hintcheck.specs.CommandFaults.{IsFaultOfWords, IsUnexplained}
 use Rattle.hintcheck.specs.Explanations.{status_of_explained}
@@ -72,16 +73,18 @@ PrintsExplanationAs Json font word offset budget profile status old new =
     PrintsExplanation font word offset budget profile status old new
 PrintsExplanationAs other font word offset budget profile status old new = Unit {0}
 
--- What was asked for is answered in these lines; those of `explain` are left unspecified, beside the
--- object in which they may be.
+-- What was asked for is answered in these lines; those that explain one program are left
+-- unspecified, beside the object in which they may be.
 abbrev pub Prints : Request → ℕ → Option (List ℕ) → Option (List ℕ) → Type 0
 Prints (bare maxp cvt points contours program budget profile) status old new =
     PrintsVerdict (bare maxp cvt points contours program budget profile) status old new
 Prints (verdict font budget profile) status old new =
     PrintsVerdict (verdict font budget profile) status old new
 Prints (scan fonts options expected) status old new = PrintsScan options fonts status old new
-Prints (explain font program offset budget profile format) status old new = PrintsExplanationAs
-    format font (unwrap_or program []) offset budget profile status old new
+Prints (explain font None offset budget profile format) status old new =
+    PrintsCauses profile status old new
+Prints (explain font (Some program) offset budget profile format) status old new =
+    PrintsExplanationAs format font program offset budget profile status old new
 Prints (find font certificate budget) status old new =
     PrintsVerdict (find font certificate budget) status old new
 Prints (check font certificate budget) status old new =

@@ -1,3 +1,4 @@
 -- What the code prints beside the answers: private contracts cite these, and no public one does.
+pub mod CauseLists
 pub mod ScanSummaries
 pub mod ToldFaults

@@ -10,7 +10,9 @@ ghost use Rattle.hintcheck.specs.Printed.{MeansPrinted, Prints, TellsScanned, pr
 ghost use Rattle.hintcheck.specs.Scans.{IsOfScan};
 
 mod bare_task;
+mod cause_lines;
 mod check_task;
+mod explain_font;
 mod explain_lines;
 mod explain_object;
 mod explain_task;
@@ -27,6 +29,7 @@ mod verdict_task;
 
 use bare_task::{BareWords, bare_verdict, word_or_empty};
 use check_task::check_verdict;
+use explain_font::explain_of_font;
 use explain_task::explain_of_file;
 use faults::CommandFault;
 use find_task::find_verdict;
@@ -139,15 +142,19 @@ fn do_task<R: Files + AllocGlobal, O: Sink, E: Sink>(
         Task::Scan { fonts, options, .. } => scan_fonts(rt, fonts, *options, out, err),
         Task::Explain {
             font,
-            program,
+            program: None,
+            budget,
+            profile,
+            ..
+        } => explain_of_font(rt, font, *budget, *profile, out),
+        Task::Explain {
+            font,
+            program: Some(word),
             offset,
             budget,
             profile,
             format,
-        } => {
-            let word = word_or_empty(program);
-            explain_of_file(rt, font, word, *offset, *budget, *profile, *format, out)
-        }
+        } => explain_of_file(rt, font, word, *offset, *budget, *profile, *format, out),
         Task::List {
             font,
             program,
@@ -185,9 +192,10 @@ pub fn try_command<R: Files + AllocGlobal, O: Sink, E: Sink>(
         → MeansSafe (map (λ w. w.now) words.entry.now)) }
     ensures refused { IfOk result
         (λ status. status ≡ 1 → MeansRefused (map (λ w. w.now) words.entry.now)) }
-    // What is printed is the answer: a verdict, a line for each font file of a scan, the lines of a
-    // program, how many sections were upgraded, or the object of an explanation. The lines of an
-    // explanation are left unspecified.
+    // What is printed is the answer: a verdict, a line for each font file of a scan with those of the
+    // causes of its refusals where they are asked for, the lines of a program, how many sections
+    // were upgraded, or the object of an explanation. Lines that explain one program are left
+    // unspecified; where none is named, the causes come before them.
     ensures printed { IfOk result (λ status. is_taken (map (λ w. w.now) words.entry.now) ≡ true
         → MeansPrinted (map (λ w. w.now) words.entry.now) status
         (O.contents out.old) (O.contents out.new)) }

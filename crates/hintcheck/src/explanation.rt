@@ -250,7 +250,7 @@ fn explain_named<O: Sink>(
 
 /// Explains one program of the font in these bytes, the one that the word names, as
 /// `explain_program` does, within a budget.
-fn explain_word<O: Sink>(
+pub(crate) fn explain_word<O: Sink>(
     alloc: Global,
     font: &[u8],
     word: &str,

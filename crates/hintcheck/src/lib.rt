@@ -3,6 +3,7 @@
 #![tactic(auto)]
 
 mod asked_offset;
+mod causes;
 mod commands;
 mod explanation;
 mod font_file;

@@ -5,12 +5,13 @@ ghost use Rattle.std.specs.Io.KnownBytes.{Appends};
 ghost use Rattle.tt_code.specs.Refusals.{class_of};
 ghost use Rattle.tt_stream.specs.Streams.{CountsPrintFailure};
 ghost use Rattle.hintcheck.specs.Commands.{TellsFailure, status_of};
-ghost use Rattle.hintcheck.specs.CommandFaults.{IsFaultOfFontFile, IsFaultOfPrinting, IsFaultOfScan, IsFaultOfTelling};
+ghost use Rattle.hintcheck.specs.CommandFaults.{IsFaultOfFontFile, IsFaultOfLines, IsFaultOfPrinting, IsFaultOfScan, IsFaultOfTelling};
 ghost use Rattle.hintcheck.specs.MeansSafe.{HoldFailing, HoldPassing, TellsFonts};
 ghost use Rattle.hintcheck.specs.RefusalClasses.{class_text, number_failing, number_of_class};
-ghost use Rattle.hintcheck.specs.Scans.{IsOfScan, PrintsScan, counts_text, judged, left_out_text, line_of, status_of_answer, status_of_failing, text_of, unread};
+ghost use Rattle.hintcheck.specs.Scans.{IsOfScan, PrintsScan, TellsFont, TellsLineAndCauses, counts_text, judged, left_out_text, line_of, status_of_answer, status_of_failing, unread};
 ghost use Rattle.hintcheck.specs.Texts.{profile_text};
 
+use super::cause_lines::print_causes;
 use super::faults::CommandFault;
 use super::json_objects::{print_fault_object, print_verdict_object};
 use super::scan_summary::{Tally, tell_summary};
@@ -94,7 +95,7 @@ fn print_line<O: Sink>(
     profile: Profile,
 ) -> Result<(), PrintFailed>
     ensures written { OnOk result (Appends (O.contents out.old) (O.contents out.new)
-        (line_of profile (record { name = name.now; answer = judged verdict.now }))) }
+        (line_of profile name.now (judged verdict.now))) }
     ensures failures { CountsPrintFailure result (O.failures out.old) (O.failures out.new) }
 {
     let programs = verdict.programs();
@@ -132,6 +133,25 @@ fn verdict_status(verdict: &Verdict, fail_on: FailOn) -> u8
     }
 }
 
+/// Prints the line of a font, whose verdict is one of this profile, and a line for each cause for
+/// which its programs are refused.
+fn print_with_causes<O: Sink>(
+    alloc: Global,
+    out: &mut O,
+    name: &str,
+    verdict: &Verdict,
+    profile: Profile,
+) -> Result<(), CommandFault>
+    ensures written { OnOk result (TellsLineAndCauses profile name.now verdict.now
+        (O.contents out.old) (O.contents out.new)) }
+    ensures failures { TellsFailure result (O.failures out.old) (O.failures out.new) }
+    ensures faults { IfErr result IsFaultOfLines }
+{
+    print_line(out, name, verdict, profile)?;
+    print_causes(alloc, out, verdict.refused())?;
+    Ok(())
+}
+
 /// Prints what these options ask for of the font file with this name and this verdict, which gives
 /// the exit status.
 fn tell_judged<O: Sink>(
@@ -143,13 +163,14 @@ fn tell_judged<O: Sink>(
     status: u8,
 ) -> Result<(), CommandFault>
     requires { status ≡ status_of_answer options.fail_on (judged verdict.now) }
-    ensures written { OnOk result (Appends (O.contents out.old) (O.contents out.new)
-        (text_of options (record { name = name.now; answer = judged verdict.now }))) }
+    ensures written { OnOk result (TellsFont options name.now (judged verdict.now)
+        (O.contents out.old) (O.contents out.new)) }
     ensures failures { TellsFailure result (O.failures out.old) (O.failures out.new) }
     ensures faults { IfErr result (IsFaultOfTelling options) }
 {
     match options.format {
-        Format::Lines | Format::Causes => Ok(print_line(out, name, verdict, options.profile)?),
+        Format::Lines => Ok(print_line(out, name, verdict, options.profile)?),
+        Format::Causes => print_with_causes(alloc, out, name, verdict, options.profile),
         Format::Json => print_verdict_object(alloc, out, name, verdict, options.profile, status),
     }
 }
@@ -163,8 +184,8 @@ fn tell_unread<O: Sink>(
     options: ScanOptions,
 ) -> Result<(), CommandFault>
     requires { IsFaultOfFontFile fault.now }
-    ensures written { OnOk result (Appends (O.contents out.old) (O.contents out.new)
-        (text_of options (record { name = name.now; answer = unread fault.now }))) }
+    ensures written { OnOk result (TellsFont options name.now (unread fault.now)
+        (O.contents out.old) (O.contents out.new)) }
     ensures failures { TellsFailure result (O.failures out.old) (O.failures out.new) }
     ensures faults { IfErr result (IsFaultOfTelling options) }
 {
@@ -232,14 +253,14 @@ fn scan_all<R: Files + AllocGlobal, O: Sink, E: Sink>(
     Ok(greatest)
 }
 
-/// Prints a line or an object for each of the font files with these names, and to `err` a line that
-/// counts them, except in the form JSON; returns the greatest exit status of them: 0 where the scan
+/// Prints a line or an object for each of the font files with these names, in the form Causes with the
+/// lines of its causes, and to `err` a line that counts them, except in the form JSON; returns the greatest exit status of them: 0 where the scan
 /// fails for no program, 1 where it fails for one. That the counts can't be printed is not told.
 ///
 /// # Errors
 /// `ClassWord` where the word for which programs the scan is to fail names none, and nothing is
 /// printed then; `Write` exactly where a write to `out` failed; `OutOfMemory` where memory ran out
-/// at an object; after the last line, `ScanFault` where the greatest status is 2, and
+/// at an object or at causes; after the last line, `ScanFault` where the greatest status is 2, and
 /// `ScanUnfinished` where it is 3.
 pub(super) fn scan_fonts<R: Files + AllocGlobal, O: Sink, E: Sink>(
     rt: &R,

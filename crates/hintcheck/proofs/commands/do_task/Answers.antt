@@ -11,7 +11,7 @@ use Rattle.hintcheck_words.specs.declared.words.Task.{Task}
 use Rattle.hintcheck_words.specs.declared.words.Task.TheVariants as task
 use Rattle.hintcheck.specs.Commands.{IsForVerdict}
 use Rattle.hintcheck.specs.Texts.{verdict_text}
-use Rattle.hintcheck.proofs.FaultLemmas.{nothing_said}
+use Rattle.hintcheck.proofs.FaultLemmas.{fault_of_causes, nothing_said}
 use Rattle.hintcheck.proofs.PrintedLemmas.{prints_for_verdict, prints_upgrade, prints_verdict}
 use Rattle.hintcheck.proofs.ScanFaults.{passed_no_scan, printing_no_scan, task_no_scan, verdict_no_scan}
 use Rattle.hintcheck.proofs.commands.do_task.Goals as goal
@@ -56,35 +56,64 @@ pub returns-in-Scan-clause-none : goal.returns-in-Scan-clause-none
 unfolding asked
 returns-in-Scan-clause-none g c = on_ok_weaker c.scan_fonts.result (λ none. rw c.in-Scan.is none) c.scan_fonts.ensures.none
 
-pub returns-in-Explain-clause-safe : goal.returns-in-Explain-clause-safe
+pub returns-in-Explain-None-clause-safe : goal.returns-in-Explain-None-clause-safe
 unfolding asked
-returns-in-Explain-clause-safe g c =
-    IfOk-weaker c.explain_of_file.result _ _ (λ status accepted zero. rw c.in-Explain.is (rw (← c.word_or_empty-word.ensures) (accepted zero))) c.explain_of_file.ensures.accepted
+returns-in-Explain-None-clause-safe g c =
+    IfOk-weaker c.explain_of_font.result _ _ (λ status safe zero. rw (c.in-Explain-None.is, c.in-Explain-None.program-is) (safe zero)) c.explain_of_font.ensures.safe
 
-pub returns-in-Explain-clause-refused : goal.returns-in-Explain-clause-refused
+pub returns-in-Explain-None-clause-refused : goal.returns-in-Explain-None-clause-refused
 unfolding asked
-returns-in-Explain-clause-refused g c =
-    IfOk-weaker c.explain_of_file.result _ _ (λ status refused one. rw c.in-Explain.is (rw (← c.word_or_empty-word.ensures) (refused one))) c.explain_of_file.ensures.refused
+returns-in-Explain-None-clause-refused g c =
+    IfOk-weaker c.explain_of_font.result _ _ (λ status refused one. rw (c.in-Explain-None.is, c.in-Explain-None.program-is) (refused one)) c.explain_of_font.ensures.refused
 
-pub returns-in-Explain-clause-printed : goal.returns-in-Explain-clause-printed
+pub returns-in-Explain-None-clause-printed : goal.returns-in-Explain-None-clause-printed
 unfolding asked
-returns-in-Explain-clause-printed g c =
-    IfOk-weaker c.explain_of_file.result _ _ (λ status printed. rw c.in-Explain.is (rw (← c.word_or_empty-word.ensures) printed)) c.explain_of_file.ensures.printed
+returns-in-Explain-None-clause-printed g c =
+    IfOk-weaker c.explain_of_font.result _ _ (λ status printed. rw (c.in-Explain-None.is, c.in-Explain-None.program-is) printed) c.explain_of_font.ensures.printed
 
-pub returns-in-Explain-clause-faults : goal.returns-in-Explain-clause-faults
+pub returns-in-Explain-None-clause-faults : goal.returns-in-Explain-None-clause-faults
 unfolding asked
-returns-in-Explain-clause-faults g c =
-    IfErr-weaker c.explain_of_file.result _ _ (λ told is. inl (rw c.in-Explain.is (rw (← c.word_or_empty-word.ensures) is))) c.explain_of_file.ensures.faults
+returns-in-Explain-None-clause-faults g c =
+    IfErr-weaker c.explain_of_font.result _ _ (λ told is. rw (c.in-Explain-None.is, c.in-Explain-None.program-is) (fault_of_causes c.in-Explain-None.budget told is)) c.explain_of_font.ensures.faults
 
-pub returns-in-Explain-clause-scanned : goal.returns-in-Explain-clause-scanned
+pub returns-in-Explain-None-clause-scanned : goal.returns-in-Explain-None-clause-scanned
 unfolding asked
-returns-in-Explain-clause-scanned g c =
-    IfErr-weaker c.explain_of_file.result _ _ (λ told scanned of. rw c.in-Explain.is (rw (← c.word_or_empty-word.ensures) (scanned of))) c.explain_of_file.ensures.told
+returns-in-Explain-None-clause-scanned g c =
+    IfErr-weaker c.explain_of_font.result _ _ (λ told is of. absurd (task_no_scan (asked c.args.task.now) told (rw (c.in-Explain-None.is, c.in-Explain-None.program-is) tt) is of)) (returns-in-Explain-None-clause-faults g c)
 
-pub returns-in-Explain-clause-none : goal.returns-in-Explain-clause-none
+pub returns-in-Explain-None-clause-none : goal.returns-in-Explain-None-clause-none
 unfolding asked
-returns-in-Explain-clause-none g c =
-    on_ok_weaker c.explain_of_file.result (λ none. rw c.in-Explain.is (rw (← c.word_or_empty-word.ensures) none)) c.explain_of_file.ensures.none
+returns-in-Explain-None-clause-none g c = rw (c.in-Explain-None.is, c.in-Explain-None.program-is) (nothing_said c.explain_of_font.result)
+
+pub returns-in-Explain-Some-clause-safe : goal.returns-in-Explain-Some-clause-safe
+unfolding asked
+returns-in-Explain-Some-clause-safe g c =
+    IfOk-weaker c.explain_of_file.result _ _ (λ status accepted zero. rw (c.in-Explain-Some.is, c.in-Explain-Some.program-is) (rw (← c.deref-in-Explain-Some-2.ensures) (accepted zero))) c.explain_of_file.ensures.accepted
+
+pub returns-in-Explain-Some-clause-refused : goal.returns-in-Explain-Some-clause-refused
+unfolding asked
+returns-in-Explain-Some-clause-refused g c =
+    IfOk-weaker c.explain_of_file.result _ _ (λ status refused one. rw (c.in-Explain-Some.is, c.in-Explain-Some.program-is) (rw (← c.deref-in-Explain-Some-2.ensures) (refused one))) c.explain_of_file.ensures.refused
+
+pub returns-in-Explain-Some-clause-printed : goal.returns-in-Explain-Some-clause-printed
+unfolding asked
+returns-in-Explain-Some-clause-printed g c =
+    IfOk-weaker c.explain_of_file.result _ _ (λ status printed. rw (c.in-Explain-Some.is, c.in-Explain-Some.program-is) (rw (← c.deref-in-Explain-Some-2.ensures) printed)) c.explain_of_file.ensures.printed
+
+pub returns-in-Explain-Some-clause-faults : goal.returns-in-Explain-Some-clause-faults
+unfolding asked
+returns-in-Explain-Some-clause-faults g c =
+    IfErr-weaker c.explain_of_file.result _ _ (λ told is. inl (rw (c.in-Explain-Some.is, c.in-Explain-Some.program-is) (rw (← c.deref-in-Explain-Some-2.ensures) is))) c.explain_of_file.ensures.faults
+
+pub returns-in-Explain-Some-clause-scanned : goal.returns-in-Explain-Some-clause-scanned
+unfolding asked
+returns-in-Explain-Some-clause-scanned g c =
+    IfErr-weaker c.explain_of_file.result _ _ (λ told scanned of. rw (c.in-Explain-Some.is, c.in-Explain-Some.program-is) (rw (← c.deref-in-Explain-Some-2.ensures) (scanned of))) c.explain_of_file.ensures.told
+
+pub returns-in-Explain-Some-clause-none : goal.returns-in-Explain-Some-clause-none
+unfolding asked
+returns-in-Explain-Some-clause-none g c =
+    on_ok_weaker c.explain_of_file.result (λ none. rw (c.in-Explain-Some.is, c.in-Explain-Some.program-is) (rw (← c.deref-in-Explain-Some-2.ensures) none)) c.explain_of_file.ensures.none
 
 pub returns-in-List-clause-safe : goal.returns-in-List-clause-safe
 unfolding asked
