@@ -14,3 +14,5 @@ pub mod RefusalClasses
 pub mod Representation
 pub mod Scans
 pub mod JsonObjects
+pub mod KnownRefusals
+pub mod ExpectedScans

@@ -6,10 +6,11 @@ use Rattle.hintcheck_words.specs.declared.words.Detail.{Detail}
 use Rattle.hintcheck_words.specs.declared.words.Profile.{Profile}
 use Rattle.hintcheck_words.specs.declared.words.Profile.TheVariants.{Strict}
 use Rattle.hintcheck.specs.Commands.{status_of}
+use Rattle.hintcheck.specs.ExpectedScans.{PrintsScanning}
 use Rattle.hintcheck.specs.CommandFaults.{IsFaultOfWords}
 use Rattle.hintcheck.specs.Listing.{HoldListedProgram, HoldToldProgram}
 use Rattle.hintcheck.specs.MeansSafe.{IsVerdictAsked}
-use Rattle.hintcheck.specs.Scans.{IsOfScan, PrintsScan}
+use Rattle.hintcheck.specs.Scans.{IsOfScan}
 use Rattle.hintcheck.specs.Texts.{upgraded_line, verdict_text}
 use Rattle.hintcheck_fonts.specs.Upgrades.{IsNumberOfPrograms}
 use Rattle.hintcheck_fonts.specs.Verdicts.{Judgement}
@@ -51,7 +52,8 @@ Prints (bare maxp cvt points contours program budget profile) status old new =
     PrintsVerdict (bare maxp cvt points contours program budget profile) status old new
 Prints (verdict font budget profile) status old new =
     PrintsVerdict (verdict font budget profile) status old new
-Prints (scan fonts options expected) status old new = PrintsScan options fonts status old new
+Prints (scan fonts options expected) status old new =
+    PrintsScanning options fonts expected status old new
 Prints (explain font program offset budget profile format) status old new = Unit {0}
 Prints (find font certificate budget) status old new =
     PrintsVerdict (find font certificate budget) status old new

@@ -1,2 +1,4 @@
--- What the code prints beside the answers: private contracts cite these, and no public one does.
+-- What the code prints and keeps beside the answers: private contracts cite these, and no public one
+-- does.
 pub mod ScanSummaries
+pub mod Expectations
