@@ -3,6 +3,8 @@ pub mod ListingLemmas
 pub mod FaultLemmas
 pub mod PrintedLemmas
 pub mod ScanLemmas
+pub mod KnownLines
+pub mod KnownScans
 pub mod ScannedLines
 pub mod ScanFaults
 pub mod PlaceLemmas

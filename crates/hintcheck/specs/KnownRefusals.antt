@@ -25,15 +25,21 @@ line_text number program font =
 abbrev pub refusal_line : List ℕ → Refused → List ℕ
 refusal_line font r = line_text (number_of r.reason) r.program font
 
+-- The text is a program's name and the name of a font file, with a space between them.
+pub record HasName (text : List ℕ) : Type 0 where
+  pub program : Name
+  pub of_16_bits : IsOf16Bits program
+  pub font : List ℕ
+  pub text_is : text ≡ text_of program ++ (codes " " ++ font)
+
 -- The line names a refusal. Its number need not be one that a reason has: no refusal has that line
 -- then.
 pub record NamesRefusal (line : List ℕ) : Type 0 where
   pub number : ℕ
   pub small : number < 2 ^ 16
-  pub program : Name
-  pub of_16_bits : IsOf16Bits program
-  pub font : List ℕ
-  pub text : line ≡ line_text number program font
+  pub rest : List ℕ
+  pub named : HasName rest
+  pub text : line ≡ decimal number ++ (codes " " ++ rest)
   pub utf8 : IsUtf8 line
 
 -- no byte of the text ends a line

@@ -1,11 +1,11 @@
 //! Files of known refusals: the lines that they hold, read and written.
 
-ghost use Rattle.std.specs.Prelude.{◌≡◌, ◌⊎◌, ◌+◌, ◌<◌, ℕ, Bool, All, IfErr, IfNone, IfOk, IfSome, List, [], ◌∷◌, ◌++◌, length, string_bytes};
+ghost use Rattle.std.specs.Prelude.{◌≡◌, ◌⊎◌, ℕ, All, IfErr, IfNone, IfOk, IfSome, IsTrue, List, [], ◌∷◌, ◌++◌, string_bytes};
 ghost use Rattle.std.specs.HashSet.{contains_text};
 ghost use Rattle.std.specs.Io.KnownBytes.{Appends};
 ghost use Rattle.hintcheck.specs.Commands.{HasAll};
 ghost use Rattle.hintcheck.specs.CommandFaults.{IsFaultOfKnown};
-ghost use Rattle.hintcheck.specs.KnownRefusals.{AreLines, IsFirstBadLine, IsFollowedBy, IsOneLine, NamesRefusal, is_known, refusal_line};
+ghost use Rattle.hintcheck.specs.KnownRefusals.{AreLines, HasName, IsFirstBadLine, IsOneLine, NamesRefusal, is_known, refusal_line};
 
 use super::faults::CommandFault;
 use super::files::read_file;
@@ -25,15 +25,26 @@ pub(super) fn line_of(alloc: Global, font: &str, refused: &Refused) -> Result<St
     format!(in alloc; "{number} {program} {font}")
 }
 
+/// Whether the text begins with the name of a program, and a space after it.
+fn begins_with_name(text: &str) -> bool
+    ensures named { IsTrue result → HasName text.now }
+    ensures each { HasName text.now → IsTrue result }
+{
+    let Some((word, _font)) = text.split_once(' ') else {
+        return false;
+    };
+    read_name(word).is_some()
+}
+
 /// Whether the line names a refusal.
-fn names_refusal(line: &str) -> bool {
-    let Some((number, rest)) = line.split_once(' ') else {
+fn names_refusal(line: &str) -> bool
+    ensures named { IsTrue result → NamesRefusal line.now }
+    ensures each { NamesRefusal line.now → IsTrue result }
+{
+    let Some((word, rest)) = line.split_once(' ') else {
         return false;
     };
-    let Some((program, _)) = rest.split_once(' ') else {
-        return false;
-    };
-    read_number(number).is_some() && read_name(program).is_some()
+    read_number(word).is_some() && begins_with_name(rest)
 }
 
 /// Returns the text of the line, if it names a refusal.
@@ -68,7 +79,8 @@ fn lines_in(alloc: Global, bytes: &[u8]) -> Result<HashSet<String>, CommandFault
         × ((line : List ℕ) → contains_text set line ≡ is_known lines line)) }
     ensures bad { IfErr result (λ fault. (number : ℕ) → fault ≡ CommandFault.KnownLine number
         → IsFirstBadLine bytes.now number) }
-    ensures faults { IfErr result IsFaultOfKnown }
+    ensures fault { IfErr result (λ fault.
+        (fault ≡ CommandFault.OutOfMemory) ⊎ ((number : ℕ) × (fault ≡ CommandFault.KnownLine number))) }
 {
     let mut lines = HashSet::new(alloc);
     let mut number = 0;
