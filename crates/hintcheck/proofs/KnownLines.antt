@@ -1,6 +1,6 @@
 -- The lines of a file of known refusals: the form of a line, and the lines that are read so far.
 use Rattle.std.proofs.Common.{◌≡◌, ◌≢◌, ℕ, zero, suc, ◌+◌, ◌<◌, ◌≤◌, ◌^◌, ◌/◌, ◌%◌, List, [], ◌∷◌, ◌++◌, length, Bool, true, false, cond, get_or, Option, None, Some, MatchOption, ap, refl, sym, subst, append_assoc, append-nil, length-append, arith, inl, inr, ◌∙◌}
-use Rattle.std.specs.Prelude.{All, Contains, codes, map, ◌||◌, ◌⊎◌, ◌↔◌, IfSome, IsTrue, is_some}
+use Rattle.std.specs.Prelude.{All, ◌==◌, ◌||◌, ◌⊎◌, IfSome, is_some}
 use Rattle.std.specs.Fmt.{decimal, digit_glyph, digits, digits_onto}
 use Rattle.std.specs.List.{list_any}
 use Rattle.std.specs.Str.{IsUtf8, bytes_eq}
@@ -32,7 +32,7 @@ digits_graphic : (k n : ℕ) (acc : List ℕ) → All IsGraphic acc → All IsGr
 digits_graphic zero n acc rest = rest
 digits_graphic (suc k) n acc rest =
     let more : All IsGraphic (digit_glyph false (n % 10) ∷ acc) = All-cons IsGraphic (digit_glyph false (n % 10)) acc (glyph_graphic (n % 10)) rest in
-    cond_both _ _ _ (All IsGraphic) (λ over. more) (λ on. digits_graphic k (n / 10) (digit_glyph false (n % 10) ∷ acc) more)
+    cond_both (n / 10 == 0) (digit_glyph false (n % 10) ∷ acc) (digits_onto k 10 false (n / 10) (digit_glyph false (n % 10) ∷ acc)) (All IsGraphic) (λ over. more) (λ on. digits_graphic k (n / 10) (digit_glyph false (n % 10) ∷ acc) more)
 
 pub decimal_graphic : (n : ℕ) → All IsGraphic (decimal n)
 unfolding digits

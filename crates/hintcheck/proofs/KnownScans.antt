@@ -1,11 +1,12 @@
 -- What a scan with a file of known refusals tells, by what its refused programs are compared with.
-use Rattle.std.proofs.Common.{◌≡◌, ◌≢◌, ℕ, ◌+◌, ◌<◌, ◌≤◌, List, [], ◌∷◌, ◌++◌, length, Bool, true, false, cond, map, max, Option, None, Some, IfSome, ap, refl, sym, subst, append_assoc, append-nil, arith, inl, inr, ◌∙◌}
+use Rattle.std.proofs.Common.{◌≡◌, ◌≢◌, ℕ, ◌+◌, ◌<◌, ◌≤◌, List, [], ◌∷◌, ◌++◌, length, Bool, true, false, cond, get_or, map, max, take, Option, None, Some, IfSome, ap, refl, sym, subst, append_assoc, append-nil, arith, inl, inr, ◌∙◌}
 use Rattle.std.specs.Prelude.{All, Contains, filter, not, ◌||◌, nat_le, slice_index_or}
 use Rattle.std.specs.List.{list_any}
 use Rattle.std.specs.Str.{bytes_eq}
 use Rattle.std.proofs.lemmas.Bool.{cases_Bool, cases_eq, cases_lt, cond-false, cond-true, le-leb, lt-leb, not-false, not_from_true, not-true, or_cases, or_parts}
 use Rattle.std.proofs.lemmas.Grind.{flat_map-append}
-use Rattle.std.proofs.lemmas.List.Elements.{All-append, All-cons, All-contains_itself, All-head, All-map, All-nil, All-tail, All-weaker, Contains-append_left, Contains-append_right, Contains-push}
+use Rattle.std.proofs.lemmas.List.{map-append, take_more}
+use Rattle.std.proofs.lemmas.List.Elements.{All-append, All-cons, All-contains_itself, All-head, All-map, All-nil, All-push, All-tail, All-weaker, filter_more, Contains-append_left, Contains-append_right, Contains-push}
 use Rattle.std.proofs.lemmas.List.Folds.{Any-from_list_any, list_any-append, list_any-from_Any, list_any_none}
 use Rattle.std.proofs.lemmas.Slice.Eq.{bytes_eq-Decides}
 use Rattle.tt_code.specs.Refusals.{number_of}
@@ -19,10 +20,12 @@ use Rattle.hintcheck.specs.ExpectedScans.{PrintsExpected, PrintsScanning, greate
 use Rattle.hintcheck.specs.KnownRefusals.{IsExpectable, IsKnown, IsOneLine, counted_lines, counts, has_unknown, is_known, lines_text, refusal_line}
 use Rattle.hintcheck.specs.MeansSafe.{HoldOnlyKnown, HoldUnknown, IsRefusedScan, IsSafeScan, IsVerdictBy, TellsFonts, TellsScan}
 use Rattle.hintcheck.specs.RefusalClasses.{number_failing}
-use Rattle.hintcheck.specs.Representation.Expectations.{Begins, Expected, NotesScan, by_file, known, lines_of_answer, missing, noted, nothing, scanned_lines, settled, status_with, unwritten, without}
+use Rattle.hintcheck.specs.Representation.Expectations.{Begins, Expected, NotesScan, by_file, expected, known, lines_of_answer, missing, noted, nothing, scanned_lines, settled, status_with, unwritten, without}
 use Rattle.hintcheck.specs.Scans.{Answer, IsAnswer, Scanned, greatest_status, judged, status_of_answer, status_of_failing, unread}
 use Rattle.hintcheck_fonts.specs.Verdicts.{Judgement}
 use Rattle.hintcheck_report.specs.declared.refused.Refused.{Refused}
+use Rattle.hintcheck.specs.declared.commands.expectation.Expectation.{Expectation}
+use Rattle.hintcheck.specs.declared.commands.expectation.Expectation.TheVariants as variant
 use Rattle.hintcheck.specs.declared.commands.faults.CommandFault.{CommandFault}
 use Rattle.hintcheck.specs.declared.commands.faults.CommandFault.TheVariants as fault
 use Rattle.tt_font.specs.declared.fault.FontFault.{FontFault}
@@ -55,14 +58,55 @@ noted_both (missing text) a b =
 pub noted_nothing : (v : Expected) (lines : List (List ℕ)) → noted v lines ≢ nothing → v ≢ nothing
 noted_nothing v lines some e = some (ap (λ u. noted u lines) e)
 
+-- One more refused program of a font file, and one more font file.
+
+counted_more : (f : FailOn) (font : List ℕ) (rs : List Refused) (i : ℕ) (r : Refused) → i < length rs
+    → counted_lines f font (take (i + 1) rs) ≡ counted_lines f font (take i rs) ++ map (refusal_line font) (cond (counts f (get_or rs i r)) (get_or rs i r ∷ []) [])
+counted_more f font rs i r within =
+    ap (map (refusal_line font)) (filter_more (counts f) rs i r within) ∙ map-append (refusal_line font) (filter (counts f) (take i rs)) (cond (counts f (get_or rs i r)) (get_or rs i r ∷ []) [])
+
+pub counted_yes : (f : FailOn) (font : List ℕ) (rs : List Refused) (i : ℕ) (r : Refused) → i < length rs → r ≡ get_or rs i r → counts f r ≡ true
+    → counted_lines f font (take (i + 1) rs) ≡ counted_lines f font (take i rs) ++ refusal_line font r ∷ []
+counted_yes f font rs i r within is told =
+    counted_more f font rs i r within ∙ ap (λ (ys : List Refused). counted_lines f font (take i rs) ++ map (refusal_line font) ys) (cond-true (counts f (get_or rs i r)) (get_or rs i r ∷ []) [] (subst (λ x. counts f x ≡ true) is told))
+    ∙ ap (λ (x : Refused). counted_lines f font (take i rs) ++ refusal_line font x ∷ []) (sym is)
+
+pub counted_no : (f : FailOn) (font : List ℕ) (rs : List Refused) (i : ℕ) (r : Refused) → i < length rs → r ≡ get_or rs i r → counts f r ≡ false
+    → counted_lines f font (take (i + 1) rs) ≡ counted_lines f font (take i rs)
+counted_no f font rs i r within is untold =
+    counted_more f font rs i r within ∙ ap (λ (ys : List Refused). counted_lines f font (take i rs) ++ map (refusal_line font) ys) (cond-false (counts f (get_or rs i r)) (get_or rs i r ∷ []) [] (subst (λ x. counts f x ≡ false) is untold))
+    ∙ append-nil (counted_lines f font (take i rs))
+
+pub noted_yes : (v w u : Expected) (f : FailOn) (font : List ℕ) (rs : List Refused) (i : ℕ) (r : Refused) (line : List ℕ) → i < length rs → r ≡ get_or rs i r → counts f r ≡ true
+    → w ≡ noted v (counted_lines f font (take i rs)) → line ≡ refusal_line font r → u ≡ noted w (line ∷ []) → u ≡ noted v (counted_lines f font (take (i + 1) rs))
+noted_yes v w u f font rs i r line within is told so_far text more =
+    more ∙ ap (λ x. noted x (line ∷ [])) so_far ∙ noted_both v (counted_lines f font (take i rs)) (line ∷ []) ∙ ap (λ l. noted v (counted_lines f font (take i rs) ++ l ∷ [])) text
+    ∙ ap (noted v) (sym (counted_yes f font rs i r within is told))
+
+pub noted_no : (v w : Expected) (f : FailOn) (font : List ℕ) (rs : List Refused) (i : ℕ) (r : Refused) → i < length rs → r ≡ get_or rs i r → counts f r ≡ false
+    → w ≡ noted v (counted_lines f font (take i rs)) → w ≡ noted v (counted_lines f font (take (i + 1) rs))
+noted_no v w f font rs i r within is untold so_far = so_far ∙ ap (noted v) (sym (counted_no f font rs i r within is untold))
+
+pub all_more : {X : Type 0} (P : List ℕ → Type 0) (text : X → List ℕ) (xs : List X) (i : ℕ) (x : X) (name : List ℕ) → i < length xs → x ≡ get_or xs i x → name ≡ text x → All P (map text (take i xs)) → P name
+    → All P (map text (take (i + 1) xs))
+all_more P text xs i x name within is called so_far one =
+    let more : map text (take (i + 1) xs) ≡ map text (take i xs) ++ text x ∷ [] =
+    ap (map text) (take_more xs i x within) ∙ map-append text (take i xs) (get_or xs i x ∷ []) ∙ ap (λ y. map text (take i xs) ++ text y ∷ []) (sym is) in
+    rw (more, ← called) (All-push P (map text (take i xs)) name so_far one)
+
+pub expected_some : (e : Expectation) → (e ≡ variant.Nothing → ⊥) → expected e ≢ nothing
+expected_some variant.Nothing some e = some refl
+expected_some (variant.Known lines has count) some e = cc
+expected_some (variant.Missing file lines count) some e = cc
+
 -- Whether a line is among known ones.
 
 pub known_since : (lines : List (List ℕ)) (line : List ℕ) → Contains lines line → is_known lines line ≡ true
 known_since lines line among = list_any-from_Any (bytes_eq line) lines (among.0, line, among.1, among.2, (bytes_eq-Decides line line).1 refl)
 
 pub since_known : (lines : List (List ℕ)) (line : List ℕ) → is_known lines line ≡ true → Contains lines line
-since_known lines line yes =
-    let some = Any-from_list_any (bytes_eq line) lines yes in
+since_known lines line told =
+    let some = Any-from_list_any (bytes_eq line) lines told in
     let same : line ≡ some.1 = (bytes_eq-Decides line some.1).0 some.4 in
     (some.0, some.2, subst (λ x. slice_index_or lines some.0 x ≡ x) (sym same) some.3)
 
@@ -81,10 +125,10 @@ own_known lines =
 all_known : (f : FailOn) (lines : List (List ℕ)) (font : List ℕ) (rs : List Refused) → has_unknown lines (counted_lines f font rs) ≡ false → All (λ r. counts f r ≡ true → IsKnown lines font r) rs
 all_known f lines font [] none = All-nil (λ r. counts f r ≡ true → IsKnown lines font r)
 all_known f lines font (r ∷ rs) none = elim (cases_Bool (counts f r)) [
-  | inl yes ↦
-      let both = or_parts (not (is_known lines (refusal_line font r))) (has_unknown lines (counted_lines f font rs)) (rw yes at none) in
+  | inl told ↦
+      let both = or_parts (not (is_known lines (refusal_line font r))) (has_unknown lines (counted_lines f font rs)) (rw told at none) in
       All-cons (λ r. counts f r ≡ true → IsKnown lines font r) r rs (λ counted. since_known lines (refusal_line font r) (not-false (is_known lines (refusal_line font r)) both.0)) (all_known f lines font rs both.1)
-  | inr no ↦ All-cons (λ r. counts f r ≡ true → IsKnown lines font r) r rs (λ counted. absurd cc) (all_known f lines font rs (rw no at none))
+  | inr untold ↦ All-cons (λ r. counts f r ≡ true → IsKnown lines font r) r rs (λ counted. absurd cc) (all_known f lines font rs (rw untold at none))
 ]
 
 -- some refused program counts and isn't known
@@ -92,9 +136,9 @@ abbrev SomeUnknown : FailOn → List (List ℕ) → List ℕ → List Refused �
 SomeUnknown f lines font rs = (r : Refused) × Contains rs r × (counts f r ≡ true) × (IsKnown lines font r → ⊥)
 
 first_unknown : (f : FailOn) (lines : List (List ℕ)) (font : List ℕ) (r : Refused) (rs : List Refused) → counts f r ≡ true → not (is_known lines (refusal_line font r)) ≡ true → SomeUnknown f lines font (r ∷ rs)
-first_unknown f lines font r rs yes unknown =
-    let no : is_known lines (refusal_line font r) ≡ false = not-true (is_known lines (refusal_line font r)) unknown in
-    (r, Contains-append_left (r ∷ []) rs r (Contains-push [] r), yes, λ among. let is : is_known lines (refusal_line font r) ≡ true = known_since lines (refusal_line font r) among in cc)
+first_unknown f lines font r rs told unknown =
+    let untold : is_known lines (refusal_line font r) ≡ false = not-true (is_known lines (refusal_line font r)) unknown in
+    (r, Contains-append_left (r ∷ []) rs r (Contains-push [] r), told, λ among. let is : is_known lines (refusal_line font r) ≡ true = known_since lines (refusal_line font r) among in cc)
 
 later_unknown : (f : FailOn) (lines : List (List ℕ)) (font : List ℕ) (r : Refused) (rs : List Refused) → SomeUnknown f lines font rs → SomeUnknown f lines font (r ∷ rs)
 later_unknown f lines font r rs some = (some.0, Contains-append_right (r ∷ []) rs some.0 some.1, some.2, some.3)
@@ -102,11 +146,11 @@ later_unknown f lines font r rs some = (some.0, Contains-append_right (r ∷ [])
 some_unknown : (f : FailOn) (lines : List (List ℕ)) (font : List ℕ) (rs : List Refused) → has_unknown lines (counted_lines f font rs) ≡ true → SomeUnknown f lines font rs
 some_unknown f lines font [] some = absurd cc
 some_unknown f lines font (r ∷ rs) some = elim (cases_Bool (counts f r)) [
-  | inl yes ↦ elim (or_cases (not (is_known lines (refusal_line font r))) (has_unknown lines (counted_lines f font rs)) (rw yes at some)) [
-    | inl unknown ↦ first_unknown f lines font r rs yes unknown
+  | inl told ↦ elim (or_cases (not (is_known lines (refusal_line font r))) (has_unknown lines (counted_lines f font rs)) (rw told at some)) [
+    | inl unknown ↦ first_unknown f lines font r rs told unknown
     | inr rest ↦ later_unknown f lines font r rs (some_unknown f lines font rs rest)
   ]
-  | inr no ↦ later_unknown f lines font r rs (some_unknown f lines font rs (rw no at some))
+  | inr untold ↦ later_unknown f lines font r rs (some_unknown f lines font rs (rw untold at some))
 ]
 
 -- Exit statuses.
@@ -127,11 +171,11 @@ flags true false = refl
 flags false true = refl
 flags false false = refl
 
-flag_zero : (b : Bool) → cond b 1 0 ≡ 0 → b ≡ false
+flag_zero : (b : Bool) → ◌≡◌ {A = ℕ} (cond b 1 0) 0 → b ≡ false
 flag_zero true e = absurd (omega arith)
 flag_zero false e = refl
 
-flag_one : (b : Bool) → cond b 1 0 ≡ 1 → b ≡ true
+flag_one : (b : Bool) → ◌≡◌ {A = ℕ} (cond b 1 0) 1 → b ≡ true
 flag_one true e = refl
 flag_one false e = absurd (omega arith)
 
@@ -257,9 +301,9 @@ scanned_whole f (s ∷ others) whole =
 
 pub scan_prints : (options : ScanOptions) (names : List (List ℕ)) (expected : Option (List ℕ)) (g status : ℕ) (old new : Option (List ℕ)) (v0 v1 : Expected) → Begins expected v0
     → IfSome expected (λ file. All (IsExpectable file) names) → NotesScan options names g old new v0 v1 → status ≡ settled v1 g → PrintsScanning options names expected status old new
-scan_prints options names None g status old new nothing v1 without few notes is =
+scan_prints options names _ g status old new _ v1 without few notes is =
     record { scanned = notes.scanned; names_are = notes.names_are; answers = notes.answers; greatest = is ∙ ap (λ v. settled v g) notes.noted_are ∙ notes.greatest; written = notes.written }
-scan_prints options names (Some file) g status old new _ v1 (by_file file held lines test cut same) few notes is =
+scan_prints options names _ g status old new _ v1 (by_file file held lines test cut same) few notes is =
     let all : List (List ℕ) = scanned_lines options.fail_on notes.scanned in
     let agree : list_any (λ line. not (test line)) all ≡ has_unknown lines all = any_agree (λ line. not (test line)) (λ line. not (is_known lines line)) (λ line. ap not (same line)) all in
     record {
@@ -267,7 +311,7 @@ scan_prints options names (Some file) g status old new _ v1 (by_file file held l
       greatest = is ∙ ap (λ v. settled v g) notes.noted_are ∙ ap (λ b. status_with b g) agree ∙ ap (status_with (has_unknown lines all)) notes.greatest ∙ sym (greatest_is options.fail_on lines notes.scanned);
       written = notes.written;
     }
-scan_prints options names (Some file) g status old new _ v1 (unwritten file) few notes is =
+scan_prints options names _ g status old new _ v1 (unwritten file) few notes is =
     let all : List (List ℕ) = scanned_lines options.fail_on notes.scanned in
     let whole : All IsOneLine names = All-weaker (IsExpectable file) IsOneLine (λ font e. e.one_line) names few in
     record {
@@ -292,9 +336,9 @@ refused_scan options names (Some file) v g status old new tells is begun printed
     record { held = printed.held; lines = printed.lines; cut = printed.cut; font = some.0; named = subst (λ xs. Contains xs some.0) printed.names_are some.1; bytes = some.2.0; unknown = some.2.1 }
 
 begins_nothing : (expected : Option (List ℕ)) (v : Expected) → Begins expected v → expected ≡ None → v ≡ nothing
-begins_nothing None nothing without none = refl
-begins_nothing (Some file) v (by_file file held lines test cut same) none = absurd cc
-begins_nothing (Some file) v (unwritten file) none = absurd cc
+begins_nothing _ _ without none = refl
+begins_nothing _ _ (by_file file held lines test cut same) none = absurd cc
+begins_nothing _ _ (unwritten file) none = absurd cc
 
 pub scan_tells : (options : ScanOptions) (names : List (List ℕ)) (expected : Option (List ℕ)) (g status : ℕ) (old new : Option (List ℕ)) (v0 v1 : Expected) → Begins expected v0
     → IfSome expected (λ file. All (IsExpectable file) names) → TellsFonts options names g → NotesScan options names g old new v0 v1 → status ≡ settled v1 g → TellsScan options names expected status

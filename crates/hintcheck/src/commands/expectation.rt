@@ -135,10 +135,12 @@ fn write_file<R: Files>(rt: &R, name: &str, text: &str) -> Result<(), CommandFau
 fn status_of_scan(has_unknown: bool, greatest: u8) -> u8
     ensures { result ≡ status_with has_unknown greatest }
 {
-    match (greatest, has_unknown) {
-        (ACCEPTED | REFUSED, true) => REFUSED,
-        (ACCEPTED | REFUSED, false) => ACCEPTED,
-        (fault, _) => fault,
+    if greatest > REFUSED {
+        greatest
+    } else if has_unknown {
+        REFUSED
+    } else {
+        ACCEPTED
     }
 }
 
