@@ -119,11 +119,15 @@ read_more held rest line after number set more some read cut whole named known =
 
 pub read_all : (held rest : List ℕ) (number : ℕ) (set : List ℕ → Bool) → length rest ≡ 0 → HasRead held rest number set
     → (lines : List (List ℕ)) × AreLines held lines × All NamesRefusal lines × ((line : List ℕ) → set line ≡ is_known lines line)
-read_all held [] number set none read =
-    (read.lines, record {
-      cut = elim read.cut [ inl so_far ↦ inl (so_far ∙ append-nil (lines_text read.lines)) | inr over ↦ inr over.1 ];
-      whole = read.whole;
-    }, read.form, read.known)
+read_all held [] number set none read = (
+  read.lines,
+  record {
+    cut = elim read.cut [ inl so_far ↦ inl (so_far ∙ append-nil (lines_text read.lines)) | inr over ↦ inr over.1 ];
+    whole = read.whole;
+  },
+  read.form,
+  read.known,
+)
 read_all held (b ∷ bs) number set none read = absurd (omega arith)
 
 pub bad_line : (held rest line after : List ℕ) (number : ℕ) (set : List ℕ → Bool) → 0 < length rest → HasRead held rest number set → IsCut rest line after → IsOneLine line → (NamesRefusal line → ⊥)
@@ -131,19 +135,27 @@ pub bad_line : (held rest line after : List ℕ) (number : ℕ) (set : List ℕ 
 bad_line held rest line after number set some read cut whole bad = elim read.cut [
   | inl so_far ↦ elim cut [
     | inl ended ↦ record {
-        before = read.lines; line = line; after = 10 ∷ after;
-        held_is = so_far ∙ ap (λ t. lines_text read.lines ++ t) ended;
-        whole = All-push IsOneLine read.lines line read.whole whole;
-        followed = inl (after, refl);
-        form = read.form; bad = bad; number_is = omega (arith, read.number_is);
-      }
+      before = read.lines;
+      line = line;
+      after = 10 ∷ after;
+      held_is = so_far ∙ ap (λ t. lines_text read.lines ++ t) ended;
+      whole = All-push IsOneLine read.lines line read.whole whole;
+      followed = inl (after, refl);
+      form = read.form;
+      bad = bad;
+      number_is = omega (arith, read.number_is);
+    }
     | inr last ↦ record {
-        before = read.lines; line = line; after = [];
-        held_is = so_far ∙ ap (λ t. lines_text read.lines ++ t) (last.0 ∙ sym (append-nil line));
-        whole = All-push IsOneLine read.lines line read.whole whole;
-        followed = inr (refl, subst (λ t. 0 < length t) last.0 some);
-        form = read.form; bad = bad; number_is = omega (arith, read.number_is);
-      }
+      before = read.lines;
+      line = line;
+      after = [];
+      held_is = so_far ∙ ap (λ t. lines_text read.lines ++ t) (last.0 ∙ sym (append-nil line));
+      whole = All-push IsOneLine read.lines line read.whole whole;
+      followed = inr (refl, subst (λ t. 0 < length t) last.0 some);
+      form = read.form;
+      bad = bad;
+      number_is = omega (arith, read.number_is);
+    }
   ]
   | inr over ↦ absurd (omega (arith, ap length over.0))
 ]

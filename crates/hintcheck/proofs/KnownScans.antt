@@ -307,7 +307,12 @@ scan_prints options names _ g status old new _ v1 (by_file file held lines test 
     let all : List (List ℕ) = scanned_lines options.fail_on notes.scanned in
     let agree : list_any (λ line. not (test line)) all ≡ has_unknown lines all = any_agree (λ line. not (test line)) (λ line. not (is_known lines line)) (λ line. ap not (same line)) all in
     record {
-      held = held; lines = lines; cut = cut; scanned = notes.scanned; names_are = notes.names_are; answers = notes.answers;
+      held = held;
+      lines = lines;
+      cut = cut;
+      scanned = notes.scanned;
+      names_are = notes.names_are;
+      answers = notes.answers;
       greatest = is ∙ ap (λ v. settled v g) notes.noted_are ∙ ap (λ b. status_with b g) agree ∙ ap (status_with (has_unknown lines all)) notes.greatest ∙ sym (greatest_is options.fail_on lines notes.scanned);
       written = notes.written;
     }
@@ -315,9 +320,12 @@ scan_prints options names _ g status old new _ v1 (unwritten file) few notes is 
     let all : List (List ℕ) = scanned_lines options.fail_on notes.scanned in
     let whole : All IsOneLine names = All-weaker (IsExpectable file) IsOneLine (λ font e. e.one_line) names few in
     record {
-      held = lines_text all; lines = all;
+      held = lines_text all;
+      lines = all;
       cut = record { cut = inl refl; whole = scanned_whole options.fail_on notes.scanned (subst (All IsOneLine) (sym notes.names_are) whole) };
-      scanned = notes.scanned; names_are = notes.names_are; answers = notes.answers;
+      scanned = notes.scanned;
+      names_are = notes.names_are;
+      answers = notes.answers;
       greatest = is ∙ ap (λ v. settled v g) notes.noted_are ∙ ap (λ b. status_with b g) (sym (own_known all)) ∙ ap (status_with (has_unknown all all)) notes.greatest ∙ sym (greatest_is options.fail_on all notes.scanned);
       written = notes.written;
     }

@@ -222,7 +222,10 @@ impl fmt::Display for CommandFault {
             CommandFault::ExpectedWord => write!(f, "words: FILE: a font of the scan"),
             CommandFault::FontWord => write!(f, "words: FONT: a line feed in the name"),
             CommandFault::KnownLine(number) => {
-                write!(f, "44 FILE line {number}: not a number, a program and a font")
+                write!(
+                    f,
+                    "44 FILE line {number}: not a number, a program and a font"
+                )
             }
             CommandFault::CertificateWord => {
                 write!(f, "words: CERT: the font would be written over")

@@ -54,7 +54,11 @@ fn refusal_text(line: &[u8]) -> Option<&str>
     ensures none { IfNone result (NamesRefusal line.now → ⊥) }
 {
     let text = str::from_utf8(line).ok()?;
-    if names_refusal(text) { Some(text) } else { None }
+    if names_refusal(text) {
+        Some(text)
+    } else {
+        None
+    }
 }
 
 /// Returns the first line of the bytes, without its end, and the bytes after its end.
