@@ -1,16 +1,17 @@
 -- The lines of a file of known refusals: the form of a line, and the lines that are read so far.
 use Rattle.std.proofs.Common.{◌≡◌, ◌≢◌, ℕ, zero, suc, ◌+◌, ◌<◌, ◌≤◌, ◌^◌, ◌/◌, ◌%◌, List, [], ◌∷◌, ◌++◌, length, Bool, true, false, cond, get_or, Option, None, Some, MatchOption, ap, refl, sym, subst, append_assoc, append-nil, length-append, arith, inl, inr, ◌∙◌}
-use Rattle.std.specs.Prelude.{All, ◌==◌, ◌||◌, ◌⊎◌, IfSome, is_some}
+use Rattle.std.specs.Prelude.{All, ◌==◌, ◌||◌, ◌⊎◌, IfSome, MatchBool, is_some}
 use Rattle.std.specs.Fmt.{decimal, digit_glyph, digits, digits_onto}
 use Rattle.std.specs.List.{list_any}
 use Rattle.std.specs.Str.{IsUtf8, bytes_eq}
+use Rattle.std.specs.Str.Pattern.{FindsChar}
 use Rattle.std.proofs.lemmas.Bool.{cond_both}
 use Rattle.std.proofs.lemmas.Bool.Decides.{same_from_decides}
 use Rattle.std.proofs.lemmas.Grind.{flat_map-append}
-use Rattle.std.proofs.lemmas.List.Elements.{All-append, All-cons, All-nil, All-push, All-weaker}
+use Rattle.std.proofs.lemmas.List.Elements.{All-append, All-cons, All-from_get_or, All-nil, All-push, All-weaker}
 use Rattle.std.proofs.lemmas.List.Folds.{list_any-append}
 use Rattle.std.proofs.lemmas.Slice.Eq.{bytes_eq-Decides}
-use Rattle.std.proofs.lemmas.Str.Pattern.{IsSplitOnceResult, split_after}
+use Rattle.std.proofs.lemmas.Str.Pattern.{IsSplitOnceResult, contains_char, split_after}
 use denote.Ref.{Bor}
 use Rattle.tt_code.specs.Refusals.{number_of}
 use Rattle.tt_cert.specs.Names.{text_of}
@@ -55,6 +56,11 @@ line_whole number program font whole =
     let after : IsOneLine (text_of program ++ (32 ∷ font)) = All-append P (text_of program) (32 ∷ font) (one_line (text_of program) (name_graphic program)) named in
     All-append P (decimal number) (32 ∷ (text_of program ++ (32 ∷ font))) (one_line (decimal number) (decimal_graphic number)) (All-cons P 32 (text_of program ++ (32 ∷ font)) (λ e. omega arith) after)
 
+-- where a text has no line feed, it ends no line
+pub no_line_feed : (text : List ℕ) (r : Bool) → MatchBool r ((i : ℕ) × (j : ℕ) × FindsChar 10 text (Some (i, j)) × (i ≤ j) × (j ≤ length text)) (FindsChar 10 text None) → r ≡ false → IsOneLine text
+no_line_feed text r found none =
+    All-from_get_or (λ b. b ≢ 10) text 0 (λ k within same. let some : r ≡ true = (contains_char 10 text r found (omega arith)).1 k within same in cc)
+
 -- The lines that are read so far.
 
 pub bytes_eq-sym : (a b : List ℕ) → bytes_eq a b ≡ bytes_eq b a
@@ -89,6 +95,10 @@ pub record HasRead (held rest : List ℕ) (number : ℕ) (set : List ℕ → Boo
   pub number_is : number ≡ length lines
   pub few : number + length rest ≤ length held
   pub known : (line : List ℕ) → set line ≡ is_known lines line
+
+pub not_empty : (xs : List ℕ) (b : Bool) → b ≡ (length xs == 0) → b ≡ false → 0 < length xs
+not_empty [] b is none = absurd cc
+not_empty (x ∷ xs) b is none = omega arith
 
 pub read_none : (held : List ℕ) (set : List ℕ → Bool) → ((line : List ℕ) → set line ≡ false) → HasRead held held 0 set
 read_none held set none = record { lines = []; cut = inl refl; whole = All-nil IsOneLine; form = All-nil NamesRefusal; number_is = refl; few = omega arith; known = none }

@@ -6,7 +6,7 @@ use Rattle.std.specs.Str.{bytes_eq}
 use Rattle.std.proofs.lemmas.Bool.{cases_Bool, cases_eq, cases_lt, cond-false, cond-true, le-leb, lt-leb, not-false, not_from_true, not-true, or_cases, or_parts}
 use Rattle.std.proofs.lemmas.Grind.{flat_map-append}
 use Rattle.std.proofs.lemmas.List.{map-append, take_more}
-use Rattle.std.proofs.lemmas.List.Elements.{All-append, All-cons, All-contains_itself, All-head, All-map, All-nil, All-push, All-tail, All-weaker, filter_more, Contains-append_left, Contains-append_right, Contains-push}
+use Rattle.std.proofs.lemmas.List.Elements.{All-append, All-cons, All-contains_itself, All-head, All-map, All-nil, All-push, All-tail, All-weaker, filter-append, Contains-append_left, Contains-append_right, Contains-push}
 use Rattle.std.proofs.lemmas.List.Folds.{Any-from_list_any, list_any-append, list_any-from_Any, list_any_none}
 use Rattle.std.proofs.lemmas.Slice.Eq.{bytes_eq-Decides}
 use Rattle.tt_code.specs.Refusals.{number_of}
@@ -60,32 +60,22 @@ noted_nothing v lines some e = some (ap (λ u. noted u lines) e)
 
 -- One more refused program of a font file, and one more font file.
 
-counted_more : (f : FailOn) (font : List ℕ) (rs : List Refused) (i : ℕ) (r : Refused) → i < length rs
-    → counted_lines f font (take (i + 1) rs) ≡ counted_lines f font (take i rs) ++ map (refusal_line font) (cond (counts f (get_or rs i r)) (get_or rs i r ∷ []) [])
-counted_more f font rs i r within =
-    ap (map (refusal_line font)) (filter_more (counts f) rs i r within) ∙ map-append (refusal_line font) (filter (counts f) (take i rs)) (cond (counts f (get_or rs i r)) (get_or rs i r ∷ []) [])
+counted-append : (f : FailOn) (font : List ℕ) (rs ss : List Refused) → counted_lines f font (rs ++ ss) ≡ counted_lines f font rs ++ counted_lines f font ss
+counted-append f font rs ss =
+    ap (map (refusal_line font)) (filter-append (counts f) rs ss) ∙ map-append (refusal_line font) (filter (counts f) rs) (filter (counts f) ss)
 
-pub counted_yes : (f : FailOn) (font : List ℕ) (rs : List Refused) (i : ℕ) (r : Refused) → i < length rs → r ≡ get_or rs i r → counts f r ≡ true
-    → counted_lines f font (take (i + 1) rs) ≡ counted_lines f font (take i rs) ++ refusal_line font r ∷ []
-counted_yes f font rs i r within is told =
-    counted_more f font rs i r within ∙ ap (λ (ys : List Refused). counted_lines f font (take i rs) ++ map (refusal_line font) ys) (cond-true (counts f (get_or rs i r)) (get_or rs i r ∷ []) [] (subst (λ x. counts f x ≡ true) is told))
-    ∙ ap (λ (x : Refused). counted_lines f font (take i rs) ++ refusal_line font x ∷ []) (sym is)
+pub noted_more : (v w u : Expected) (f : FailOn) (font : List ℕ) (rs : List Refused) (i : ℕ) (d : Refused) → u ≡ noted w (counted_lines f font (get_or rs i d ∷ [])) → w ≡ noted v (counted_lines f font (take i rs))
+    → i < length rs → u ≡ noted v (counted_lines f font (take (i + 1) rs))
+noted_more v w u f font rs i d more so_far within =
+    let one : List Refused = get_or rs i d ∷ [] in
+    more ∙ ap (λ x. noted x (counted_lines f font one)) so_far ∙ noted_both v (counted_lines f font (take i rs)) (counted_lines f font one)
+    ∙ ap (noted v) (sym (counted-append f font (take i rs) one)) ∙ ap (λ (ys : List Refused). noted v (counted_lines f font ys)) (sym (take_more rs i d within))
 
-pub counted_no : (f : FailOn) (font : List ℕ) (rs : List Refused) (i : ℕ) (r : Refused) → i < length rs → r ≡ get_or rs i r → counts f r ≡ false
-    → counted_lines f font (take (i + 1) rs) ≡ counted_lines f font (take i rs)
-counted_no f font rs i r within is untold =
-    counted_more f font rs i r within ∙ ap (λ (ys : List Refused). counted_lines f font (take i rs) ++ map (refusal_line font) ys) (cond-false (counts f (get_or rs i r)) (get_or rs i r ∷ []) [] (subst (λ x. counts f x ≡ false) is untold))
-    ∙ append-nil (counted_lines f font (take i rs))
+pub noted_counted : (v u : Expected) (f : FailOn) (font line : List ℕ) (r : Refused) → counts f r ≡ true → line ≡ refusal_line font r → u ≡ noted v (line ∷ []) → u ≡ noted v (counted_lines f font (r ∷ []))
+noted_counted v u f font line r told text more = rw (cond-true (counts f r) (r ∷ []) [] told) (more ∙ ap (λ l. noted v (l ∷ [])) text)
 
-pub noted_yes : (v w u : Expected) (f : FailOn) (font : List ℕ) (rs : List Refused) (i : ℕ) (r : Refused) (line : List ℕ) → i < length rs → r ≡ get_or rs i r → counts f r ≡ true
-    → w ≡ noted v (counted_lines f font (take i rs)) → line ≡ refusal_line font r → u ≡ noted w (line ∷ []) → u ≡ noted v (counted_lines f font (take (i + 1) rs))
-noted_yes v w u f font rs i r line within is told so_far text more =
-    more ∙ ap (λ x. noted x (line ∷ [])) so_far ∙ noted_both v (counted_lines f font (take i rs)) (line ∷ []) ∙ ap (λ l. noted v (counted_lines f font (take i rs) ++ l ∷ [])) text
-    ∙ ap (noted v) (sym (counted_yes f font rs i r within is told))
-
-pub noted_no : (v w : Expected) (f : FailOn) (font : List ℕ) (rs : List Refused) (i : ℕ) (r : Refused) → i < length rs → r ≡ get_or rs i r → counts f r ≡ false
-    → w ≡ noted v (counted_lines f font (take i rs)) → w ≡ noted v (counted_lines f font (take (i + 1) rs))
-noted_no v w f font rs i r within is untold so_far = so_far ∙ ap (noted v) (sym (counted_no f font rs i r within is untold))
+pub noted_uncounted : (v : Expected) (f : FailOn) (font : List ℕ) (r : Refused) → counts f r ≡ false → v ≡ noted v (counted_lines f font (r ∷ []))
+noted_uncounted v f font r untold = rw (cond-false (counts f r) (r ∷ []) [] untold) (sym (noted_none v))
 
 pub all_more : {X : Type 0} (P : List ℕ → Type 0) (text : X → List ℕ) (xs : List X) (i : ℕ) (x : X) (name : List ℕ) → i < length xs → x ≡ get_or xs i x → name ≡ text x → All P (map text (take i xs)) → P name
     → All P (map text (take (i + 1) xs))
@@ -93,6 +83,10 @@ all_more P text xs i x name within is called so_far one =
     let more : map text (take (i + 1) xs) ≡ map text (take i xs) ++ text x ∷ [] =
     ap (map text) (take_more xs i x within) ∙ map-append text (take i xs) (get_or xs i x ∷ []) ∙ ap (λ y. map text (take i xs) ++ text y ∷ []) (sym is) in
     rw (more, ← called) (All-push P (map text (take i xs)) name so_far one)
+
+-- a file that isn't there, of which nothing is to be written yet
+pub begins_unwritten : (file text : List ℕ) → text ≡ [] → Begins (Some file) (missing text)
+begins_unwritten file text none = subst (λ t. Begins (Some file) (missing t)) (sym none) (unwritten file)
 
 pub expected_some : (e : Expectation) → (e ≡ variant.Nothing → ⊥) → expected e ≢ nothing
 expected_some variant.Nothing some e = some refl

@@ -199,6 +199,27 @@ impl<'a> Expectation<'a> {
         Ok(())
     }
 
+    /// Notes a refused program of the font file with this name, if it counts.
+    fn note_program(
+        &mut self,
+        alloc: Global,
+        font: &str,
+        refused: &Refused,
+        fail_on: FailOn,
+    ) -> Result<(), CommandFault>
+        ensures noted { OnOk result (expected self.new
+            ≡ noted (expected self.old) (counted_lines fail_on font.now (refused.now ∷ []))) }
+        ensures fault { IfErr result (λ fault. fault ≡ CommandFault.OutOfMemory) }
+    {
+        if !does_count(refused, fail_on) {
+            return Ok(());
+        }
+        let Ok(line) = line_of(alloc, font, refused) else {
+            return Err(CommandFault::OutOfMemory);
+        };
+        self.note_line(&line)
+    }
+
     /// Notes the refused programs that count, of the font file with this name.
     ///
     /// # Errors
@@ -219,12 +240,7 @@ impl<'a> Expectation<'a> {
             return Ok(());
         }
         for program in refused {
-            if does_count(program, fail_on) {
-                let Ok(line) = line_of(alloc, font, program) else {
-                    return Err(CommandFault::OutOfMemory);
-                };
-                self.note_line(&line)?;
-            }
+            self.note_program(alloc, font, program, fail_on)?;
         }
         Ok(())
     }

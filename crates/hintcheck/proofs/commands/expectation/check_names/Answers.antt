@@ -15,4 +15,4 @@ loop-font-preserved g c =
 
 pub returns-clause-expectable : goal.returns-clause-expectable
 returns-clause-expectable g c =
-    subst (λ ys. All (IsExpectable c.args.file.now) (map (λ s. string_bytes s) ys)) (take_all c.args.fonts.now c.loop-font.font-index c.loop-font-test.false) c.loop-font.invariant
+    subst (λ ys. All (IsExpectable c.args.file.now) (map (λ s. string_bytes s) ys)) (take_all c.loop-font.font-index c.args.fonts.now c.loop-font-test.false) c.loop-font.invariant
