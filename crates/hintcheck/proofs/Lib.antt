@@ -5,6 +5,7 @@ pub mod PrintedLemmas
 pub mod ScanLemmas
 pub mod KnownLines
 pub mod KnownScans
+pub mod KnownFaults
 pub mod ScannedLines
 pub mod ScanFaults
 pub mod PlaceLemmas
