@@ -2,7 +2,9 @@
 //! `post`).
 
 ghost use Rattle.std.specs.Prelude.{◌≡◌, ◌^◌, ◌<◌, length, option_map};
-ghost use Rattle.tt_names.specs.Names.{printable};
+ghost use Rattle.std.specs.Char.{is_ascii_graphic};
+ghost use Rattle.std.specs.List.{list_all};
+ghost use Rattle.tt_names.specs.Names.{is_printable, printable};
 ghost use Rattle.tt_names.specs.Post.{format_of};
 ghost use Rattle.tt_names.specs.Representation.StringPlaces.{ListsAll, ListsPlaces};
 ghost use Rattle.tt_names.specs.declared.post.Format.TheVariants.{Listed};
@@ -30,14 +32,30 @@ pub struct GlyphNames<'a> {
     ghost all: { format ≡ Listed → ListsAll post.now places.items },
 }
 
-/// Returns a text as a name, if it has at least one byte and all are printable.
+/// Whether all bytes of a text are printable.
+fn are_graphic(text: &[u8]) -> bool
+    ensures { result ≡ list_all is_ascii_graphic text.now }
+{
+    text.iter().all(|byte| byte.is_ascii_graphic())
+}
+
+/// Whether a text has at least one byte and all are printable.
+fn is_printable(text: &[u8]) -> bool
+    ensures { result ≡ is_printable text.now }
+{
+    !text.is_empty() && are_graphic(text)
+}
+
+/// Returns a text as a name, if it counts as one.
+#[tactic(auto, unfolding(crate::specs::Names::printable))]
 fn printable(text: &[u8]) -> Option<&str>
     ensures { option_map (λ name. name.now) result ≡ printable text.now }
 {
-    if text.is_empty() || !text.iter().all(|byte| byte.is_ascii_graphic()) {
-        return None;
+    if is_printable(text) {
+        str::from_utf8(text).ok()
+    } else {
+        None
     }
-    str::from_utf8(text).ok()
 }
 
 impl<'a> GlyphNames<'a> {
@@ -122,10 +140,14 @@ impl<'a> GlyphNames<'a> {
 
     /// Returns a glyph's name, if it has one of at least one byte, all of which are printable: from
     /// 0x21 to 0x7E.
+    #[tactic(auto, unfolding(crate::specs::Names::name_of_glyph))]
     pub fn name(&self, glyph: u16) -> Option<&'a str>
         ensures { option_map (λ name. name.now) result ≡ name_of_glyph self.now.post.now glyph }
     {
-        printable(self.text(glyph)?)
+        match self.text(glyph) {
+            Some(text) => printable(text),
+            None => None,
+        }
     }
 
     /// Whether a glyph has this name.
