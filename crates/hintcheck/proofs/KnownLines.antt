@@ -13,13 +13,11 @@ use Rattle.std.proofs.lemmas.List.Folds.{list_any-append}
 use Rattle.std.proofs.lemmas.Slice.Eq.{bytes_eq-Decides}
 use Rattle.std.proofs.lemmas.Str.Pattern.{IsSplitOnceResult, contains_char, split_after}
 use denote.Ref.{Bor}
-use Rattle.tt_code.specs.Refusals.{number_of}
 use Rattle.tt_cert.specs.Names.{text_of}
 use Rattle.tt_cert.specs.declared.name.Name.{Name}
 use Rattle.tt_cert.specs.declared.name.Name.TheVariants as name
 use Rattle.hintcheck.specs.Listing.{IsOf16Bits}
-use Rattle.hintcheck.specs.KnownRefusals.{AreLines, EndsWithout, HasName, IsFirstBadLine, IsFollowedBy, IsOneLine, NamesRefusal, is_known, line_text, lines_text, refusal_line}
-use Rattle.hintcheck_report.specs.declared.refused.Refused.{Refused}
+use Rattle.hintcheck.specs.KnownRefusals.{AreLines, EndsWithout, HasName, IsFirstBadLine, IsOneLine, NamesRefusal, is_known, line_text, lines_text}
 
 -- No digit of a number, and no letter of a program's name, is a space or ends a line.
 

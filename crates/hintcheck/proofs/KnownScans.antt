@@ -11,18 +11,15 @@ use Rattle.std.proofs.lemmas.List.Folds.{Any-from_list_any, list_any-append, lis
 use Rattle.std.proofs.lemmas.Slice.Eq.{bytes_eq-Decides}
 use Rattle.tt_code.specs.Refusals.{number_of}
 use Rattle.hintcheck_words.specs.declared.words.FailOn.{FailOn}
-use Rattle.hintcheck_words.specs.declared.words.Profile.{Profile}
 use Rattle.hintcheck_words.specs.declared.words.ScanOptions.{ScanOptions}
 use Rattle.hintcheck.proofs.KnownLines.{line_whole}
-use Rattle.hintcheck.specs.CommandFaults.{IsFaultOfFontFile}
 use Rattle.hintcheck.specs.Commands.{status_of}
-use Rattle.hintcheck.specs.ExpectedScans.{PrintsExpected, PrintsScanning, greatest_of_unknown, status_of_unknown}
+use Rattle.hintcheck.specs.ExpectedScans.{PrintsScanning, greatest_of_unknown, status_of_unknown}
 use Rattle.hintcheck.specs.KnownRefusals.{IsExpectable, IsKnown, IsOneLine, counted_lines, counts, has_unknown, is_known, lines_text, refusal_line}
-use Rattle.hintcheck.specs.MeansSafe.{HoldOnlyKnown, HoldUnknown, IsRefusedScan, IsSafeScan, IsVerdictBy, TellsFonts, TellsScan}
+use Rattle.hintcheck.specs.MeansSafe.{HoldOnlyKnown, HoldUnknown, IsRefusedScan, IsSafeScan, TellsFonts, TellsScan}
 use Rattle.hintcheck.specs.RefusalClasses.{number_failing}
 use Rattle.hintcheck.specs.Representation.Expectations.{Begins, Expected, NotesScan, by_file, expected, known, lines_of_answer, missing, noted, nothing, scanned_lines, settled, status_with, unwritten, without}
 use Rattle.hintcheck.specs.Scans.{Answer, IsAnswer, Scanned, greatest_status, judged, status_of_answer, status_of_failing, unread}
-use Rattle.hintcheck_fonts.specs.Verdicts.{Judgement}
 use Rattle.hintcheck_report.specs.declared.refused.Refused.{Refused}
 use Rattle.hintcheck.specs.declared.commands.expectation.Expectation.{Expectation}
 use Rattle.hintcheck.specs.declared.commands.expectation.Expectation.TheVariants as variant

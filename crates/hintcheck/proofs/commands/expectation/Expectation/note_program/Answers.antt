@@ -1,6 +1,5 @@
 use Rattle.std.proofs.Common.{sym, ◌∙◌}
 use Rattle.std.proofs.lemmas.Result.{on_ok_weaker}
-use Rattle.std.specs.Prelude.{string_bytes}
 use Rattle.hintcheck.specs.Representation.Expectations.{expected}
 use Rattle.hintcheck.proofs.KnownScans.{noted_counted, noted_uncounted}
 use Rattle.hintcheck.proofs.commands.expectation.Expectation.note_program.Goals as goal
