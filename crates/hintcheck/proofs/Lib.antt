@@ -3,6 +3,9 @@ pub mod ListingLemmas
 pub mod FaultLemmas
 pub mod PrintedLemmas
 pub mod ScanLemmas
+pub mod KnownLines
+pub mod KnownScans
+pub mod KnownFaults
 pub mod ScannedLines
 pub mod ScanFaults
 pub mod PlaceLemmas

@@ -1,5 +1,5 @@
 -- Which fault a command reports, and what that tells of its input; out of memory is unspecified.
-use Rattle.std.specs.Prelude.{◌≡◌, ◌≢◌, ◌⊎◌, ℕ, zero, Bool, List, Option, Some, None, alloc_error, true, unwrap_or, []}
+use Rattle.std.specs.Prelude.{◌≡◌, ◌≢◌, ◌⊎◌, ℕ, zero, All, Bool, List, Option, Some, None, alloc_error, true, unwrap_or, []}
 use Rattle.tt_font.specs.Conditions.{maxp_fault}
 use Rattle.tt_font.specs.FileFaults.{font_fault}
 use Rattle.tt_font.specs.declared.fault.FontFault.TheVariants.{OutOfMemory}
@@ -13,6 +13,7 @@ use Rattle.hintcheck.specs.Commands.{ReadsToEnd, status_of}
 use Rattle.hintcheck.specs.Containers.{container_beside}
 use Rattle.hintcheck_fonts.specs.BarePrograms.{IsMemory}
 use Rattle.hintcheck.specs.Explanations.{HoldPlace}
+use Rattle.hintcheck.specs.KnownRefusals.{IsExpectable, IsFirstBadLine}
 use Rattle.hintcheck.specs.Listing.{HoldNoSuchProgram}
 use Rattle.hintcheck.specs.Neighbours.{HoldNoSuchPlace}
 use Rattle.hintcheck.specs.declared.commands.faults.CommandFault.{CommandFault}
@@ -110,10 +111,43 @@ IsFaultOfScan options fault.ScanUnfinished =
     (reported : CommandFault) × IsFaultOfFontFile reported × (status_of reported ≡ 3)
 IsFaultOfScan options other = ⊥
 
+-- Why a scan with a file of known refusals and these options has a fault: that file is one of the
+-- fonts, or a font has a name that no line can hold; some bytes, those of that file, have a line
+-- that names no refusal; they can't be read or written, or memory ran out; or one of the faults of a
+-- scan without it.
+abbrev pub IsFaultOfExpecting : ScanOptions → CommandFault → Type 0
+IsFaultOfExpecting options fault.ExpectedWord = Unit {0}
+IsFaultOfExpecting options fault.FontWord = Unit {0}
+IsFaultOfExpecting options (fault.KnownLine number) = (held : List ℕ) × IsFirstBadLine held number
+IsFaultOfExpecting options (fault.Unopened why) = Unit {0}
+IsFaultOfExpecting options fault.Read = Unit {0}
+IsFaultOfExpecting options fault.File = Unit {0}
+IsFaultOfExpecting options fault.OutOfMemory = Unit {0}
+IsFaultOfExpecting options other = IsFaultOfScan options other
+
+-- why a scan has a fault, with a file of known refusals or without one
+abbrev pub IsFaultOfScanning : ScanOptions → Option (List ℕ) → CommandFault → Type 0
+IsFaultOfScanning options None reported = IsFaultOfScan options reported
+IsFaultOfScanning options (Some file) reported = IsFaultOfExpecting options reported
+
+-- A scan of font files with these names has no fault of its words: the one for which programs it is
+-- to fail names a class of reasons; and where it names a file of known refusals, that is none of the
+-- font files, and a line can hold the name of each.
+abbrev pub HasNoFaultOfScan : ScanOptions → List (List ℕ) → Option (List ℕ) → Type 0
+HasNoFaultOfScan options fonts None = options.fail_on ≢ Unknown
+HasNoFaultOfScan options fonts (Some file) =
+    options.fail_on ≢ Unknown × All (IsExpectable file) fonts
+
 -- why a file isn't opened
 abbrev pub IsFaultOfOpening : CommandFault → Type 0
 IsFaultOfOpening (fault.Unopened why) = Unit {0}
 IsFaultOfOpening other = ⊥
+
+-- why a font file can't be in a scan with a file of known refusals
+abbrev pub IsFaultOfNames : CommandFault → Type 0
+IsFaultOfNames fault.ExpectedWord = Unit {0}
+IsFaultOfNames fault.FontWord = Unit {0}
+IsFaultOfNames other = ⊥
 
 -- why the bytes of a file aren't read
 abbrev pub IsFaultOfReading : CommandFault → Type 0
@@ -121,6 +155,12 @@ IsFaultOfReading (fault.Unopened why) = Unit {0}
 IsFaultOfReading fault.Read = Unit {0}
 IsFaultOfReading fault.OutOfMemory = Unit {0}
 IsFaultOfReading other = ⊥
+
+-- why the lines of a file of known refusals aren't read: some bytes, those of the file, have a line
+-- that names no refusal; or they aren't read
+abbrev pub IsFaultOfKnown : CommandFault → Type 0
+IsFaultOfKnown (fault.KnownLine number) = (held : List ℕ) × IsFirstBadLine held number
+IsFaultOfKnown other = IsFaultOfReading other
 
 -- why there is no verdict on a font file, or its certificate isn't written
 abbrev pub IsFaultOfCertifying : CommandFault → Type 0
@@ -274,7 +314,8 @@ IsFaultOfRequest (bare maxp cvt points contours program budget profile) reported
     IsFaultOfGlyph maxp (unwrap_or program []) reported × IsWithin budget reported
 IsFaultOfRequest (verdict font budget profile) reported =
     IsFaultOfFontFile reported × IsWithin budget reported
-IsFaultOfRequest (scan fonts options expected) reported = IsFaultOfScan options reported
+IsFaultOfRequest (scan fonts options expected) reported =
+    IsFaultOfScanning options expected reported
 IsFaultOfRequest (explain font None offset budget profile format) reported =
     IsFaultOfFontFile reported × IsWithin budget reported
 IsFaultOfRequest (explain font (Some program) offset budget profile format) reported =
@@ -286,14 +327,14 @@ IsFaultOfRequest (check font certificate budget) reported =
 IsFaultOfRequest (list font program detail) reported = IsFaultOfFileListing program reported
 IsFaultOfRequest (upgrade old new) reported = IsFaultOfUpgrading old new reported
 
--- The words of `bare` have no fault; that of `scan` names a class of reasons, if it is given; those
+-- The words of `bare` have no fault; those of `scan` have none, as `HasNoFaultOfScan` says; those
 -- of `find` and of `upgrade` are two different ones; and those of `explain` name a program of some
 -- font, and an instruction of it by an offset, if any.
 abbrev pub HasNoFault : Request → Type 0
 HasNoFault (bare maxp cvt points contours program budget profile) =
     SpellNoFault maxp (unwrap_or program [])
 HasNoFault (verdict font budget profile) = Unit {0}
-HasNoFault (scan fonts options expected) = options.fail_on ≢ Unknown
+HasNoFault (scan fonts options expected) = HasNoFaultOfScan options fonts expected
 HasNoFault (explain font None offset budget profile format) = Unit {0}
 HasNoFault (explain font (Some program) offset budget profile format) =
     (bytes : List ℕ) × HoldPlace bytes program offset

@@ -16,3 +16,5 @@ pub mod RefusalClasses
 pub mod Representation
 pub mod Scans
 pub mod JsonObjects
+pub mod KnownRefusals
+pub mod ExpectedScans

@@ -9,12 +9,13 @@ use Rattle.hintcheck_words.specs.declared.words.Profile.{Profile}
 use Rattle.hintcheck_words.specs.declared.words.Profile.TheVariants.{Strict}
 use Rattle.hintcheck.specs.CauseAnswers.{PrintsCauses}
 use Rattle.hintcheck.specs.Commands.{status_of}
+use Rattle.hintcheck.specs.ExpectedScans.{PrintsScanning}
 use Rattle.hintcheck.specs.CommandFaults.{IsFaultOfWords, IsUnexplained}
 use Rattle.hintcheck.specs.Explanations.{status_of_explained}
 use Rattle.hintcheck.specs.JsonObjects.{explanation_object, unread_object}
 use Rattle.hintcheck.specs.Listing.{HoldListedProgram, HoldToldProgram}
 use Rattle.hintcheck.specs.MeansSafe.{HoldExplainedBy, IsVerdictAsked}
-use Rattle.hintcheck.specs.Scans.{IsOfScan, PrintsScan}
+use Rattle.hintcheck.specs.Scans.{IsOfScan}
 use Rattle.hintcheck.specs.Texts.{upgraded_line, verdict_text}
 use Rattle.hintcheck_explain.specs.declared.asked.Explained.{Explained}
 use Rattle.hintcheck_fonts.specs.Upgrades.{IsNumberOfPrograms}
@@ -80,7 +81,8 @@ Prints (bare maxp cvt points contours program budget profile) status old new =
     PrintsVerdict (bare maxp cvt points contours program budget profile) status old new
 Prints (verdict font budget profile) status old new =
     PrintsVerdict (verdict font budget profile) status old new
-Prints (scan fonts options expected) status old new = PrintsScan options fonts status old new
+Prints (scan fonts options expected) status old new =
+    PrintsScanning options fonts expected status old new
 Prints (explain font None offset budget profile format) status old new =
     PrintsCauses profile status old new
 Prints (explain font (Some program) offset budget profile format) status old new =

@@ -12,6 +12,7 @@ ghost use Rattle.hintcheck.specs.Scans.{IsOfScan};
 mod bare_task;
 mod cause_lines;
 mod check_task;
+mod expectation;
 mod explain_font;
 mod explain_lines;
 mod explain_object;
@@ -20,6 +21,7 @@ pub mod faults;
 mod files;
 mod find_task;
 mod json_objects;
+mod known_refusals;
 mod list_task;
 mod scan_summary;
 mod scan_task;
@@ -139,7 +141,11 @@ fn do_task<R: Files + AllocGlobal, O: Sink, E: Sink>(
     ensures untold { E.failures err.old ≤ E.failures err.new }
 {
     match task {
-        Task::Scan { fonts, options, .. } => scan_fonts(rt, fonts, *options, out, err),
+        Task::Scan {
+            fonts,
+            options,
+            expected,
+        } => scan_fonts(rt, fonts, *options, expected, out, err),
         Task::Explain {
             font,
             program: None,
@@ -175,8 +181,11 @@ fn do_task<R: Files + AllocGlobal, O: Sink, E: Sink>(
 /// take; `MaxpWord` and `ProgramWord` for a word that spells no bytes; `ProgramName` for one that
 /// names no program of the font; `OffsetWord` for an offset at which none of the program's
 /// instructions begins; `ClassWord` where a scan is to fail for reasons of a class that doesn't
-/// exist; `ScanFault` and `ScanUnfinished` where a font of a scan has a fault, which its line
-/// tells, or one of which a program was to be explained, which the object tells; `Budget` where more points were to be made than `--points` allows; `CertificateWord`
+/// exist; `ExpectedWord` and `FontWord` where a font can't be in a scan with its file of known
+/// refusals, and `KnownLine` for the first line of that file that names none; `ScanFault` and
+/// `ScanUnfinished` where a font of a scan has a fault, which its line tells, or one of which a
+/// program was to be explained, which the object tells; `Budget` where more points were to be made
+/// than `--points` allows; `CertificateWord`
 /// where a font's file is to be its certificate's; `NewWord` where an old certificate's file is to
 /// be the new one's; `Font` for the first fault of the font or of `bare`'s `maxp`, which may be
 /// that memory ran out; `Form`, `Read`, `File` and `OutOfMemory`.
@@ -238,7 +247,8 @@ pub fn command<R: Files + AllocGlobal, O: Sink, E: Sink>(
 ) -> u8
     ensures statuses { result ≤ 3 }
     // Where the command line takes the words and the status is 0, what they ask for is safe; where
-    // a scan is to fail for possible faults alone, no verdict of its fonts names one.
+    // a scan is to fail for possible faults alone, no verdict of its fonts names one; where it names
+    // a file of known refusals, its fonts have no others.
     ensures safe { result ≡ 0 → is_taken (map (λ w. w.now) words.entry.now) ≡ true
         → MeansSafe (map (λ w. w.now) words.entry.now) }
     // Where the status is 1, the words ask for something, which is refused.

@@ -166,6 +166,13 @@ pub enum CommandFault {
     OffsetWord(Neighbours),
     /// The word for which programs a scan is to fail names no class of reasons.
     ClassWord,
+    /// The file of known refusals of a scan is one of its fonts.
+    ExpectedWord,
+    /// A font of a scan has a line feed in its name, so that no line of a file of known refusals
+    /// can name it.
+    FontWord,
+    /// The first line of the file of known refusals that names none: its number, counted from 1.
+    KnownLine(u64),
     /// The font's file is to be its certificate's.
     CertificateWord,
     /// The old certificate's file is to be the new one's.
@@ -214,6 +221,14 @@ impl fmt::Display for CommandFault {
             }
             CommandFault::OffsetWord(told) => write!(f, "words: OFFSET{told}"),
             CommandFault::ClassWord => write!(f, "words: CLASS"),
+            CommandFault::ExpectedWord => write!(f, "words: FILE: a font of the scan"),
+            CommandFault::FontWord => write!(f, "words: FONT: a line feed in the name"),
+            CommandFault::KnownLine(number) => {
+                write!(
+                    f,
+                    "44 FILE line {number}: not a number, a program and a font"
+                )
+            }
             CommandFault::CertificateWord => {
                 write!(f, "words: CERT: the font would be written over")
             }

@@ -37,7 +37,7 @@ returns-in-Scan-clause-safe g c = IfOk-weaker c.scan_fonts.result _ _ (λ status
 
 pub returns-in-Scan-clause-refused : goal.returns-in-Scan-clause-refused
 unfolding asked
-returns-in-Scan-clause-refused g c = IfOk-weaker c.scan_fonts.result _ _ (λ status refused one. rw c.in-Scan.is (refused one)) c.scan_fonts.ensures.refused
+returns-in-Scan-clause-refused g c = IfOk-weaker c.scan_fonts.result _ _ (λ status refused one. rw c.in-Scan.is (rw (← c.deref.ensures.value) (refused one))) c.scan_fonts.ensures.refused
 
 pub returns-in-Scan-clause-printed : goal.returns-in-Scan-clause-printed
 unfolding asked
@@ -50,11 +50,11 @@ returns-in-Scan-clause-scanned g c = IfErr-weaker c.scan_fonts.result _ _ (λ to
 pub returns-in-Scan-clause-faults : goal.returns-in-Scan-clause-faults
 unfolding asked
 returns-in-Scan-clause-faults g c =
-    IfErr-weaker c.scan_fonts.result _ _ (λ told is. rw c.in-Scan.is is) c.scan_fonts.ensures.faults
+    IfErr-weaker c.scan_fonts.result _ _ (λ told is. rw c.in-Scan.is (rw (← c.deref.ensures.value) is)) c.scan_fonts.ensures.faults
 
 pub returns-in-Scan-clause-none : goal.returns-in-Scan-clause-none
 unfolding asked
-returns-in-Scan-clause-none g c = on_ok_weaker c.scan_fonts.result (λ none. rw c.in-Scan.is none) c.scan_fonts.ensures.none
+returns-in-Scan-clause-none g c = on_ok_weaker c.scan_fonts.result (λ none. rw c.in-Scan.is (rw (← c.deref.ensures.value) none)) c.scan_fonts.ensures.none
 
 pub returns-in-Explain-None-clause-safe : goal.returns-in-Explain-None-clause-safe
 unfolding asked
