@@ -37,7 +37,7 @@ pub record HoldSymbolicAcceptedProgram (bytes word : List ℕ) : Type 0 where
   pub font : FontData
   pub reads : Reads bytes font
   pub program : List ℕ
-  pub named : Names word font program
+  pub named : Names bytes word font program
   pub judgement : Judgement
   pub given : IsSymbolicVerdict font judgement
   pub accepted : first_against named.name judgement.refused ≡ None
@@ -48,7 +48,7 @@ pub record HoldSymbolicRefusedProgram (bytes word : List ℕ) : Type 0 where
   pub font : FontData
   pub reads : Reads bytes font
   pub program : List ℕ
-  pub named : Names word font program
+  pub named : Names bytes word font program
   pub judgement : Judgement
   pub given : IsSymbolicVerdict font judgement
   pub refused : is_some (first_against named.name judgement.refused) ≡ true
