@@ -69,8 +69,8 @@ IsMeant bytes word meant = (called : Name) → IsOf16Bits called → Calls bytes
 -- a word that is a program's name means that program
 pub name_is_meant : (bytes word : List ℕ) (read : Option Name) (called : Name) → IsReadAs word read → read ≡ Some called → IsOf16Bits called → word ≡ text_of called
     → IsMeant bytes word (Some called)
-name_is_meant bytes word read called is found bits text .other small (by_name other e) = let same : read ≡ Some other = is other small e in cc
-name_is_meant bytes word read called is found bits text .(name.Glyph id) small (by_glyph_name id nameless first) = absurd (nameless called bits text)
+name_is_meant bytes word read called is found bits text other small (by_name e) = let same : read ≡ Some other = is other small e in cc
+name_is_meant bytes word read called is found bits text other small (by_glyph_name id is_glyph nameless first) = absurd (nameless called bits text)
 
 -- there is one first glyph with a name
 one_first : (post word : List ℕ) (a b : ℕ) → IsFirstNamed post word a → IsFirstNamed post word b → a ≡ b
@@ -85,14 +85,14 @@ no_such_name word read is none = λ called small e. let some : read ≡ Some cal
 -- another word means the first glyph that has it as its name
 pub glyph_is_meant : (bytes word : List ℕ) (read : Option Name) (found : Option ℕ) → IsReadAs word read → read ≡ None
     → IfNone found (NamesNone (post_of bytes) word) → IfSome found (IsFirstNamed (post_of bytes) word) → IsMeant bytes word (option_map name.Glyph found)
-glyph_is_meant bytes word read found is none unnamed first .other small (by_name other e) = let some : read ≡ Some other = is other small e in cc
-glyph_is_meant bytes word read (Some glyph) is none unnamed first .(name.Glyph id) small (by_glyph_name id nameless one) =
-    ap (λ k. Some (name.Glyph k)) (one_first (post_of bytes) word glyph id first one)
-glyph_is_meant bytes word read None is none unnamed first .(name.Glyph id) small (by_glyph_name id nameless one) = absurd (unnamed id one.named)
+glyph_is_meant bytes word read found is none unnamed first other small (by_name e) = let some : read ≡ Some other = is other small e in cc
+glyph_is_meant bytes word read (Some glyph) is none unnamed first other small (by_glyph_name id is_glyph nameless one) =
+    ap (λ k. Some (name.Glyph k)) (one_first (post_of bytes) word glyph id first one) ∙ ap Some (sym is_glyph)
+glyph_is_meant bytes word read None is none unnamed first other small (by_glyph_name id is_glyph nameless one) = absurd (unnamed id one.named)
 
 pub glyph_called : (bytes word : List ℕ) (read : Option Name) (found : Option ℕ) → IsReadAs word read → read ≡ None
     → IfSome found (IsFirstNamed (post_of bytes) word) → IfSome (option_map name.Glyph found) (Calls bytes word)
-glyph_called bytes word read (Some glyph) is none first = by_glyph_name glyph (no_such_name word read is none) first
+glyph_called bytes word read (Some glyph) is none first = by_glyph_name glyph refl (no_such_name word read is none) first
 glyph_called bytes word read None is none first = tt
 
 pub no_name : (bytes word : List ℕ) (d : FontData) (meant : Option Name) → length d.glyphs < 2 ^ 16 → IsMeant bytes word meant → meant ≡ None → (p : List ℕ) → Names bytes word d p → ⊥

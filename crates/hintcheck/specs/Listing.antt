@@ -41,12 +41,12 @@ program_in d (name.Glyph id) = option_map (λ g. g.program) (slice_get d.glyphs 
 abbrev pub IsNoName : List ℕ → Type 0
 IsNoName word = (called : Name) → IsOf16Bits called → word ≢ text_of called
 
--- What a word calls the program of this name of the font in these bytes: that name; or, where it is
--- the name of no program, the name of a glyph, which is then the first one that has it.
-pub data Calls (bytes word : List ℕ) : Name → Type 0 where
-  by_name : (called : Name) → word ≡ text_of called → Calls bytes word called
-  by_glyph_name : (id : ℕ) → IsNoName word → IsFirstNamed (post_of bytes) word id
-      → Calls bytes word (name.Glyph id)
+-- The word calls the program of this name in the font in these bytes: it is that name; or it is the
+-- name of no program, and the program is that of the first glyph that has it as its name.
+pub data Calls (bytes word : List ℕ) (called : Name) : Type 0 where
+  by_name : word ≡ text_of called → Calls bytes word called
+  by_glyph_name : (id : ℕ) → called ≡ name.Glyph id → IsNoName word
+      → IsFirstNamed (post_of bytes) word id → Calls bytes word called
 
 -- the word calls this program of the font in these bytes
 pub record Names (bytes word : List ℕ) (d : FontData) (program : List ℕ) : Type 0 where

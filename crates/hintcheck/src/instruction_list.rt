@@ -46,6 +46,7 @@ fn is_plain(text: &[u8]) -> bool
 /// needless zero in front, if it spells one.
 fn read_number(text: &str) -> Option<u16>
     ensures read { IfSome result (λ number. text.now ≡ decimal number) }
+    ensures range { IfSome result (λ number. number < 2 ^ 16) }
     ensures each { (number : ℕ) → number < 2 ^ 16 → text.now ≡ decimal number
         → result ≡ Some number }
 {
@@ -58,7 +59,7 @@ fn read_number(text: &str) -> Option<u16>
 /// Returns the program's name that the word spells, as names are printed, if it spells one.
 fn read_name(word: &str) -> Option<Name>
     ensures read { IfSome result (λ name. word.now ≡ text_of name) }
-    ensures small { IfSome result IsOf16Bits }
+    ensures range { IfSome result IsOf16Bits }
     ensures each { (name : Name) → IsOf16Bits name → word.now ≡ text_of name → result ≡ Some name }
 {
     match word {
