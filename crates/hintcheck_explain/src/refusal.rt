@@ -54,7 +54,7 @@ fn trouble_of(
         return Ok(depths_at(subject, edges, point, state.depth(), other));
     }
     match outcome_at(subject.setting, frames, point.1, state)? {
-        StepOutcome::Refused(found) if found == failed => Ok(Some(Trouble::Failed(failed))),
+        StepOutcome::Refused(found) if found == failed => Ok(Some(Trouble::Failed(found))),
         StepOutcome::Goes { .. } if failed.reason() == Reason::TooManyContexts => {
             Ok(Some(Trouble::Other))
         }

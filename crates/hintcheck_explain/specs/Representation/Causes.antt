@@ -38,12 +38,11 @@ BringsDepths depth other_depth (trouble.Depths one other) =
     (one.depth ≡ depth) × (other.depth ≡ other_depth)
 BringsDepths depth other_depth _ = ⊥
 
--- What is told as the cause, at a place with these calls where this is known: the test for which the
--- program is refused, which fails there; the depth that is known there, and the other one for which
--- the program is refused; nothing else, unless there are too many contexts.
+-- What is told as the cause, at a place with these calls where this is known: a test that fails there;
+-- or, by the test for which the program is refused, the depth that is known there and the other one;
+-- nothing else, unless there are too many contexts.
 abbrev pub IsCause : Setting → List Frame → ℕ → State → Failed → Trouble → Type 0
-IsCause s fs at state failed (trouble.Failed told) =
-    (told ≡ failed) × FailsAt s fs at state failed
+IsCause s fs at state failed (trouble.Failed told) = FailsAt s fs at state told
 IsCause s fs at state failed (trouble.Depths one other) =
     (one.depth ≡ length state.stack) × (failed ≡ failure.OtherDepth other.depth)
 IsCause s fs at state failed trouble.Other = reason_of failed ≡ reason.TooManyContexts
