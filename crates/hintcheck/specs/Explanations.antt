@@ -1,7 +1,6 @@
 -- One program of a font as it is explained: it is accepted, or it is refused, or one before it is.
 use Rattle.std.specs.Prelude.{◌≡◌, ◌≢◌, ℕ, List, [], Option, Some, IfSome, slice_get}
 use Rattle.tt_code.specs.Cut.{BeginsWith, Instruction, size}
-use Rattle.tt_cert.specs.Names.{text_of}
 use Rattle.tt_cert.specs.declared.name.Name.{Name}
 use Rattle.tt_cert.specs.declared.name.Name.TheVariants as name
 use Rattle.tt_font.specs.Reading.{FontData, GlyphData, Reads}
@@ -11,7 +10,7 @@ use Rattle.tt_abs.specs.declared.refusal.Refusal.TheVariants as fault
 use Rattle.hintcheck_explain.specs.declared.asked.Explained.{Explained}
 use Rattle.hintcheck_explain.specs.declared.asked.Explained.TheVariants as explained
 use Rattle.hintcheck_fonts.specs.FontPrograms.{cvt_subject, font_of, font_subject, glyph_subject}
-use Rattle.hintcheck.specs.Listing.{Names, program_in}
+use Rattle.hintcheck.specs.Listing.{Calls, Names, program_in}
 use Rattle.hintcheck_fonts.specs.Programs.{EndsWith, HasLeastFamily, IsRefusal, Subject}
 use Rattle.hintcheck_report.specs.Places.{reported_at}
 use Rattle.hintcheck_report.specs.declared.refused.Refused.{Refused}
@@ -55,7 +54,7 @@ pub record HoldAcceptedProgram (bytes word : List ℕ) : Type 0 where
   pub font : FontData
   pub reads : Reads bytes font
   pub name : Name
-  pub text : word ≡ text_of name
+  pub text : Calls bytes word name
   pub accepted : IsAcceptedIn font name
 
 -- The bytes hold a font, and the word is the name of a program of it that is refused so, or before
@@ -64,7 +63,7 @@ pub record HoldRefusal (bytes word : List ℕ) (r : Refused) : Type 0 where
   pub font : FontData
   pub reads : Reads bytes font
   pub name : Name
-  pub text : word ≡ text_of name
+  pub text : Calls bytes word name
   pub refused : IsRefusedIn font name r
 
 -- the same, however it is refused
@@ -101,7 +100,7 @@ pub record HoldPlace (bytes word : List ℕ) (offset : Option ℕ) : Type 0 wher
   pub font : FontData
   pub reads : Reads bytes font
   pub program : List ℕ
-  pub named : Names word font program
+  pub named : Names bytes word font program
   pub place : HasPlace program offset
 
 -- where an offset is asked for, an instruction of the font's program of this name begins there

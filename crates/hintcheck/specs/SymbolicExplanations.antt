@@ -45,7 +45,7 @@ pub record HoldSymbolicExplained (bytes word : List ℕ) (e : Explained) : Type 
   pub font : FontData
   pub reads : Reads bytes font
   pub program : List ℕ
-  pub named : Names word font program
+  pub named : Names bytes word font program
   pub judgement : Judgement
   pub given : IsSymbolicVerdict font judgement
   pub against : first_against named.name judgement.refused ≡ refused_of e

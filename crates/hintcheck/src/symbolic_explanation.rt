@@ -196,7 +196,7 @@ fn explain_word<O: Sink>(
     ensures none { OnOk result (HoldPlace font.now word.now offset) }
 {
     let read = font_in(alloc, font)?;
-    match named_program(&read, word) {
+    match named_program(alloc, font, &read, word)? {
         Some(named) => {
             check_offset(named.bytes, offset)?;
             explain_named(alloc, &read, named, offset, steps, out)

@@ -267,7 +267,7 @@ const FONT: (&str, &str) = ("FONT", "The name of the font file");
 const CERTIFICATE: (&str, &str) = ("CERT", "The name of the certificate's file");
 
 /// The argument that names a program of a font, with its help.
-const PROGRAM: (&str, &str) = ("PROGRAM", "The program: f, p, or g and a number");
+const PROGRAM: (&str, &str) = ("PROGRAM", "The program: f, p, g and a number, or a glyph's name");
 
 /// The argument that names an old certificate's file, with its help.
 const OLD: (&str, &str) = ("OLD", "The name of the old certificate's file");
@@ -475,7 +475,7 @@ fn explain_command<'a>(alloc: Global) -> Result<Command<'a>, AllocError>
     plain_command(alloc, EXPLAIN)
         .arg(needed(alloc, font, font_help))?
         .arg(Arg::new(alloc, "PROGRAM").help(
-            "The program: f, p, or g and a number; without it, the causes of the font's refusals",
+            "The program: f, p, g12 or a glyph's name; without it, causes of the font's refusals",
         ))?
         .arg(offset_argument(alloc))?
         .arg(points_option(

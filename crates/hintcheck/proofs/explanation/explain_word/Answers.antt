@@ -5,7 +5,7 @@ use Rattle.hintcheck.proofs.PlaceLemmas.{place_in}
 use Rattle.hintcheck.proofs.explanation.explain_word.Goals as goal
 
 pub check_offset-requires : goal.check_offset-requires
-check_offset-requires g c = named_few c.in_ok-read.read c.in_ok-read.ensures.range c.args.word.now c.in-Some.named.bytes.now c.in-Some.ensures.there
+check_offset-requires g c = named_few c.in_ok-read.read c.in_ok-read.ensures.range c.args.font.now c.args.word.now c.in-Some.named.bytes.now c.in-Some.ensures.there
 
 pub explain_named-requires-clause-place : goal.explain_named-requires-clause-place
 explain_named-requires-clause-place g c =

@@ -3,10 +3,10 @@ use Rattle.hintcheck.proofs.NameLemmas.{named_few}
 use Rattle.hintcheck.proofs.symbolic_explanation.explain_word.Goals as goal
 
 pub check_offset-requires : goal.check_offset-requires
-check_offset-requires g c = named_few c.in_ok-read.read c.in_ok-read.ensures.range c.args.word.now c.in-Some.named.bytes.now c.in-Some.ensures.there
+check_offset-requires g c = named_few c.in_ok-read.read c.in_ok-read.ensures.range c.args.font.now c.args.word.now c.in-Some.named.bytes.now c.in-Some.ensures.there
 
 pub explain_named-requires-clause-few : goal.explain_named-requires-clause-few
-explain_named-requires-clause-few g c = named_few c.in_ok-read.read c.in_ok-read.ensures.range c.args.word.now c.in-Some.named.bytes.now c.in-Some.ensures.there
+explain_named-requires-clause-few g c = named_few c.in_ok-read.read c.in_ok-read.ensures.range c.args.font.now c.args.word.now c.in-Some.named.bytes.now c.in-Some.ensures.there
 
 pub returns-in-Some-clause-answered : goal.returns-in-Some-clause-answered
 returns-in-Some-clause-answered g c =
