@@ -233,8 +233,10 @@ one_passed rs i d left after causes within so_far none removed = record {
   where
     one : Refused
     one = get_or rs i d
+
     seen : is_seen rs i one ≡ true
     seen = is_passed rs i d (get is_same_key left (key_of_lem one)) (is_seen rs i one) within (so_far.rest one) none
+
     same_seen : (cause : Refused) → is_seen rs (i + 1) cause ≡ is_seen rs i cause
     same_seen cause = elim (settled (is_same_cause one cause)) [
       | inl passes ↦ let before : is_seen rs i cause ≡ true = sym (seen_alike rs i one cause passes) ∙ seen in
@@ -254,6 +256,7 @@ first_at p (x ∷ xs) (suc k) d within none passes =
   where
     one_plus : (n : ℕ) → 1 + n ≡ suc n
     one_plus n = omega arith
+
     or_fails : (a b : Bool) → (a || b) ≡ false → a ≡ false
     or_fails true b e = e
     or_fails false b e = refl
@@ -277,16 +280,22 @@ one_new rs i d left after causes v within so_far some removed = record {
   where
     one : Refused
     one = get_or rs i d
+
     cause_of_one : Cause
     cause_of_one = record { first = one; programs = v }
+
     fresh : (is_seen rs i one ≡ false) × (v.items ≡ programs_of rs one)
     fresh = is_new (programs_of rs one) (get is_same_key left (key_of_lem one)) v (is_seen rs i one) (so_far.rest one) some
+
     place : (find (is_same_cause one) rs ≡ Some one) × (first_of rs one ≡ i)
     place = first_at (is_same_cause one) rs i d within fresh.0 (own_cause one)
+
     seen_now : (cause : Refused) → is_same_cause one cause ≡ true → is_seen rs (i + 1) cause ≡ true
     seen_now cause passes = seen_more rs i d cause within ∙ ap (λ b. is_seen rs i cause || b) (same_both_ways cause one ∙ passes) ∙ or_true (is_seen rs i cause)
+
     seen_before : (cause : Refused) → is_same_cause one cause ≡ false → is_seen rs (i + 1) cause ≡ is_seen rs i cause
     seen_before cause fails = seen_more rs i d cause within ∙ ap (λ b. is_seen rs i cause || b) (same_both_ways cause one ∙ fails) ∙ or_false (is_seen rs i cause)
+
     counted : (r : Refused) → cond (is_seen rs i r) 1 0 + cond (is_same_cause one r) 1 0 ≡ cond (is_seen rs (i + 1) r) 1 0
     counted r = elim (settled (is_same_cause one r)) [
       | inl passes ↦
@@ -343,8 +352,10 @@ sorted_causes rs xs ys listed moved sorted stable = record {
     counts : (zs : List Cause) (r : Refused) → count_by (λ cause. is_same_cause cause r) (map (λ (c : Cause). c.first) zs) ≡ count_by (λ (c : Cause). is_same_cause c.first r) zs
     counts [] r = refl
     counts (z ∷ zs) r = sum_by-cons (λ cause. cond (is_same_cause cause r) 1 0) z.first (map (λ (c : Cause). c.first) zs) ∙ ap (λ n. cond (is_same_cause z.first r) 1 0 + n) (counts zs r) ∙ sym (sum_by-cons (λ (c : Cause). cond (is_same_cause c.first r) 1 0) z zs)
+
     has : All (λ (c : Cause). c.programs.items ≡ programs_of rs c.first) ys
     has = All-permutation (λ (c : Cause). c.programs.items ≡ programs_of rs c.first) xs ys moved listed.programs
+
     told : (k : ℕ) (d : Cause) → k + 1 < length ys → IsToldBefore rs (get_or ys k d).first (get_or ys (k + 1) d).first
     told k d within =
         let x : Cause = get_or ys k d in

@@ -42,7 +42,7 @@ cause_written called first programs shown count number word class o p q r s t co
     let last : Appends s t (more_text (length programs) ++ codes "\n") = subst (λ n. Appends s t (more_text n ++ codes "\n")) count_is e in
     subst (Appends o t)
     (pieces (codes "  ") (decimal (length programs)) (codes " ") (programs_word (length programs)) (codes ": ") (shared_place_text first.place.program first.place) (codes ": ") (decimal (number_of first.reason)) (codes " ") (reason_text first.reason) (codes " (")
-      (class_text (class_of first.reason)) (codes "): ") (names_text called (take 5 programs)) (more_text (length programs) ++ codes "\n"))
+    (class_text (class_of first.reason)) (codes "): ") (names_text called (take 5 programs)) (more_text (length programs) ++ codes "\n"))
     (appends_both o p t _ _ start (appends_both p q t _ _ b (appends_both q r t _ _ middle (appends_both r s t _ _ named last))))
 
 -- the first five programs
@@ -77,6 +77,7 @@ some_refused_for rs causes c cs are some none = not_found (subst (λ xs. find (i
   where
     not_found : find (is_same_cause c) [] ≡ Some c → ⊥
     not_found e = cc
+
     first_found : (xs : List Refused) → xs ≡ c ∷ cs → All (λ cause. find (is_same_cause cause) rs ≡ Some cause) xs → find (is_same_cause c) rs ≡ Some c
     first_found xs e all = All-head (λ cause. find (is_same_cause cause) rs ≡ Some cause) c cs (subst (All (λ cause. find (is_same_cause cause) rs ≡ Some cause)) e all)
 

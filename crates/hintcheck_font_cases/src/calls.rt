@@ -4,8 +4,9 @@ use crate::faults::{Fault, fault_text};
 use crate::sessions::refused_in_session;
 use anyhow::{Result, bail, ensure};
 use hintcheck_fonts::{
-    Budget, CheckFontFault, Refused, UpgradeFault, Verdict, bare, bare_within, check_font, check_font_within,
-    find_font, find_font_within, read_font, upgrade, verdict, verdict_symbolic, verdict_within,
+    Budget, CheckFontFault, Refused, UpgradeFault, Verdict, bare, bare_within, check_font,
+    check_font_within, find_font, find_font_within, read_font, upgrade, verdict, verdict_symbolic,
+    verdict_within,
 };
 use std::alloc::Global;
 use std::fmt::Write;

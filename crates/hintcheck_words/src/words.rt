@@ -267,7 +267,10 @@ const FONT: (&str, &str) = ("FONT", "The name of the font file");
 const CERTIFICATE: (&str, &str) = ("CERT", "The name of the certificate's file");
 
 /// The argument that names a program of a font, with its help.
-const PROGRAM: (&str, &str) = ("PROGRAM", "The program: f, p, g and a number, or a glyph's name");
+const PROGRAM: (&str, &str) = (
+    "PROGRAM",
+    "The program: f, p, g and a number, or a glyph's name",
+);
 
 /// The argument that names an old certificate's file, with its help.
 const OLD: (&str, &str) = ("OLD", "The name of the old certificate's file");

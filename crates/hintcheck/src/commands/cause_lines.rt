@@ -102,11 +102,7 @@ fn print_more<O: Sink>(out: &mut O, count: usize) -> Result<(), PrintFailed>
 }
 
 /// Prints the line of a cause, with the name that the font has for the first program's glyph.
-fn print_cause<O: Sink>(
-    out: &mut O,
-    cause: &Cause,
-    called: Option<&str>,
-) -> Result<(), PrintFailed>
+fn print_cause<O: Sink>(out: &mut O, cause: &Cause, called: Option<&str>) -> Result<(), PrintFailed>
     ensures written { OnOk result (Appends (O.contents out.old) (O.contents out.new)
         (cause_text (option_map (λ text. text.now) called.entry)
         cause.now.first cause.now.programs.items)) }

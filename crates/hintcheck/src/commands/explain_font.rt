@@ -67,8 +67,14 @@ fn explanation_of(
     let mut text = Counted::new(Vec::new(alloc));
     let explained = match judging.profile {
         Profile::Strict => explain_word(alloc, font, &word, None, points, &mut text),
-        Profile::Symbolic =>
-            explain_program_symbolic(alloc, font, &word, None, judging.steps, &mut text),
+        Profile::Symbolic => explain_program_symbolic(
+            alloc,
+            font,
+            &word,
+            None,
+            judging.steps,
+            &mut text,
+        ),
     };
     match explained {
         Ok(_) => Ok(text.into_inner()),

@@ -217,7 +217,10 @@ impl fmt::Display for CommandFault {
             CommandFault::MaxpWord => write!(f, "words: MAXP"),
             CommandFault::ProgramWord => write!(f, "words: PROGRAM"),
             CommandFault::ProgramName => {
-                write!(f, "words: PROGRAM: f, p, g and the number of a glyph, or its name")
+                write!(
+                    f,
+                    "words: PROGRAM: f, p, g and the number of a glyph, or its name"
+                )
             }
             CommandFault::OffsetWord(told) => write!(f, "words: OFFSET{told}"),
             CommandFault::ClassWord => write!(f, "words: CLASS"),
