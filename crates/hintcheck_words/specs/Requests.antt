@@ -1,5 +1,5 @@
 -- What the words of a command line ask for, by what clap says that a simple command's words mean.
-use Rattle.std.specs.Prelude.{◌≡◌, ◌⊎◌, ℕ, Bool, true, false, if◌then◌else◌, codes, List, [], ◌∷◌, find as first_where, map, Option, Some, None, IfSome, IsSomeAnd, is_some, unwrap_or, option_map, option_and_then, pos, string_bytes, Result, Ok, Err}
+use Rattle.std.specs.Prelude.{◌≡◌, ◌⊎◌, ◌&&◌, not, ℕ, Bool, true, false, if◌then◌else◌, codes, List, [], ◌∷◌, find as first_where, map, Option, Some, None, IfSome, IsSomeAnd, is_some, unwrap_or, option_map, option_and_then, pos, string_bytes, Result, Ok, Err}
 use Rattle.std.specs.Option.{option_map_or}
 use denote.Ref.{Bor}
 use Rattle.std.specs.Str.{bytes_eq}
@@ -128,11 +128,6 @@ bare_request rows =
     (optional_in rows (codes "PROGRAM")) (optional_number_in rows (codes "LIMIT"))
     (profile_in rows)
 
--- what `explain` asks for, by what its arguments got
-unfoldable pub explain_request : List Row → Request
-explain_request rows = explain (text_in rows (codes "FONT")) (optional_in rows (codes "PROGRAM"))
-    (optional_number_in rows (codes "OFFSET")) (points_in rows) (profile_in rows) (format_in rows)
-
 -- the verdict on one font as an object of JSON, which is a scan of that font
 abbrev pub json_request : List Row → Request
 json_request rows = scan (text_in rows (codes "FONT") ∷ []) (record {
@@ -141,6 +136,15 @@ json_request rows = scan (text_in rows (codes "FONT") ∷ []) (record {
   fail_on = fail_on.Refused;
   format = format.Json;
 }) None
+
+-- what `explain` asks for, by what its arguments got: in an object a font without a program of it is
+-- told as `verdict` tells it
+unfoldable pub explain_request : List Row → Request
+explain_request rows =
+    if flag_in rows (codes "JSON") && not (is_some (optional_in rows (codes "PROGRAM")))
+    then json_request rows
+    else explain (text_in rows (codes "FONT")) (optional_in rows (codes "PROGRAM"))
+    (optional_number_in rows (codes "OFFSET")) (points_in rows) (profile_in rows) (format_in rows)
 
 -- what `verdict` asks for, by what its arguments got
 unfoldable pub verdict_request : List Row → Request

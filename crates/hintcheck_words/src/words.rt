@@ -1,6 +1,6 @@
 //! What the words of a command line ask for.
 
-ghost use Rattle.std.specs.Prelude.{◌≡◌, ◌∷◌, [], IfErr, IfOk, Some, codes, false, map, option_map, string_bytes};
+ghost use Rattle.std.specs.Prelude.{◌≡◌, ◌∷◌, [], IfErr, IfOk, Some, codes, is_some, false, map, option_map, string_bytes};
 ghost use Rattle.clap.specs.Words.{app_of, new_app, rule_of, subcommand_rows_of};
 ghost use Rattle.hintcheck_words.specs.CommandLine.{bare, causes as causes_rule, expect as expect_rule, explain, fail_on as fail_on_rule, flag, hintcheck, json as json_rule, list, needed as needed_rule, needed_number as number_rule, numbers as numbers_rule, of_texts, of_texts_and_points, optional_number as optional_rule, points as points_rule, scan, symbolic as symbolic_rule, verdict};
 ghost use Rattle.hintcheck_words.specs.Requests.{HasFlag, HasLongNumberIfAny, HasNumber, HasNumberIfAny, HasPoints, IsMemoryIfTaken, IsReadable, IsReadableBare, IsReadableExplain, IsReadableScan, IsReadableVerdict, MeetsSubcommand, TellsFault, asked, bare_request, check_request, detail_in, explain_request, fail_on_in, fail_on_named, faults_in, find_request, flag_in, format_in, json_request, list_request, meaning, met, number_in, optional_in, optional_number_in, profile_in, request_of, rows_in, scan_format_in, scan_request, text_in, texts_in, texts_of, verdict_request};
@@ -701,24 +701,6 @@ fn bare_task(alloc: Global, values: &ArgMatches<'_>) -> Result<Task, AllocError>
     })
 }
 
-/// Returns the task of the subcommand `explain`.
-///
-/// # Errors
-/// If memory runs out.
-fn explain_task(alloc: Global, values: &ArgMatches<'_>) -> Result<Task, AllocError>
-    requires { IsReadableExplain (rows_in values.now) }
-    ensures { IfOk result (λ t. asked t ≡ explain_request (rows_in values.now)) }
-{
-    Ok(Task::Explain {
-        font: text(alloc, values, "FONT")?,
-        program: optional_text(alloc, values, "PROGRAM")?,
-        offset: optional_number(values, "OFFSET"),
-        budget: points(values, "POINTS"),
-        profile: asked_profile(values),
-        format: asked_format(values),
-    })
-}
-
 /// Returns the texts that are this one alone.
 ///
 /// # Errors
@@ -731,7 +713,7 @@ fn one_text(alloc: Global, text: String) -> Result<Vec<String>, AllocError>
     Ok(texts)
 }
 
-/// Returns the task of the subcommand `verdict` with the option `--json`.
+/// Returns the task of telling the verdict on a font in an object.
 ///
 /// # Errors
 /// If memory runs out.
@@ -749,6 +731,35 @@ fn json_task(alloc: Global, values: &ArgMatches<'_>) -> Result<Task, AllocError>
             format: Format::Json,
         },
         expected: None,
+    })
+}
+
+/// Whether the words name a program.
+fn names_program(values: &ArgMatches<'_>) -> bool
+    ensures { result ≡ is_some (optional_in (rows_in values.now) (codes "PROGRAM")) }
+{
+    values.get_str("PROGRAM").is_some()
+}
+
+/// Returns the task of the subcommand `explain`. A font without a program of it is told in an object
+/// as `verdict` tells it.
+///
+/// # Errors
+/// If memory runs out.
+fn explain_task(alloc: Global, values: &ArgMatches<'_>) -> Result<Task, AllocError>
+    requires { IsReadableExplain (rows_in values.now) }
+    ensures { IfOk result (λ t. asked t ≡ explain_request (rows_in values.now)) }
+{
+    if is_given(values, "JSON") && !names_program(values) {
+        return json_task(alloc, values);
+    }
+    Ok(Task::Explain {
+        font: text(alloc, values, "FONT")?,
+        program: optional_text(alloc, values, "PROGRAM")?,
+        offset: optional_number(values, "OFFSET"),
+        budget: points(values, "POINTS"),
+        profile: asked_profile(values),
+        format: asked_format(values),
     })
 }
 
