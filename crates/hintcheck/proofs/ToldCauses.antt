@@ -81,6 +81,18 @@ some_refused_for rs causes c cs are some none = not_found (subst (λ xs. find (i
     first_found : (xs : List Refused) → xs ≡ c ∷ cs → All (λ cause. find (is_same_cause cause) rs ≡ Some cause) xs → find (is_same_cause c) rs ≡ Some c
     first_found xs e all = All-head (λ cause. find (is_same_cause cause) rs ≡ Some cause) c cs (subst (All (λ cause. find (is_same_cause cause) rs ≡ Some cause)) e all)
 
+-- the same of the causes as the code lists them
+pub causes_told : (rs : List Refused) (cs shown : List Cause) (old new : Option (List ℕ)) → shown ≡ cs → AreCauses rs (map (λ (c : Cause). c.first) cs) → All (λ (c : Cause). c.programs.items ≡ programs_of rs c.first) cs
+    → Appends old new (flat_map (λ (c : Cause). cause_text None c.first c.programs.items) shown) → TellsCauses rs old new
+causes_told rs cs shown old new same are has written = causes_written rs cs old new are has (subst (λ xs. Appends old new (flat_map (λ (c : Cause). cause_text None c.first c.programs.items) xs)) same written)
+
+pub none_told : (rs : List Refused) (cs shown : List Cause) → shown ≡ cs → AreCauses rs (map (λ (c : Cause). c.first) cs) → shown ≡ [] → rs ≡ []
+none_told rs cs shown same are none = none_refused rs (map (λ (c : Cause). c.first) cs) are (ap (map (λ (c : Cause). c.first)) (sym same ∙ none))
+
+pub some_told : (rs : List Refused) (cs shown : List Cause) → shown ≡ cs → AreCauses rs (map (λ (c : Cause). c.first) cs) → shown ≢ [] → rs ≢ []
+some_told rs [] shown same are some = absurd (some same)
+some_told rs (c ∷ cs) shown same are some = some_refused_for rs (map (λ (x : Cause). x.first) (c ∷ cs)) c.first (map (λ (x : Cause). x.first) cs) are refl
+
 no_causes : AreCauses [] []
 no_causes = record {
   one = All-nil (λ r. count_by (λ cause. is_same_cause cause r) [] ≡ 1);

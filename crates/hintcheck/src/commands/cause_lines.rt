@@ -133,6 +133,17 @@ fn print_all<O: Sink>(out: &mut O, causes: &[Cause]) -> Result<(), PrintFailed>
     Ok(())
 }
 
+/// Returns the first program of the first cause, if there is one.
+fn first_program(causes: &[Cause]) -> Option<Name>
+    ensures none { result ≡ None → causes.now ≡ [] }
+    ensures some { result ≢ None → causes.now ≢ [] }
+{
+    match causes {
+        [first, ..] => Some(first.first.program),
+        [] => None,
+    }
+}
+
 /// Prints the lines of the causes for which these programs are refused, and returns the first
 /// program of the most frequent one, if some are refused.
 ///
@@ -153,9 +164,7 @@ pub(super) fn print_causes<O: Sink>(
     let Ok(causes) = causes_of(alloc, refused) else {
         return Err(CommandFault::OutOfMemory);
     };
-    print_all(out, &causes)?;
-    match causes.as_slice() {
-        [first, ..] => Ok(Some(first.first.program)),
-        [] => Ok(None),
-    }
+    let listed = causes.as_slice();
+    print_all(out, listed)?;
+    Ok(first_program(listed))
 }
