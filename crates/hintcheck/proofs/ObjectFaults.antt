@@ -1,18 +1,17 @@
 -- The faults that an explanation's object tells, and those for which there is none.
-use Rattle.std.proofs.Common.{◌≡◌, ◌⊎◌, ℕ, List, Option, Bool, true, false, inl, inr, IfErr, IfOk, IsErrAnd, Result, Ok, Err, refl, subst, sym}
+use Rattle.std.proofs.Common.{◌≡◌, ◌⊎◌, ℕ, List, Option, true, inl, inr, subst, sym}
 use Rattle.std.specs.Io.KnownBytes.{Appends}
 use Rattle.hintcheck_words.specs.declared.words.Format.{Format}
 use Rattle.hintcheck_words.specs.declared.words.Format.TheVariants.{Lines, Json, Causes}
 use Rattle.hintcheck_words.specs.declared.words.Profile.{Profile}
-use Rattle.hintcheck.specs.CommandFaults.{HasObject, IsFaultOfExplainingAs, IsFaultOfFileExplaining, IsFaultOfFontFile, IsFaultOfLines, IsFaultOfObject, IsUnexplained, IsWithin}
-use Rattle.hintcheck.specs.Commands.{IsNoWriteFault, TellsFailure, status_of}
+use Rattle.hintcheck.specs.CommandFaults.{IsFaultOfExplainingAs, IsFaultOfFileExplaining, IsFaultOfFontFile, IsUnexplained, IsWithin}
+use Rattle.hintcheck.specs.Commands.{IsNoWriteFault, status_of}
 use Rattle.hintcheck.specs.JsonObjects.{explanation_object, unread_object}
 use Rattle.hintcheck.specs.Explanations.{status_of_explained}
 use Rattle.hintcheck.specs.MeansSafe.{HoldExplainedBy}
 use Rattle.hintcheck_explain.specs.declared.asked.Explained.{Explained}
 use Rattle.hintcheck.specs.Printed.{PrintsExplanation, PrintsExplanationAs, explained, unexplained}
 use Rattle.hintcheck.specs.Representation.ToldFaults.{fault_in_memory, is_of_font_file}
-use Rattle.hintcheck.specs.Scans.{IsOfScan}
 use Rattle.hintcheck.specs.declared.commands.faults.CommandFault.{CommandFault}
 use Rattle.hintcheck.specs.declared.commands.faults.CommandFault.TheVariants as fault
 
