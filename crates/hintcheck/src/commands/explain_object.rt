@@ -59,13 +59,14 @@ fn explanation_of<R: Files + AllocGlobal>(
     ensures none { OnOk result ((bytes : List ℕ) × HoldPlace bytes word.now offset) }
 {
     let mut sink = Counted::new(Vec::new(rt.alloc()));
-    match explained_of_file(rt, name, word, offset, budget, profile, &mut sink) {
-        Ok(explained) => match String::from_utf8(sink.into_inner()) {
-            Ok(text) => Ok(Explanation { explained, text }),
-            Err(_) => Err(CommandFault::Text),
-        },
-        Err(fault) => Err(of_memory(fault)),
-    }
+    let explained = match explained_of_file(rt, name, word, offset, budget, profile, &mut sink) {
+        Ok(explained) => explained,
+        Err(fault) => return Err(of_memory(fault)),
+    };
+    let Ok(text) = String::from_utf8(sink.into_inner()) else {
+        return Err(CommandFault::Text);
+    };
+    Ok(Explanation { explained, text })
 }
 
 /// Explains by a profile one program of the font file with this name, the one that the word names,

@@ -1,3 +1,4 @@
+use Rattle.std.proofs.Common.{rules}
 use Rattle.hintcheck_fonts.specs.Representation.Judges.{IsRefusedFor}
 use Rattle.hintcheck_fonts.specs.Representation.ProgramOrder.{stage_of, start_at, with_start}
 use Rattle.hintcheck_fonts.proofs.JudgeLaws.{uncut_is_refused}
@@ -20,4 +21,4 @@ returns-in_ok-refused-in-Err-clause-answered g c = λ x next.
 pub returns-in-Ok-clause-answered : goal.returns-in-Ok-clause-answered
 returns-in-Ok-clause-answered g c = λ x next.
     let stage = stage_of c.args.programs.now in
-    c.explain_in.ensures.answered (with_start x (start_at stage)) ? (next_name c.args.programs.now.font.now stage x c.args.next next c.requires.next)
+    c.explain_in.ensures.answered (with_start x (start_at stage)) (search rules) (next_name c.args.programs.now.font.now stage x c.args.next next c.requires.next)

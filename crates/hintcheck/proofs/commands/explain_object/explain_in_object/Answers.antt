@@ -4,7 +4,7 @@ use Rattle.hintcheck.proofs.commands.explain_object.explain_in_object.Goals as g
 pub returns-in_ok-print_explanation_object-in-Ok-clause-printed : goal.returns-in_ok-print_explanation_object-in-Ok-clause-printed
 returns-in_ok-print_explanation_object-in-Ok-clause-printed g c =
     let contents = g.O.Sink.contents in
-    explained_printed c.args.name.now c.args.word.now c.args.offset c.args.budget c.args.profile _ _ _ c.exit_status.result (contents c.args.out.now) (contents c.print_explanation_object.new.out) c.in-Ok.ensures.answered.1
+    explained_printed c.args.name.now c.args.word.now c.args.offset c.args.budget c.args.profile c.in-Ok.ensures.answered.0 c.deref.result.now c.in-Ok.field-0.explained c.exit_status.result (contents c.args.out.now) (contents c.print_explanation_object.new.out) c.in-Ok.ensures.answered.1
     c.exit_status.ensures.status c.in_ok-print_explanation_object-in-Ok.ensures.written
 
 pub returns-in_ok-print_fault_object-in-Err-clause-told : goal.returns-in_ok-print_fault_object-in-Err-clause-told

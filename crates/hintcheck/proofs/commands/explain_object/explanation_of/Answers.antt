@@ -1,4 +1,4 @@
-use Rattle.std.proofs.Common.{inr, subst, sym, ◌×◌}
+use Rattle.std.proofs.Common.{subst, sym}
 use Rattle.hintcheck.specs.CommandFaults.{IsFaultOfFileExplaining, IsWithin}
 use Rattle.hintcheck.specs.Commands.{IsNoWriteFault}
 use Rattle.hintcheck.specs.declared.commands.faults.CommandFault.{CommandFault}
@@ -13,6 +13,3 @@ returns-in-Err-clause-faults g c =
     let (explaining, within) = c.in-Err.ensures.faults in
     subst (λ (f : CommandFault). IsFaultOfFileExplaining c.args.word.now c.args.offset f × IsWithin c.args.budget f) (sym c.of_memory.ensures)
     (memory_explaining c.args.word.now c.args.offset c.in-Err.fault explaining, memory_within c.args.budget c.in-Err.fault within)
-
-pub returns-in-Err-in-Ok-clause-faults : goal.returns-in-Err-in-Ok-clause-faults
-returns-in-Err-in-Ok-clause-faults g c = (inr (c.in-Ok.ensures.none.0, (c.in-Ok.ensures.none.1, tt)), λ same. absurd cc)
