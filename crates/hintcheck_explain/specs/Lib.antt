@@ -1,2 +1,4 @@
 pub mod Faults
+pub mod Representation
 pub mod Texts
+pub mod WhyTexts

@@ -28,11 +28,7 @@ pub(crate) fn tell_cause<O: Sink>(
 {
     let class = class_of(reason, trouble);
     let name = scene.name;
-    let why = Why {
-        scene,
-        reason,
-        trouble,
-    };
+    let why = Why::of(scene, reason, trouble);
     let kind = class_text(reason, class);
     let advice = match trouble {
         Trouble::Range { .. } => ADVICE_ON_RANGE,

@@ -1,5 +1,8 @@
 //! The sentence that says why a program is refused, with the numbers of the case.
 
+ghost use Rattle.std.specs.Prelude.{◌≡◌};
+ghost use Rattle.hintcheck_explain.specs.WhyTexts.{cause_text, role_words, wanted};
+
 use crate::element::Element;
 use crate::exchange::{Exchange, exchange_of};
 use crate::instruction_text::name_of;
@@ -14,6 +17,11 @@ use tt_code::{Instr, Reason};
 pub(crate) struct Numbers(pub usize);
 
 impl fmt::Display for Numbers {
+    ghost use Rattle.std.specs.Prelude.{Some};
+    ghost use Rattle.hintcheck_explain.specs.WhyTexts.{numbers_text};
+
+    ghost output = { λ numbers. Some (numbers_text numbers.0) };
+
     fn fmt<W: fmt::Write>(&self, f: &mut fmt::Formatter<W>) -> fmt::Result {
         match self.0 {
             0 => write!(f, "no number"),
@@ -24,7 +32,9 @@ impl fmt::Display for Numbers {
 }
 
 /// Returns what a number is used as, in words.
-fn role_text(role: Role) -> &'static str {
+fn role_text(role: Role) -> &'static str
+    ensures { result.now ≡ role_words role }
+{
     match role {
         Role::Point => "the number of a point",
         Role::ControlValue => "the index of a control value",
@@ -43,6 +53,8 @@ fn role_text(role: Role) -> &'static str {
 #[derive(Clone, Copy)]
 pub(crate) struct Scene<'a> {
     setting: &'a Setting<'a>,
+    /// How many points the glyph zone has, phantom points included.
+    glyph_points: u32,
     /// The instruction's name: words for the program's end where there is none.
     pub name: &'static str,
     code: u8,
@@ -80,6 +92,7 @@ impl<'a> Scene<'a> {
     pub(crate) fn nowhere(setting: &'a Setting<'a>) -> Scene<'a> {
         Scene {
             setting,
+            glyph_points: setting.points_in(ZoneCell::One),
             name: "",
             code: 0,
             offset: 0,
@@ -95,16 +108,22 @@ impl<'a> Scene<'a> {
 /// Where the bound of an index comes from.
 #[derive(Clone, Copy)]
 struct BoundText<'a> {
-    setting: &'a Setting<'a>,
+    scene: Scene<'a>,
     role: Role,
 }
 
 impl fmt::Display for BoundText<'_> {
+    ghost use Rattle.std.specs.Prelude.{Some};
+    ghost use Rattle.hintcheck_explain.specs.WhyTexts.{bound_text};
+
+    ghost output = { λ text. Some (bound_text text.scene text.role) };
+
     fn fmt<W: fmt::Write>(&self, f: &mut fmt::Formatter<W>) -> fmt::Result {
-        let limits = self.setting.limits;
+        let setting = self.scene.setting;
+        let limits = setting.limits;
         match self.role {
             Role::Point => {
-                let glyph = self.setting.points_in(ZoneCell::One);
+                let glyph = self.scene.glyph_points;
                 let twilight = limits.twilight;
                 write!(
                     f,
@@ -113,7 +132,7 @@ impl fmt::Display for BoundText<'_> {
                 write!(f, "and the twilight zone {twilight}")
             }
             Role::ControlValue => {
-                let cvt = self.setting.cvt;
+                let cvt = setting.cvt;
                 write!(f, "the font has {cvt} control values")
             }
             Role::StorageCell => {
@@ -139,13 +158,18 @@ struct IndexText<'a> {
 }
 
 impl fmt::Display for IndexText<'_> {
+    ghost use Rattle.std.specs.Prelude.{Some};
+    ghost use Rattle.hintcheck_explain.specs.WhyTexts.{index_text};
+
+    ghost output = { λ text. Some (index_text text.scene text.role text.number text.bound) };
+
     fn fmt<W: fmt::Write>(&self, f: &mut fmt::Formatter<W>) -> fmt::Result {
         let name = self.scene.name;
         let number = self.number;
         let bound = self.bound;
         let text = role_text(self.role);
         let reason = BoundText {
-            setting: self.scene.setting,
+            scene: self.scene,
             role: self.role,
         };
         write!(
@@ -204,6 +228,11 @@ struct RangeText<'a> {
 }
 
 impl fmt::Display for RangeText<'_> {
+    ghost use Rattle.std.specs.Prelude.{Some};
+    ghost use Rattle.hintcheck_explain.specs.WhyTexts.{range_text};
+
+    ghost output = { λ text. Some (range_text text.scene text.element text.role text.low text.high text.bound) };
+
     fn fmt<W: fmt::Write>(&self, f: &mut fmt::Formatter<W>) -> fmt::Result {
         let name = self.scene.name;
         let element = self.element;
@@ -212,7 +241,7 @@ impl fmt::Display for RangeText<'_> {
         let high = self.high;
         let bound = self.bound;
         let reason = BoundText {
-            setting: self.scene.setting,
+            scene: self.scene,
             role: self.role,
         };
         write!(
@@ -236,7 +265,9 @@ struct DepthText<'a> {
 
 impl DepthText<'_> {
     /// Returns how many cells the instruction takes, of which the stack hasn't enough.
-    fn wanted(&self) -> usize {
+    fn wanted(&self) -> usize
+        ensures { result ≡ wanted self.now.scene self.now.failed }
+    {
         let takes = self.scene.exchange.takes;
         let least = match self.failed {
             Failed::NoElement { index } => usize::try_from(index).unwrap_or(0),
@@ -247,6 +278,11 @@ impl DepthText<'_> {
 }
 
 impl fmt::Display for DepthText<'_> {
+    ghost use Rattle.std.specs.Prelude.{Some};
+    ghost use Rattle.hintcheck_explain.specs.WhyTexts.{depth_text};
+
+    ghost output = { λ text. Some (depth_text text.scene text.failed) };
+
     fn fmt<W: fmt::Write>(&self, f: &mut fmt::Formatter<W>) -> fmt::Result {
         let name = self.scene.name;
         let depth = self.scene.depth;
@@ -282,6 +318,11 @@ struct NumberText<'a> {
 }
 
 impl fmt::Display for NumberText<'_> {
+    ghost use Rattle.std.specs.Prelude.{Some};
+    ghost use Rattle.hintcheck_explain.specs.WhyTexts.{number_text};
+
+    ghost output = { λ text. Some (number_text text.scene text.failed) };
+
     fn fmt<W: fmt::Write>(&self, f: &mut fmt::Formatter<W>) -> fmt::Result {
         let name = self.scene.name;
         match self.failed {
@@ -343,6 +384,11 @@ struct WayText<'a> {
 }
 
 impl fmt::Display for WayText<'_> {
+    ghost use Rattle.std.specs.Prelude.{Some};
+    ghost use Rattle.hintcheck_explain.specs.WhyTexts.{way_text};
+
+    ghost output = { λ text. Some (way_text text.scene text.failed) };
+
     fn fmt<W: fmt::Write>(&self, f: &mut fmt::Formatter<W>) -> fmt::Result {
         let name = self.scene.name;
         match self.failed {
@@ -387,14 +433,21 @@ impl fmt::Display for WayText<'_> {
 #[derive(Clone, Copy)]
 struct FailedText<'a> {
     scene: Scene<'a>,
+    /// The index that is out of range, if that is why.
+    beyond: Option<Beyond>,
     failed: Failed,
 }
 
 impl fmt::Display for FailedText<'_> {
+    ghost use Rattle.std.specs.Prelude.{Some};
+    ghost use Rattle.hintcheck_explain.specs.WhyTexts.{failed_text};
+
+    ghost output = { λ text. Some (failed_text text.scene text.beyond text.failed) };
+
     fn fmt<W: fmt::Write>(&self, f: &mut fmt::Formatter<W>) -> fmt::Result {
         let scene = self.scene;
         let failed = self.failed;
-        if let Some(beyond) = Beyond::of(scene.setting, failed) {
+        if let Some(beyond) = self.beyond {
             let Beyond {
                 role,
                 number,
@@ -433,13 +486,33 @@ impl fmt::Display for FailedText<'_> {
 /// Why a program is refused.
 #[derive(Clone, Copy)]
 pub(crate) struct Why<'a> {
-    pub scene: Scene<'a>,
-    pub reason: Reason,
-    pub trouble: Trouble,
+    scene: Scene<'a>,
+    reason: Reason,
+    /// The index that is out of range, if that is why.
+    beyond: Option<Beyond>,
+    trouble: Trouble,
+}
+
+impl<'a> Why<'a> {
+    /// Makes what is told where this fails.
+    pub(crate) fn of(scene: Scene<'a>, reason: Reason, trouble: Trouble) -> Why<'a> {
+        let beyond = match trouble {
+            Trouble::Failed(failed) => Beyond::of(scene.setting, failed),
+            _ => None,
+        };
+        Why {
+            scene,
+            reason,
+            beyond,
+            trouble,
+        }
+    }
 }
 
 /// Returns why a program is refused where the reason says all.
-fn reason_text(reason: Reason) -> &'static str {
+fn reason_text(reason: Reason) -> &'static str
+    ensures { result.now ≡ cause_text reason }
+{
     match reason {
         Reason::InstructionDefinition => "IDEF defines an instruction, which isn't followed.",
         Reason::Definition => "FDEF defines a function in a glyph program, which may define none.",
@@ -466,6 +539,11 @@ struct DepthsText {
 }
 
 impl fmt::Display for DepthsText {
+    ghost use Rattle.std.specs.Prelude.{Some};
+    ghost use Rattle.hintcheck_explain.specs.WhyTexts.{depths_text};
+
+    ghost output = { λ text. Some (depths_text text.one text.other) };
+
     fn fmt<W: fmt::Write>(&self, f: &mut fmt::Formatter<W>) -> fmt::Result {
         let one = self.one;
         let other = self.other;
@@ -475,11 +553,21 @@ impl fmt::Display for DepthsText {
 }
 
 impl fmt::Display for Why<'_> {
+    ghost use Rattle.std.specs.Prelude.{Some};
+    ghost use Rattle.hintcheck_explain.specs.WhyTexts.{why_text};
+
+    ghost output = { λ why. Some (why_text why) };
+
     fn fmt<W: fmt::Write>(&self, f: &mut fmt::Formatter<W>) -> fmt::Result {
         let scene = self.scene;
         match self.trouble {
             Trouble::Failed(failed) => {
-                let text = FailedText { scene, failed };
+                let beyond = self.beyond;
+                let text = FailedText {
+                    scene,
+                    beyond,
+                    failed,
+                };
                 write!(f, "{text}")
             }
             Trouble::Range {

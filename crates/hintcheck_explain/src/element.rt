@@ -71,6 +71,11 @@ impl Element {
 }
 
 impl fmt::Display for Element {
+    ghost use Rattle.std.specs.Prelude.{Some};
+    ghost use Rattle.hintcheck_explain.specs.WhyTexts.{element_text};
+
+    ghost output = { λ element. Some (element_text element) };
+
     fn fmt<W: fmt::Write>(&self, f: &mut fmt::Formatter<W>) -> fmt::Result {
         match self {
             Element::Stack(_) => write!(f, "the number on the stack"),
