@@ -1,1 +1,2 @@
+pub mod WhyLemmas
 pub mod Written

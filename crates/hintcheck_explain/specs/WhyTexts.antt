@@ -1,8 +1,8 @@
 -- Why a program is refused, in words, with the numbers of the case. (Own: the texts are this
 -- product's.)
-use Rattle.std.specs.Prelude.{◌==◌, codes, ℕ, ◌+◌, ◌^◌, ◌-◌, ◌/◌, ◌%◌, false, min, max, ℤ, pos, ◌+ℤ◌, if◌then◌else◌, List, [], ◌∷◌, ◌++◌, None, Option, Some, w64}
+use Rattle.std.specs.Prelude.{◌==◌, codes, ℕ, ◌+◌, ◌^◌, ◌-◌, ◌/◌, ◌%◌, false, min, max, ℤ, pos, ◌+ℤ◌, if◌then◌else◌, List, [], ◌∷◌, ◌++◌, None, Option, Some}
 use Rattle.std.specs.Fmt.{decimal, digit_glyph, signed_decimal}
-use Rattle.std.specs.Int.{saturate_signed}
+use Rattle.std.specs.Int.{saturate_signed, w64}
 use Rattle.tt_code.specs.Changes.{natural}
 use Rattle.tt_code.specs.declared.reason.Reason.{Reason}
 use Rattle.tt_code.specs.declared.reason.Reason.TheVariants as reason

@@ -1,7 +1,7 @@
 //! From where states come to a point.
 
 ghost use Rattle.std.specs.Prelude.{◌≡◌, IfSome};
-ghost use Rattle.hintcheck_explain.specs.Representation.Causes.{BringsDepths};
+ghost use Rattle.hintcheck_explain.specs.Causes.{BringsDepths};
 
 use crate::describing::Numbers;
 use crate::explored_program::ExploredProgram;

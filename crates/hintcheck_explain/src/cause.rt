@@ -1,6 +1,8 @@
 //! Prints what a refusal means by either profile: why, its class, and what to do.
 
-ghost use Rattle.tt_stream.specs.Streams.{CountsPrintFailure};
+ghost use Rattle.std.specs.Prelude.{OnOk};
+ghost use Rattle.tt_stream.specs.Streams.{AppendsOnly, CountsPrintFailure};
+ghost use Rattle.hintcheck_explain.specs.Causes.{IsCauseOfProgram, WritesWhy};
 
 use crate::describing::{Scene, Why};
 use crate::meaning::{ADVICE_ON_RANGE, advice_of, class_of, class_text};
@@ -10,7 +12,9 @@ use tt_code::Reason;
 use tt_stream::{PrintFailed, Sink};
 
 /// Returns what fails of a program that is refused for this reason at no state.
-pub(crate) fn trouble_of_program(setting: &Setting<'_>, reason: Reason) -> Trouble {
+pub(crate) fn trouble_of_program(setting: &Setting<'_>, reason: Reason) -> Trouble
+    ensures { IsCauseOfProgram setting.now reason result }
+{
     match reason {
         Reason::ProgramTooLong => Trouble::Length(setting.main.len()),
         _ => Trouble::Other,
@@ -24,6 +28,9 @@ pub(crate) fn tell_cause<O: Sink>(
     trouble: Trouble,
     out: &mut O,
 ) -> Result<(), PrintFailed>
+    ensures begins { OnOk result
+        (WritesWhy scene.entry reason trouble (O.contents out.old) (O.contents out.new)) }
+    ensures kept { AppendsOnly (O.contents out.old) (O.contents out.new) }
     ensures failures { CountsPrintFailure result (O.failures out.old) (O.failures out.new) }
 {
     let class = class_of(reason, trouble);

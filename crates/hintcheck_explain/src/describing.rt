@@ -1,6 +1,8 @@
 //! The sentence that says why a program is refused, with the numbers of the case.
 
-ghost use Rattle.std.specs.Prelude.{◌≡◌};
+ghost use Rattle.std.specs.Prelude.{◌≡◌, option_map};
+ghost use Rattle.tt_abs.specs.Settings.{setting_of};
+ghost use Rattle.hintcheck_explain.specs.Causes.{IsBeyondFor, IsMadeOf, IsSceneAt};
 ghost use Rattle.hintcheck_explain.specs.WhyTexts.{cause_text, role_words, wanted};
 
 use crate::element::Element;
@@ -70,7 +72,10 @@ impl<'a> Scene<'a> {
         instruction: Option<&Instr<'_>>,
         offset: u32,
         view: View<'_>,
-    ) -> Scene<'a> {
+    ) -> Scene<'a>
+        ensures { IsSceneAt setting.now (option_map (λ i. i.now) instruction.entry) offset view.entry
+            result }
+    {
         let scene = Scene {
             name: "the program's end",
             offset,
@@ -89,7 +94,9 @@ impl<'a> Scene<'a> {
     }
 
     /// Makes the scene of a program of which nothing is known where it is refused.
-    pub(crate) fn nowhere(setting: &'a Setting<'a>) -> Scene<'a> {
+    pub(crate) fn nowhere(setting: &'a Setting<'a>) -> Scene<'a>
+        ensures { result.setting ≡ setting.entry }
+    {
         Scene {
             setting,
             glyph_points: setting.points_in(ZoneCell::One),
@@ -191,7 +198,9 @@ pub(crate) struct Beyond {
 
 impl Beyond {
     /// Returns the index that is out of range, if that is why this test fails.
-    pub(crate) fn of(setting: &Setting<'_>, failed: Failed) -> Option<Beyond> {
+    pub(crate) fn of(setting: &Setting<'_>, failed: Failed) -> Option<Beyond>
+        ensures { IsBeyondFor (setting_of setting.now) failed result }
+    {
         let limits = setting.limits;
         let (role, number, bound) = match failed {
             Failed::NoPoint { zone, number } => (Role::Point, number, setting.points_in(zone)),
@@ -495,7 +504,9 @@ pub(crate) struct Why<'a> {
 
 impl<'a> Why<'a> {
     /// Makes what is told where this fails.
-    pub(crate) fn of(scene: Scene<'a>, reason: Reason, trouble: Trouble) -> Why<'a> {
+    pub(crate) fn of(scene: Scene<'a>, reason: Reason, trouble: Trouble) -> Why<'a>
+        ensures { IsMadeOf scene.entry reason trouble result }
+    {
         let beyond = match trouble {
             Trouble::Failed(failed) => Beyond::of(scene.setting, failed),
             _ => None,

@@ -1,6 +1,6 @@
 //! What an instruction takes from the stack and pushes onto it, in words.
 
-ghost use Rattle.tt_stream.specs.Streams.{CountsPrintFailure};
+ghost use Rattle.tt_stream.specs.Streams.{AppendsOnly, CountsPrintFailure};
 
 use crate::describing::Numbers;
 use crate::exchange::{Exchange, exchange_of};
@@ -122,6 +122,7 @@ pub(crate) fn tell_effect<O: Sink>(
     view: View<'_>,
     out: &mut O,
 ) -> Result<(), PrintFailed>
+    ensures kept { AppendsOnly (O.contents out.old) (O.contents out.new) }
     ensures failures { CountsPrintFailure result (O.failures out.old) (O.failures out.new) }
 {
     match instruction {

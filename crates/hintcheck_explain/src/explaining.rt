@@ -1,9 +1,10 @@
 //! Explains a program that could be cut and is structured.
 
-ghost use Rattle.std.specs.Prelude.{◌≡◌, Ok};
+ghost use Rattle.std.specs.Prelude.{◌≡◌, None, Ok, OnOk};
 ghost use Rattle.tt_abs.specs.Entries.{Ascends};
 ghost use Rattle.tt_abs.specs.Settings.{setting_of};
 ghost use Rattle.tt_abs.specs.StateFlow.{FunctionsFit};
+ghost use Rattle.hintcheck_explain.specs.Causes.{BeginsWithRefusal, TellsWhyAt};
 ghost use Rattle.hintcheck_explain.specs.Faults.{AsksForInstruction, HasLeast, HasRefusal, TellsFailure};
 
 use crate::accepted::tell_accepted;
@@ -56,7 +57,7 @@ fn explain_accepted<O: Sink>(
     }
 }
 
-/// Explains a refused program.
+/// Explains a program that is refused, after the line that tells so.
 fn explain_refused<O: Sink>(
     alloc: Global,
     subject: &ExploredProgram<'_>,
@@ -66,10 +67,10 @@ fn explain_refused<O: Sink>(
     failed: Failed,
     out: &mut O,
 ) -> Result<(), ExplainFault>
+    ensures why { asked.offset ≡ None → OnOk result (TellsWhyAt subject.now.setting.now spot offset
+        failed (O.contents out.old) (O.contents out.new)) }
     ensures failures { TellsFailure result (O.failures out.old) (O.failures out.new) }
 {
-    let refused = Refused::at(subject.name, spot, offset, failed.reason());
-    writeln!(out, "{refused}")?;
     match asked.offset {
         Some(offset) => tell_place(alloc, subject, offset, out),
         None => tell_refusal(alloc, subject, spot, offset, failed, out),
@@ -95,6 +96,8 @@ pub fn explain<O: Sink>(
     requires place { AsksForInstruction setting.now asked }
     ensures accepted { result ≡ Ok Explained.Accepted → HasLeast setting.now }
     ensures refused { result ≡ Ok Explained.Refused → HasRefusal setting.now }
+    ensures begins { result ≡ Ok Explained.Refused → asked.offset ≡ None → BeginsWithRefusal
+        setting.now asked.program (O.contents out.old) (O.contents out.new) }
     ensures failures { TellsFailure result (O.failures out.old) (O.failures out.new) }
 {
     let explored = explore(alloc, setting, budget)?;
@@ -115,6 +118,8 @@ pub fn explain<O: Sink>(
                 failed,
             },
         ) => {
+            let refused = Refused::at(asked.program, spot, offset, failed.reason());
+            writeln!(out, "{refused}")?;
             explain_refused(alloc, &subject, asked, spot, offset, failed, out)?;
             tell_needs(alloc, setting, asked, failed.reason(), budget, out)?;
             Ok(Explained::Refused)

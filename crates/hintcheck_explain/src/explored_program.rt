@@ -1,8 +1,10 @@
 //! A program with what the search has found of it.
 
 ghost use Rattle.std.specs.Prelude.{◌≡◌, ◌<◌, IfOk, length, reverse};
+ghost use Rattle.tt_code.specs.Cut.{instruction_at};
 ghost use Rattle.tt_abs.specs.Spots.{spot_of};
 ghost use Rattle.tt_family.specs.Contents.{frames_at};
+ghost use Rattle.hintcheck_explain.specs.Causes.{program_in};
 
 use crate::instruction_text::name_of;
 use hintcheck_report::Place;
@@ -41,7 +43,11 @@ impl<'a> ExploredProgram<'a> {
     }
 
     /// Returns the instruction at a point.
-    pub(crate) fn instruction_at(&self, point: PointKey) -> Option<Instr<'a>> {
+    pub(crate) fn instruction_at(&self, point: PointKey) -> Option<Instr<'a>>
+        ensures { point.0 < length self.now.certificate.now.contexts → result ≡ instruction_at
+            (program_in self.now.setting.now
+            (spot_of (frames_at self.now.certificate.now.contexts point.0))) point.1 }
+    {
         self.code(self.spot(point.0)).at(point.1)
     }
 
@@ -63,7 +69,9 @@ impl<'a> ExploredProgram<'a> {
     }
 
     /// Returns the program of a spot.
-    pub(crate) fn code(&self, spot: Spot) -> &'a Program<'a> {
+    pub(crate) fn code(&self, spot: Spot) -> &'a Program<'a>
+        ensures { result.now ≡ program_in self.now.setting.now spot }
+    {
         match spot {
             Spot::Main => self.setting.main,
             Spot::Font => self.setting.font,

@@ -1,5 +1,8 @@
 //! Instructions as they are printed: the name, and what a push instruction pushes.
 
+ghost use Rattle.std.specs.Prelude.{◌≡◌};
+ghost use Rattle.hintcheck_explain.specs.Causes.{code_name};
+
 use std::fmt;
 use tt_code::kinds::{Effect, Push};
 use tt_code::{entry, name};
@@ -29,7 +32,9 @@ fn number_of_data(push: Push, data: &[u8], index: usize) -> Option<i32> {
 }
 
 /// Returns the name of the instruction with this code: `?` where the instruction set has none.
-pub(crate) fn name_of(code: u8) -> &'static str {
+pub(crate) fn name_of(code: u8) -> &'static str
+    ensures { result.now ≡ code_name code }
+{
     match name(code) {
         Some(name) => name,
         None => "?",

@@ -6,6 +6,7 @@ ghost use Rattle.tt_abs.specs.Entries.{Ascends};
 ghost use Rattle.tt_abs.specs.Settings.{setting_of};
 ghost use Rattle.tt_abs.specs.StateFlow.{FunctionsFit};
 ghost use Rattle.tt_find.specs.FoundSubjects.{IsJustifiedFor};
+ghost use Rattle.tt_stream.specs.Streams.{AppendsOnly};
 ghost use Rattle.hintcheck_explain.specs.Faults.{HasLeast, TellsFailure};
 ghost use Rattle.hintcheck_explain.specs.Representation.Needs.{raised};
 
@@ -142,6 +143,7 @@ pub(crate) fn tell_needs<O: Sink>(
 ) -> Result<(), ExplainFault>
     requires ascends { Ascends setting.now.start.now }
     requires fits { FunctionsFit (setting_of setting.now) setting.now.start.now }
+    ensures kept { AppendsOnly (O.contents out.old) (O.contents out.new) }
     ensures failures { TellsFailure result (O.failures out.old) (O.failures out.new) }
 {
     let Some(limit) = limit_of(reason) else {

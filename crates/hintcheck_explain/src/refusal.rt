@@ -1,9 +1,10 @@
 //! Explains why a program is refused.
 
-ghost use Rattle.std.specs.Prelude.{IfOk, IfSome, reverse};
+ghost use Rattle.std.specs.Prelude.{IfOk, IfSome, OnOk, reverse, ℕ};
 ghost use Rattle.tt_abs.specs.Settings.{setting_of};
-ghost use Rattle.tt_stream.specs.Streams.{CountsPrintFailure};
-ghost use Rattle.hintcheck_explain.specs.Representation.Causes.{IsCause, IsCaseOf};
+ghost use Rattle.tt_abs.specs.declared.spot.Spot.{Spot};
+ghost use Rattle.tt_stream.specs.Streams.{AppendsOnly, CountsPrintFailure};
+ghost use Rattle.hintcheck_explain.specs.Causes.{IsCause, IsCaseOf, TellsWhyAt};
 ghost use Rattle.hintcheck_explain.specs.Faults.{TellsFailure};
 
 use crate::arrivals::{Edge, Ways, depths_at, edges_of};
@@ -109,6 +110,7 @@ fn tell_origin<O: Sink>(
     case: &Case<'_>,
     out: &mut O,
 ) -> Result<(), ExplainFault>
+    ensures kept { AppendsOnly (O.contents out.old) (O.contents out.new) }
     ensures failures { TellsFailure result (O.failures out.old) (O.failures out.new) }
 {
     if let Some(element) = case.trouble.element(case.state.depth()) {
@@ -126,6 +128,7 @@ fn tell_knowledge<O: Sink>(
     case: &Case<'_>,
     out: &mut O,
 ) -> Result<(), PrintFailed>
+    ensures kept { AppendsOnly (O.contents out.old) (O.contents out.new) }
     ensures failures { CountsPrintFailure result (O.failures out.old) (O.failures out.new) }
 {
     let calls = Calls {
@@ -153,6 +156,7 @@ fn tell_route<O: Sink>(
     point: PointKey,
     out: &mut O,
 ) -> Result<(), ExplainFault>
+    ensures kept { AppendsOnly (O.contents out.old) (O.contents out.new) }
     ensures failures { TellsFailure result (O.failures out.old) (O.failures out.new) }
 {
     let branches = branches_to(alloc, subject, edges, point)?;
@@ -174,6 +178,7 @@ fn tell_routes<O: Sink>(
     case: &Case<'_>,
     out: &mut O,
 ) -> Result<(), ExplainFault>
+    ensures kept { AppendsOnly (O.contents out.old) (O.contents out.new) }
     ensures failures { TellsFailure result (O.failures out.old) (O.failures out.new) }
 {
     if let Trouble::Depths { one, other } = case.trouble {
@@ -193,6 +198,11 @@ fn tell_case<O: Sink>(
     failed: Failed,
     out: &mut O,
 ) -> Result<(), ExplainFault>
+    ensures why { (at : Spot) (offset : ℕ)
+        → IfSome case.entry (λ case. IsCaseOf subject.now at offset failed case.now)
+        → OnOk result (TellsWhyAt subject.now.setting.now at offset failed
+        (O.contents out.old) (O.contents out.new)) }
+    ensures kept { AppendsOnly (O.contents out.old) (O.contents out.new) }
     ensures failures { TellsFailure result (O.failures out.old) (O.failures out.new) }
 {
     let reason = failed.reason();
@@ -227,6 +237,9 @@ pub(crate) fn tell_refusal<O: Sink>(
     failed: Failed,
     out: &mut O,
 ) -> Result<(), ExplainFault>
+    ensures why { OnOk result (TellsWhyAt subject.now.setting.now spot offset failed
+        (O.contents out.old) (O.contents out.new)) }
+    ensures kept { AppendsOnly (O.contents out.old) (O.contents out.new) }
     ensures failures { TellsFailure result (O.failures out.old) (O.failures out.new) }
 {
     let edges = edges_of(alloc, subject)?;

@@ -2,7 +2,7 @@
 
 ghost use Rattle.std.specs.Prelude.{IfOk, reverse};
 ghost use Rattle.tt_abs.specs.Settings.{setting_of};
-ghost use Rattle.hintcheck_explain.specs.Representation.Causes.{TellsRefused};
+ghost use Rattle.hintcheck_explain.specs.Causes.{TellsRefused};
 
 use std::alloc::AllocError;
 use tt_abs::{Failed, Moves, Point, Setting, State, StepFault, step_at};

@@ -1,6 +1,8 @@
 //! Explains what the symbolic profile answers for a program that could be cut and is structured.
 
-ghost use Rattle.tt_stream.specs.Streams.{CountsPrintFailure};
+ghost use Rattle.std.specs.Prelude.{◌≡◌, IfSome, None, OnOk};
+ghost use Rattle.tt_stream.specs.Streams.{AppendsOnly, CountsPrintFailure};
+ghost use Rattle.hintcheck_explain.specs.Causes.{TellsRefusal, TellsWhyOf};
 ghost use Rattle.hintcheck_explain.specs.Faults.{TellsFailure};
 
 use crate::accepted::count_instructions;
@@ -92,6 +94,7 @@ fn tell_state<O: Sink>(
     known: &KnownState,
     out: &mut O,
 ) -> Result<(), ExplainFault>
+    ensures kept { AppendsOnly (O.contents out.old) (O.contents out.new) }
     ensures failures { TellsFailure result (O.failures out.old) (O.failures out.new) }
 {
     let state = &known.state;
@@ -172,6 +175,7 @@ fn tell_origin<O: Sink>(
     trouble: Trouble,
     out: &mut O,
 ) -> Result<(), PrintFailed>
+    ensures kept { AppendsOnly (O.contents out.old) (O.contents out.new) }
     ensures failures { CountsPrintFailure result (O.failures out.old) (O.failures out.new) }
 {
     let Some(element) = trouble.element(known.state.stack.len()) else {
@@ -199,6 +203,9 @@ fn tell_case<O: Sink>(
     reason: Reason,
     out: &mut O,
 ) -> Result<(), ExplainFault>
+    ensures why { OnOk result (TellsWhyOf searched.entry.setting.now reason
+        (O.contents out.old) (O.contents out.new)) }
+    ensures kept { AppendsOnly (O.contents out.old) (O.contents out.new) }
     ensures failures { TellsFailure result (O.failures out.old) (O.failures out.new) }
 {
     let Some(known) = searched.refused() else {
@@ -225,6 +232,9 @@ fn tell_refused<O: Sink>(
     offset: Option<u32>,
     out: &mut O,
 ) -> Result<(), ExplainFault>
+    ensures begins { offset ≡ None → OnOk result
+        (TellsRefusal searched.entry.setting.now refused (O.contents out.old) (O.contents out.new)) }
+    ensures kept { AppendsOnly (O.contents out.old) (O.contents out.new) }
     ensures failures { TellsFailure result (O.failures out.old) (O.failures out.new) }
 {
     writeln!(out, "{refused}")?;
@@ -251,6 +261,8 @@ pub fn explain_symbolic<O: Sink>(
     insight: Option<&Insight>,
     out: &mut O,
 ) -> Result<(), ExplainFault>
+    ensures begins { asked.offset ≡ None → OnOk result (IfSome refused (λ refused.
+        TellsRefusal setting.now refused (O.contents out.old) (O.contents out.new))) }
     ensures failures { TellsFailure result (O.failures out.old) (O.failures out.new) }
 {
     let searched = Searched {

@@ -1,7 +1,7 @@
 //! Which test of an instruction fails on what a symbolic state knows.
 
 ghost use Rattle.std.specs.Prelude.{IfOk, IsTrue};
-ghost use Rattle.hintcheck_explain.specs.Representation.Causes.{HasReason};
+ghost use Rattle.hintcheck_explain.specs.Causes.{HasReason};
 
 use crate::describing::Beyond;
 use crate::element::Element;

@@ -1,5 +1,7 @@
 //! What is known at a place, by either profile.
 
+ghost use Rattle.hintcheck_explain.specs.Causes.{HasDepth};
+
 use crate::element::Element;
 use tt_abs::{Cell, State, ZoneCell};
 use tt_code::kinds::Pointer;
@@ -92,7 +94,9 @@ pub(crate) enum View<'a> {
 
 impl<'a> View<'a> {
     /// Returns how many numbers are on the stack.
-    pub(crate) fn depth(self) -> usize {
+    pub(crate) fn depth(self) -> usize
+        ensures { HasDepth self.entry result }
+    {
         match self {
             View::Strict(state) => state.depth(),
             View::Symbolic(state) => state.stack.len(),
