@@ -1,7 +1,7 @@
 //! The directory of a font file, which says where its tables are (OpenType specification, "Table
 //! directory").
 
-ghost use Rattle.std.specs.Prelude.{◌≡◌, ◌==◌, ◌+◌, ◌*◌, ◌≤◌, ◌<◌, ◌^◌, length, IfOk, IfSome};
+ghost use Rattle.std.specs.Prelude.{◌≡◌, ◌==◌, ◌+◌, ◌*◌, ◌≤◌, ◌<◌, ◌^◌, take, drop, length, IfOk, IfSome};
 ghost use Rattle.std.specs.Option.{option_map};
 ghost use Rattle.tt_font.specs.Numbers.{u32_at, first_below};
 ghost use Rattle.tt_font.specs.Directory.{record_count, record_place, first_record, extent, table};
@@ -44,6 +44,35 @@ fn find_record(bytes: &[u8], count: u16, tag: u32) -> Option<u16>
         }
     }
     None
+}
+
+/// Returns at most `len` bytes from an offset on, as far as they are there.
+fn part(bytes: &[u8], offset: u32, len: u32) -> &[u8]
+    ensures part { result.now ≡ take len (drop offset bytes.now) }
+    ensures small { length result.now < 2 ^ 32 }
+{
+    let rest = &bytes[bytes.len().min(offset as usize)..];
+    &rest[..rest.len().min(len as usize)]
+}
+
+/// Returns the bytes of a table of a font file whose directory is whole, as those of any font that
+/// is read are: the bytes that the first record with the table's tag names, as far as they are
+/// there, and no bytes where there is no such record.
+#[tactic(auto, unfolding(crate::specs::Directory::table))]
+pub fn table(bytes: &[u8], tag: Tag) -> &[u8]
+    requires { 12 + 16 * record_count bytes.now ≤ length bytes.now }
+    ensures table { result.now ≡ table tag bytes.now }
+    ensures small { length result.now < 2 ^ 32 }
+{
+    let directory = Directory {
+        bytes,
+        // `numTables`.
+        count: u16_at(bytes, 4),
+    };
+    match directory.extent(tag) {
+        Some(extent) => part(bytes, extent.offset, extent.len),
+        None => &[],
+    }
 }
 
 impl<'a> Directory<'a> {

@@ -17,9 +17,11 @@ mod programs;
 mod tables;
 mod tag;
 
+pub use directory::table;
 pub use fault::FontFault;
 pub use font::Font;
 pub use glyph_part::GlyphPart;
 pub use laws::definitions_hold;
 pub use maxp::read_maxp;
+pub use numbers::{u16_at, u32_at};
 pub use tag::Tag;

@@ -22,6 +22,8 @@ pub enum Tag {
     Loca,
     /// The maximum profile: what the programs may use.
     Maxp,
+    /// The names of the glyphs, among others.
+    Post,
     /// The CVT program.
     Prep,
 }
@@ -38,6 +40,7 @@ impl Tag {
             Tag::Head => *b"head",
             Tag::Loca => *b"loca",
             Tag::Maxp => *b"maxp",
+            Tag::Post => *b"post",
             Tag::Prep => *b"prep",
         }
     }
@@ -64,6 +67,7 @@ impl fmt::Display for Tag {
             Tag::Head => "head",
             Tag::Loca => "loca",
             Tag::Maxp => "maxp",
+            Tag::Post => "post",
             Tag::Prep => "prep",
         })
     }
