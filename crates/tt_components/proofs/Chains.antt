@@ -7,9 +7,9 @@ use Rattle.tt_font.specs.Files.{font_glyph_count, font_glyphs, font_outlines}
 use Rattle.tt_font.specs.Laws.{HasWay, IsWay}
 use Rattle.tt_font.specs.Outlines.{Outline, leads_out, parts, starts_chain}
 use Rattle.tt_font.proofs.CountLemmas.{outline_past}
+use Rattle.tt_font.proofs.FontFacts.{is_font}
 use Rattle.tt_font.proofs.LawProofs.{finds_ways_out, starts_ways}
 use Rattle.tt_components.specs.Closed.{Reaches}
-use Rattle.tt_components.proofs.FontFacts.{is_font}
 
 way_on : (outlines : ℕ → Outline) (id : ℕ) (way more : List ℕ) → IsWay outlines id way → IsWay outlines (end_of outlines id way) more → IsWay outlines id (way ++ more)
 way_on outlines id [] more steps on = on

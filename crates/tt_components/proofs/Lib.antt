@@ -1,4 +1,3 @@
-pub mod FontFacts
 pub mod Chains
 pub mod Retaining
 pub mod ComponentTests

@@ -1,5 +1,3 @@
 -- How the code keeps what the definitions speak of: private contracts cite these, and no public one
 -- does.
-pub mod FontGlyphs
-pub mod NamedGlyphs
 pub mod Retained

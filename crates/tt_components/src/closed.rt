@@ -5,18 +5,18 @@ ghost use Rattle.std.specs.List.{list_all};
 ghost use Rattle.tt_font.specs.FileFaults.{font_fault};
 ghost use Rattle.tt_font.specs.Files.{font_glyph_count, font_outlines};
 ghost use Rattle.tt_font.specs.Outlines.{parts};
+ghost use Rattle.tt_font.specs.PlacedGlyphs.{outlines_in};
 ghost use Rattle.tt_components.specs.Closed.{HasAllReached, is_in};
-ghost use Rattle.tt_components.specs.Representation.FontGlyphs.{outlines_in};
 ghost use Rattle.tt_components.specs.Representation.Retained.{TakesOut};
 
 use crate::component::{has_parts_in, is_in};
-use crate::glyphs::Glyphs;
+use tt_font::GlyphTable;
 
 /// How many steps a chain of components may have in a font that is read.
 const STEPS: u32 = 16;
 
 /// Whether a glyph and all its components are in a set.
-fn has_whole(set: &[bool], glyphs: &Glyphs, id: u16) -> bool
+fn has_whole(set: &[bool], glyphs: &GlyphTable, id: u16) -> bool
     requires { id < glyphs.now.count }
     ensures { result ≡ (is_in set.now id
         && list_all (is_in set.now) (parts (outlines_in glyphs.now id))) }
@@ -26,13 +26,13 @@ fn has_whole(set: &[bool], glyphs: &Glyphs, id: u16) -> bool
 
 /// Takes out of a set each glyph with a component that isn't in it, and returns whether there was
 /// one.
-fn take_out(set: &mut [bool], glyphs: &Glyphs) -> bool
+fn take_out(set: &mut [bool], glyphs: &GlyphTable) -> bool
     requires { length set.old ≡ glyphs.now.count }
     ensures taken { TakesOut (outlines_in glyphs.now) set.old set.new }
     ensures none { result ≡ false → set.new ≡ set.old }
 {
     let mut changed = false;
-    for id in 0..glyphs.count {
+    for id in 0..glyphs.count() {
         let place = usize::from(id);
         let stays = has_whole(set, glyphs, id);
         changed |= set[place] != stays;
@@ -51,7 +51,7 @@ pub fn retain_closed(bytes: &[u8], set: &mut [bool])
         ↔ HasAllReached (font_outlines bytes.now) set.old id }
     ensures len { length set.new ≡ length set.old }
 {
-    let glyphs = Glyphs::of(bytes);
+    let glyphs = GlyphTable::of(bytes);
     for _ in 0..STEPS {
         if !take_out(set, &glyphs) {
             return;

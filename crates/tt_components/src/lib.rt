@@ -4,8 +4,5 @@
 
 mod closed;
 mod component;
-mod glyphs;
-mod numbers;
-mod tables;
 
 pub use closed::retain_closed;

@@ -1,5 +1,6 @@
 pub mod FirstBelow
 pub mod Placed
+pub mod FontFacts
 pub mod ComponentLists
 pub mod WholeGlyphs
 pub mod OutlineLemmas

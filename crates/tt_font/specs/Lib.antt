@@ -6,8 +6,10 @@ pub mod Maxp
 pub mod Directory
 pub mod Locations
 pub mod Components
+pub mod ComponentReads
 pub mod Glyphs
 pub mod Outlines
+pub mod PlacedGlyphs
 pub mod Chains
 pub mod Conditions
 pub mod Files

@@ -1,6 +1,5 @@
 -- How the code keeps what the definitions speak of: private contracts cite these, and no public one
 -- does.
-pub mod ComponentReads
 pub mod CompositeLists
 pub mod FontFields
 pub mod GlyphParts

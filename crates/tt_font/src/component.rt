@@ -6,8 +6,8 @@ ghost use Rattle.tt_font.specs.Components.{component_size};
 
 use crate::numbers::u16_at;
 
-/// How many bytes the header of a glyph has.
-pub(crate) const HEADER: usize = 10;
+/// How many bytes the header of a glyph has: the offset of a composite glyph's first component.
+pub const GLYPH_HEADER: usize = 10;
 
 /// The flag of a component whose two arguments have two bytes each; otherwise they have one each.
 const ARG_1_AND_2_ARE_WORDS: u16 = 0x0001;
@@ -30,13 +30,13 @@ const WE_HAVE_INSTRUCTIONS: u16 = 0x0100;
 /// One of the glyphs of which a composite glyph is made (OpenType specification, `glyf`, "Composite
 /// glyph description").
 #[derive(Clone, Copy, Debug, PartialEq, Eq)]
-pub(crate) struct Component {
+pub struct Component {
     /// Its flags, which say what follows.
-    pub(crate) flags: u16,
+    pub flags: u16,
     /// The number of the component's glyph.
-    pub(crate) glyph: u16,
+    pub glyph: u16,
     /// The offset just after the component.
-    pub(crate) after: usize,
+    pub after: usize,
 }
 
 /// Returns how many bytes a component has: its flags, its glyph, its arguments and its scale.
@@ -68,14 +68,14 @@ impl Component {
     ghost use Rattle.tt_font.specs.Components.{has_more, has_instructions};
 
     /// Whether another component follows.
-    pub(crate) fn has_more(&self) -> bool
+    pub fn has_more(&self) -> bool
         ensures { result ≡ has_more self.now.flags }
     {
         self.flags & MORE_COMPONENTS != 0
     }
 
     /// Whether the instructions follow the last component.
-    pub(crate) fn has_instructions(&self) -> bool
+    pub fn has_instructions(&self) -> bool
         ensures { result ≡ has_instructions self.now.flags }
     {
         self.flags & WE_HAVE_INSTRUCTIONS != 0
@@ -84,7 +84,7 @@ impl Component {
 
 /// Reads the components of glyphs, and counts how often it does.
 #[derive(Debug, Drop)]
-pub(crate) struct ComponentReader {
+pub struct ComponentReader {
     /// How many components have been read, one that is read again counted again.
     reads: u64,
 }
@@ -92,17 +92,17 @@ pub(crate) struct ComponentReader {
 impl ComponentReader {
     ghost use Rattle.std.specs.Prelude.{◌≡◌, ◌^◌, ◌<◌, ◌≤◌, length, is_some, IfSome, if◌then◌else◌};
     ghost use Rattle.tt_font.specs.Components.{component_at, components, last_of};
-    ghost use Rattle.tt_font.specs.Representation.ComponentReads.{HasRoom, HasRead};
+    ghost use Rattle.tt_font.specs.ComponentReads.{HasRoom, HasRead};
 
     /// Makes a reader that has read nothing.
-    pub(crate) fn new() -> ComponentReader
+    pub fn new() -> ComponentReader
         ensures { result.reads ≡ 0 }
     {
         ComponentReader { reads: 0 }
     }
 
     /// Returns how many components have been read, one that is read again counted again.
-    pub(crate) fn reads(&self) -> u64
+    pub fn reads(&self) -> u64
         ensures { result ≡ self.now.reads }
     {
         self.reads
@@ -111,7 +111,7 @@ impl ComponentReader {
     /// Reads the component at an offset of a glyph, if all its bytes are there, and counts it. No
     /// other function reads a component.
     #[tactic(auto, unfolding(crate::specs::Components::component_at))]
-    pub(crate) fn read(&mut self, glyph: &[u8], place: usize) -> Option<Component>
+    pub fn read(&mut self, glyph: &[u8], place: usize) -> Option<Component>
         requires place { place < 2 ^ 33 }
         requires room { HasRoom self.old 0 }
         ensures component { result ≡ component_at place glyph.now }
@@ -144,7 +144,7 @@ impl ComponentReader {
         ensures within { IfSome result (λ component. component.after ≤ length glyph.now) }
         ensures counted { HasRead self.old self.new (length (components glyph.now)) }
     {
-        let mut place = HEADER;
+        let mut place = GLYPH_HEADER;
         while let Some(component) = self.read(glyph, place) {
             if !component.has_more() {
                 return Some(component);

@@ -2,7 +2,7 @@
 //! tables").
 
 ghost use Rattle.std.specs.Prelude.{◌≡◌, ◌*◌, IfOk, OnOk};
-ghost use Rattle.tt_font.specs.Representation.ComponentReads.{HasRoom, HasReadAtLeast, HasReadAtMost};
+ghost use Rattle.tt_font.specs.ComponentReads.{HasRoom, HasReadAtLeast, HasReadAtMost};
 ghost use Rattle.tt_font.specs.Representation.GlyphTables.{components_in, fault_in};
 ghost use Rattle.tt_font.specs.Representation.GlyphParts.{AreRead};
 ghost use Rattle.tt_font.specs.Conditions.{TestsWithMemory};

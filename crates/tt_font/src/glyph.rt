@@ -3,10 +3,10 @@
 ghost use Rattle.std.specs.Prelude.{◌≡◌, ◌+◌, ◌*◌, ◌^◌, ◌<◌, ◌≤◌, length, is_some, true, false};
 ghost use Rattle.std.specs.Option.{option_map};
 ghost use Rattle.tt_font.specs.Components.{components, last_of};
-ghost use Rattle.tt_font.specs.Representation.ComponentReads.{HasRoom, HasRead};
+ghost use Rattle.tt_font.specs.ComponentReads.{HasRoom, HasRead};
 ghost use Rattle.tt_font.specs.Glyphs.{is_composite, component_count, program_at, simple_program, composite_program, program_of, simple_points, simple_contours};
 
-use crate::component::{ComponentReader, HEADER};
+use crate::component::{ComponentReader, GLYPH_HEADER};
 use crate::numbers::u16_at;
 
 /// From this value on, numberOfContours (an int16, read here as a u16) is negative: a glyph with a
@@ -38,10 +38,10 @@ fn read_simple_program(glyph: &[u8]) -> Option<&[u8]>
 {
     // `numberOfContours`; `endPtsOfContours` has two bytes for each contour.
     let contours = usize::from(u16_at(glyph, 0));
-    if contours == 0 && glyph.len() == HEADER {
+    if contours == 0 && glyph.len() == GLYPH_HEADER {
         return Some(&[]);
     }
-    read_program(glyph, HEADER + 2 * contours)
+    read_program(glyph, GLYPH_HEADER + 2 * contours)
 }
 
 /// Reads the program of a composite glyph, if its bytes are there.
@@ -61,10 +61,10 @@ fn read_composite_program<'a>(glyph: &'a [u8], reader: &mut ComponentReader) -> 
 }
 
 /// Whether a glyph is made of components.
-pub(crate) fn is_composite(glyph: &[u8]) -> bool
+pub fn is_composite(glyph: &[u8]) -> bool
     ensures { result ≡ is_composite glyph.now }
 {
-    glyph.len() >= HEADER && u16_at(glyph, 0) >= COMPOSITE
+    glyph.len() >= GLYPH_HEADER && u16_at(glyph, 0) >= COMPOSITE
 }
 
 /// Reads the program of a glyph, if its bytes are there. A glyph without data has an empty program.
@@ -80,7 +80,7 @@ pub(crate) fn read_glyph_program<'a>(
 {
     if is_composite(glyph) {
         read_composite_program(glyph, reader)
-    } else if glyph.len() >= HEADER {
+    } else if glyph.len() >= GLYPH_HEADER {
         read_simple_program(glyph)
     } else if glyph.is_empty() {
         Some(&[])
@@ -97,7 +97,7 @@ pub(crate) fn simple_points(glyph: &[u8]) -> u32
     ensures points { result ≡ simple_points glyph.now }
     ensures most { result ≤ 65536 }
 {
-    if glyph.len() < HEADER {
+    if glyph.len() < GLYPH_HEADER {
         return 0;
     }
     let contours = usize::from(u16_at(glyph, 0));
@@ -105,7 +105,7 @@ pub(crate) fn simple_points(glyph: &[u8]) -> u32
         return 0;
     }
     // The last entry of `endPtsOfContours` is the number of the last point.
-    u32::from(u16_at(glyph, HEADER + 2 * (contours - 1))) + 1
+    u32::from(u16_at(glyph, GLYPH_HEADER + 2 * (contours - 1))) + 1
 }
 
 /// Returns how many contours a simple glyph has.
@@ -114,7 +114,7 @@ pub(crate) fn simple_contours(glyph: &[u8]) -> u32
     ensures contours { result ≡ simple_contours glyph.now }
     ensures most { result ≤ 65536 }
 {
-    if glyph.len() < HEADER {
+    if glyph.len() < GLYPH_HEADER {
         return 0;
     }
     u32::from(u16_at(glyph, 0))

@@ -3,13 +3,15 @@
 ghost use Rattle.std.specs.Prelude.{◌≡◌, ℕ, ◌+◌, ◌*◌, ◌^◌, ◌<◌, ◌≤◌, length, true};
 ghost use Rattle.tt_font.specs.Locations.{entry_size, entry, entry_fits};
 
+use crate::directory::table;
 use crate::fault::FontFault;
 use crate::numbers::{u16_at, u32_at};
+use crate::tag::Tag;
 
 /// Where the glyphs of a font are: each has the bytes of `glyf` from its entry of `loca` to the
 /// next entry (OpenType specification, `loca`).
 #[derive(Clone, Copy)]
-pub(crate) struct GlyphTable<'a> {
+pub struct GlyphTable<'a> {
     /// indexToLocFormat: 0 where the entries of `loca` are short, 1 where they are long.
     format: u16,
     /// The table `loca`.
@@ -54,9 +56,11 @@ fn entry_is_good(format: u16, loca: &[u8], glyf: &[u8], i: u32) -> bool
 }
 
 impl<'a> GlyphTable<'a> {
-    ghost use Rattle.std.specs.Prelude.{◌≡◌, ◌+◌, ◌^◌, ◌<◌, ◌≤◌, length, IfOk};
+    ghost use Rattle.std.specs.Prelude.{◌≡◌, None, ◌+◌, ◌^◌, ◌<◌, ◌≤◌, length, IfOk};
+    ghost use Rattle.tt_font.specs.FileFaults.{font_fault};
+    ghost use Rattle.tt_font.specs.Files.{font_glyph_count, font_glyphs, font_outlines};
     ghost use Rattle.tt_font.specs.Locations.{entry};
-    ghost use Rattle.tt_font.specs.Representation.GlyphTables.{glyphs_of};
+    ghost use Rattle.tt_font.specs.PlacedGlyphs.{glyphs_of, outlines_in};
     ghost use Rattle.tt_font.specs.Conditions.{Tests, loca_fault};
 
     /// Reads the glyphs of the tables `loca` and `glyf`, in the format that `head` gives.
@@ -93,6 +97,30 @@ impl<'a> GlyphTable<'a> {
         })
     }
 
+    /// Returns where the glyphs are of a font that is read without a fault.
+    pub fn of(bytes: &'a [u8]) -> GlyphTable<'a>
+        requires font { font_fault bytes.now ≡ None }
+        ensures count { result.count ≡ font_glyph_count bytes.now }
+        ensures glyphs { glyphs_of result ≡ font_glyphs bytes.now }
+        ensures outlines { outlines_in result ≡ font_outlines bytes.now }
+    {
+        GlyphTable {
+            // `indexToLocFormat` of `head`.
+            format: u16_at(table(bytes, Tag::Head), 50),
+            loca: table(bytes, Tag::Loca),
+            glyf: table(bytes, Tag::Glyf),
+            // `numGlyphs` of `maxp`.
+            count: u16_at(table(bytes, Tag::Maxp), 4),
+        }
+    }
+
+    /// Returns how many glyphs there are.
+    pub fn count(&self) -> u16
+        ensures { result ≡ self.now.count }
+    {
+        self.count
+    }
+
     /// Returns the offsets in `glyf` at which a glyph's bytes begin and end.
     fn place(&self, id: u16) -> (usize, usize)
         requires { id < self.now.count }
@@ -108,7 +136,7 @@ impl<'a> GlyphTable<'a> {
 
     /// Returns the bytes of a glyph.
     #[tactic(auto, unfolding(crate::specs::Locations::glyph_bytes))]
-    pub(crate) fn glyph(&self, id: u16) -> &'a [u8]
+    pub fn glyph(&self, id: u16) -> &'a [u8]
         requires { id < self.now.count }
         ensures bytes { result.now ≡ glyphs_of self.now id }
         ensures small { length result.now < 2 ^ 32 }

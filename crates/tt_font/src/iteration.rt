@@ -3,10 +3,11 @@
 
 ghost use Rattle.std.specs.Prelude.{◌≡◌, ℕ, [], ◌*◌, length, IfOk, IfErr, OnOk, IsTrue, ◌↔◌, alloc_error};
 ghost use Rattle.tt_font.specs.Numbers.{first_below};
-ghost use Rattle.tt_font.specs.Representation.ComponentReads.{HasRoom, HasRead, HasReadAtLeast, HasReadAtMost};
+ghost use Rattle.tt_font.specs.ComponentReads.{HasRoom, HasRead, HasReadAtLeast, HasReadAtMost};
 ghost use Rattle.tt_font.specs.Representation.CompositeLists.{AreAllComposites, AgreeOnSimple};
 ghost use Rattle.tt_font.specs.Representation.OutlineSizes.{size_at, PointsAreCapped, ContoursAreCapped, NextSizes, SizesAfter, size_refuses, HasTotals};
-ghost use Rattle.tt_font.specs.Representation.GlyphTables.{glyphs_of, outlines_in, components_in, AreWhole, refused_in};
+ghost use Rattle.tt_font.specs.PlacedGlyphs.{glyphs_of, outlines_in};
+ghost use Rattle.tt_font.specs.Representation.GlyphTables.{components_in, AreWhole, refused_in};
 ghost use Rattle.tt_font.specs.Conditions.{TestsWithMemory};
 
 use crate::component::ComponentReader;

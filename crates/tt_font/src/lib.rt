@@ -17,10 +17,13 @@ mod programs;
 mod tables;
 mod tag;
 
+pub use component::{Component, ComponentReader, GLYPH_HEADER};
 pub use directory::table;
 pub use fault::FontFault;
 pub use font::Font;
+pub use glyph::is_composite;
 pub use glyph_part::GlyphPart;
+pub use glyph_table::GlyphTable;
 pub use laws::definitions_hold;
 pub use maxp::read_maxp;
 pub use numbers::{u16_at, u32_at};

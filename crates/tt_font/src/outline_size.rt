@@ -3,10 +3,10 @@
 
 ghost use Rattle.std.specs.Prelude.{◌≡◌, ◌+◌, ◌^◌, ◌<◌, ◌≤◌, length, min};
 ghost use Rattle.tt_font.specs.Components.{components, glyphs_named};
-ghost use Rattle.tt_font.specs.Representation.ComponentReads.{HasRoom, HasRead};
+ghost use Rattle.tt_font.specs.ComponentReads.{HasRoom, HasRead};
 ghost use Rattle.tt_font.specs.Representation.OutlineSizes.{PointsAreCapped, ContoursAreCapped, AddsUp};
 
-use crate::component::{ComponentReader, HEADER};
+use crate::component::{ComponentReader, GLYPH_HEADER};
 use crate::glyph::{is_composite, simple_contours, simple_points};
 
 /// One more than the greatest number of points, and of contours, that a glyph may have (own).
@@ -118,7 +118,7 @@ pub(crate) fn add_up(
     ensures counted { HasRead reader.old reader.new (length (components glyph.now)) }
 {
     let mut sum = EMPTY;
-    let mut place = HEADER;
+    let mut place = GLYPH_HEADER;
     while let Some(component) = reader.read(glyph, place) {
         sum = sum.plus(OutlineSize::of(sizes, component.glyph));
         if !component.has_more() {

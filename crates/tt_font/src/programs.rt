@@ -1,7 +1,7 @@
 //! The programs of all glyphs (OpenType specification, `glyf`).
 
 ghost use Rattle.std.specs.Prelude.{◌≡◌, length, IfOk, IfErr, OnOk, alloc_error};
-ghost use Rattle.tt_font.specs.Representation.ComponentReads.{HasRoom, HasRead};
+ghost use Rattle.tt_font.specs.ComponentReads.{HasRoom, HasRead};
 ghost use Rattle.tt_font.specs.Representation.OutlineSizes.{PointsFit, ContoursFit};
 ghost use Rattle.tt_font.specs.Representation.GlyphTables.{components_in, truncated_in};
 ghost use Rattle.tt_font.specs.Representation.GlyphParts.{AreAllPrograms, ArePutTogether};

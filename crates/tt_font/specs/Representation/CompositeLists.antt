@@ -4,7 +4,7 @@ use Rattle.std.specs.List.{Contains, sum_by}
 use Rattle.tt_font.specs.declared.glyph_table.GlyphTable.{GlyphTable}
 use Rattle.tt_font.specs.declared.outline_size.OutlineSize.{OutlineSize}
 use Rattle.tt_font.specs.Glyphs.{is_composite, component_count, component_total}
-use Rattle.tt_font.specs.Representation.GlyphTables.{glyphs_of}
+use Rattle.tt_font.specs.PlacedGlyphs.{glyphs_of}
 use Rattle.tt_font.specs.Representation.OutlineSizes.{size_at}
 
 -- the numbers of the composite glyphs among the first n: together these list as many components as

@@ -5,7 +5,7 @@ use Rattle.tt_font.specs.declared.glyph_part.GlyphPart.{GlyphPart}
 use Rattle.tt_font.specs.declared.glyph_table.GlyphTable.{GlyphTable}
 use Rattle.tt_font.specs.declared.outline_size.OutlineSize.{OutlineSize}
 use Rattle.tt_font.specs.Glyphs.{program_of}
-use Rattle.tt_font.specs.Representation.GlyphTables.{glyphs_of, outlines_in}
+use Rattle.tt_font.specs.PlacedGlyphs.{glyphs_of, outlines_in}
 use Rattle.tt_font.specs.Representation.OutlineSizes.{size_at}
 use Rattle.tt_font.specs.Reading.{GlyphData, ReadsGlyphs, glyph_at, glyph_data}
 

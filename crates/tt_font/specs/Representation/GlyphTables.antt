@@ -1,19 +1,9 @@
--- The glyphs of the tables `loca` and `glyf`, as the code has them, and their faults.
--- (Representation.)
-use Rattle.std.specs.Prelude.{◌≡◌, ℕ, ◌<◌, List, true, is_some}
+-- The faults of the glyphs of the tables `loca` and `glyf`, as the code has them. (Representation.)
+use Rattle.std.specs.Prelude.{◌≡◌, ℕ, ◌<◌, true, is_some}
 use Rattle.tt_font.specs.declared.glyph_table.GlyphTable.{GlyphTable}
-use Rattle.tt_font.specs.Locations.{glyph_bytes}
 use Rattle.tt_font.specs.Glyphs.{program_of, component_total}
-use Rattle.tt_font.specs.Outlines.{Outline, outlines_of}
+use Rattle.tt_font.specs.PlacedGlyphs.{glyphs_of, outlines_in}
 use Rattle.tt_font.specs.Conditions.{Condition, glyph_fault, composite_fault, glyphs_fault}
-
--- the bytes of each glyph
-abbrev pub glyphs_of : GlyphTable → ℕ → List ℕ
-glyphs_of table id = glyph_bytes table.format table.loca.now table.glyf.now id
-
--- the outline of each glyph
-abbrev pub outlines_in : GlyphTable → ℕ → Outline
-outlines_in table id = outlines_of table.count (glyphs_of table) id
 
 -- how many components all glyphs list
 abbrev pub components_in : GlyphTable → ℕ

@@ -4,7 +4,7 @@ use Rattle.std.specs.List.{sum_by, list_any}
 use Rattle.tt_font.specs.declared.glyph_table.GlyphTable.{GlyphTable}
 use Rattle.tt_font.specs.declared.outline_size.OutlineSize.{OutlineSize}
 use Rattle.tt_font.specs.Outlines.{Outline, simple, composite, parts, own_points, own_contours, total}
-use Rattle.tt_font.specs.Representation.GlyphTables.{outlines_in}
+use Rattle.tt_font.specs.PlacedGlyphs.{outlines_in}
 
 -- a glyph has components
 abbrev pub has_parts : Outline → Bool

@@ -3,7 +3,7 @@ use Rattle.std.specs.List.{list_all}
 use Rattle.tt_font.specs.Outlines.{outline_of, parts}
 use Rattle.tt_font.proofs.CountLemmas.{outline_below}
 use Rattle.tt_components.specs.Closed.{is_in}
-use Rattle.tt_components.specs.Representation.FontGlyphs.{glyphs_of, outlines_in}
+use Rattle.tt_font.specs.PlacedGlyphs.{glyphs_of, outlines_in}
 use Rattle.tt_components.proofs.closed.has_whole.Goals as goal
 
 pub returns-then-is_in : goal.returns-then-is_in

@@ -1,6 +1,6 @@
 use Rattle.std.proofs.Common.{◌+◌, ◌<◌, refl, sym, subst, arith, ℕ, Bool, slice_set, length}
 use Rattle.tt_components.specs.Closed.{is_in}
-use Rattle.tt_components.specs.Representation.FontGlyphs.{outlines_in}
+use Rattle.tt_font.specs.PlacedGlyphs.{outlines_in}
 use Rattle.tt_components.proofs.Retaining.{IsTaken, glyph_more, still_same}
 use Rattle.tt_components.proofs.closed.take_out.Goals as goal
 

@@ -1,5 +1,5 @@
 use Rattle.std.proofs.Common.{◌≡◌, false}
-use Rattle.tt_components.specs.Representation.FontGlyphs.{outlines_in}
+use Rattle.tt_font.specs.PlacedGlyphs.{outlines_in}
 use Rattle.tt_components.proofs.Retaining.{IsTaken}
 use Rattle.tt_components.proofs.closed.take_out.Given as goal
 

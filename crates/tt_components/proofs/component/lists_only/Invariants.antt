@@ -2,13 +2,14 @@ use Rattle.std.proofs.Common.{◌≡◌, ◌+◌, ◌-◌, ◌≤◌, length}
 use Rattle.std.specs.List.{list_all}
 use Rattle.tt_font.specs.Components.{components, glyphs_named}
 use Rattle.tt_components.specs.Closed.{is_in}
-use Rattle.tt_components.specs.Representation.NamedGlyphs.{named_at}
+use Rattle.tt_components.proofs.ComponentTests.{all_from}
 use Rattle.tt_components.proofs.component.lists_only.Given as goal
 
 abbrev pub invariant-loop-component : goal.invariant-loop-component
 invariant-loop-component l = record {
-  rest : list_all (is_in l.set) (named_at l.place l.glyph) ≡ list_all (is_in l.set) (glyphs_named (components l.glyph));
+  rest : all_from (is_in l.set) l.place l.glyph ≡ list_all (is_in l.set) (glyphs_named (components l.glyph));
   near : l.place ≤ 10 + length l.glyph;
+  counted : l.reader.reads ≤ l.place;
 }
 
 abbrev pub decreases-loop-component : goal.decreases-loop-component

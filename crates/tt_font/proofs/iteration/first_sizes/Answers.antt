@@ -2,7 +2,7 @@ use Rattle.std.proofs.Common.{◌≡◌, ℕ, List, ◌+◌, ◌∙◌, sym, ap,
 use Rattle.tt_font.specs.Glyphs.{is_composite}
 use Rattle.tt_font.specs.Outlines.{outline_of}
 use Rattle.tt_font.specs.Representation.CompositeLists.{AreComposites}
-use Rattle.tt_font.specs.Representation.GlyphTables.{glyphs_of, outlines_in}
+use Rattle.tt_font.specs.PlacedGlyphs.{glyphs_of, outlines_in}
 use Rattle.tt_font.proofs.CountLemmas.{outline_below}
 use Rattle.tt_font.proofs.SizeLemmas.{sizes_more, size_is_first}
 use Rattle.tt_font.proofs.CompositeLemmas.{no_composites, composites_more, composites_same}

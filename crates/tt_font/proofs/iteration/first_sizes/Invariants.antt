@@ -1,4 +1,4 @@
-use Rattle.tt_font.specs.Representation.GlyphTables.{glyphs_of, outlines_in}
+use Rattle.tt_font.specs.PlacedGlyphs.{glyphs_of, outlines_in}
 use Rattle.tt_font.specs.Representation.OutlineSizes.{SizesAre}
 use Rattle.tt_font.specs.Representation.CompositeLists.{AreComposites}
 use Rattle.tt_font.proofs.iteration.first_sizes.Given as goal

@@ -1,7 +1,7 @@
 use Rattle.std.proofs.Common.{◌+◌, ◌≤◌, ◌∙◌, sym, ap, subst, arith, drop, length, ℕ, slice_set}
 use Rattle.tt_font.specs.Components.{components, glyphs_named}
 use Rattle.tt_font.specs.Representation.OutlineSizes.{AddsUp}
-use Rattle.tt_font.specs.Representation.GlyphTables.{glyphs_of}
+use Rattle.tt_font.specs.PlacedGlyphs.{glyphs_of}
 use Rattle.tt_font.proofs.CompositeLemmas.{Iterates, next_is, iteration_more, iteration_ends}
 use Rattle.tt_font.proofs.iteration.iterate.Goals as goal
 

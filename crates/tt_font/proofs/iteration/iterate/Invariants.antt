@@ -1,5 +1,5 @@
 use Rattle.std.proofs.Common.{drop}
-use Rattle.tt_font.specs.Representation.GlyphTables.{glyphs_of}
+use Rattle.tt_font.specs.PlacedGlyphs.{glyphs_of}
 use Rattle.tt_font.proofs.CompositeLemmas.{Iterates}
 use Rattle.tt_font.proofs.iteration.iterate.Given as goal
 

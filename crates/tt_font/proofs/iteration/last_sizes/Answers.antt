@@ -3,7 +3,7 @@ use Rattle.std.proofs.Math.Nat.{mul-le-mul_right}
 use Rattle.tt_font.specs.declared.outline_size.OutlineSize.{OutlineSize}
 use Rattle.tt_font.specs.Glyphs.{component_total}
 use Rattle.tt_font.specs.Representation.OutlineSizes.{size_at, SizesAfter, NextSizes}
-use Rattle.tt_font.specs.Representation.GlyphTables.{glyphs_of, outlines_in}
+use Rattle.tt_font.specs.PlacedGlyphs.{glyphs_of, outlines_in}
 use Rattle.tt_font.proofs.CountLemmas.{outline_past}
 use Rattle.tt_font.proofs.SizeLemmas.{points_capped, contours_capped, next_iteration, stays_so}
 use Rattle.tt_font.specs.Representation.CompositeLists.{AgreeOnSimple}

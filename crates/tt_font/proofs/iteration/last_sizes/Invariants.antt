@@ -1,7 +1,7 @@
 use Rattle.std.proofs.Common.{◌≡◌, ◌+◌, ◌*◌}
 use Rattle.tt_font.specs.Glyphs.{component_total}
 use Rattle.tt_font.specs.Representation.CompositeLists.{AgreeOnSimple}
-use Rattle.tt_font.specs.Representation.GlyphTables.{glyphs_of}
+use Rattle.tt_font.specs.PlacedGlyphs.{glyphs_of}
 use Rattle.tt_font.specs.Representation.OutlineSizes.{SizesAfter}
 use Rattle.tt_font.proofs.iteration.last_sizes.Given as goal
 

@@ -4,7 +4,7 @@ use Rattle.tt_font.specs.declared.fault.FontFault.TheVariants as faults
 use Rattle.tt_font.specs.Numbers.{first_below}
 use Rattle.tt_font.specs.Conditions.{refused_glyph}
 use Rattle.tt_font.specs.Representation.OutlineSizes.{size_at, size_refuses}
-use Rattle.tt_font.specs.Representation.GlyphTables.{outlines_in}
+use Rattle.tt_font.specs.PlacedGlyphs.{outlines_in}
 use Rattle.tt_font.proofs.SizeLemmas.{first_refused_is, sums_are_exact}
 use Rattle.tt_font.proofs.iteration.outline_sizes.Goals as goal
 

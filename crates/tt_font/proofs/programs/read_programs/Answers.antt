@@ -3,7 +3,7 @@ use Rattle.std.specs.Option.{option_map}
 use Rattle.std.proofs.lemmas.List.{map-append}
 use Rattle.tt_font.specs.declared.fault.FontFault.TheVariants as faults
 use Rattle.tt_font.specs.Glyphs.{component_count, component_total, program_of}
-use Rattle.tt_font.specs.Representation.GlyphTables.{glyphs_of}
+use Rattle.tt_font.specs.PlacedGlyphs.{glyphs_of}
 use Rattle.tt_font.specs.Representation.GlyphParts.{bytes_of}
 use Rattle.tt_font.proofs.CountLemmas.{total_of_none, total_more, total_ascends}
 use Rattle.tt_font.proofs.ProgramLists.{no_programs, programs_more, none_truncated, none_truncated_more, first_truncated}

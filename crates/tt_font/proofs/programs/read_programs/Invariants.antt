@@ -1,6 +1,6 @@
 use Rattle.std.proofs.Common.{◌≡◌, ◌+◌, None, map}
 use Rattle.tt_font.specs.Glyphs.{component_total}
-use Rattle.tt_font.specs.Representation.GlyphTables.{glyphs_of}
+use Rattle.tt_font.specs.PlacedGlyphs.{glyphs_of}
 use Rattle.tt_font.specs.Representation.GlyphParts.{bytes_of, ProgramsAre}
 use Rattle.tt_font.specs.Conditions.{truncated_glyph}
 use Rattle.tt_font.proofs.programs.read_programs.Given as goal

@@ -8,7 +8,7 @@ use Rattle.tt_font.specs.declared.tag.Tag.TheVariants.{Glyf, Head, Loca}
 use Rattle.tt_font.specs.Directory.{table}
 use Rattle.tt_font.specs.Locations.{loca_format}
 use Rattle.tt_font.specs.Representation.GlyphParts.{AreRead}
-use Rattle.tt_font.specs.Representation.GlyphTables.{glyphs_of}
+use Rattle.tt_font.specs.PlacedGlyphs.{glyphs_of}
 use Rattle.tt_font.specs.Outlines.{outlines_of}
 use Rattle.tt_font.specs.Reading.{glyph_data, ReadsGlyphs}
 use Rattle.tt_font.specs.Files.{font_glyph_count, font_glyphs, font_outlines}

@@ -1,4 +1,4 @@
--- How often the code reads components. (Representation.)
+-- How often a `ComponentReader` has read components.
 use Rattle.std.specs.Prelude.{◌≡◌, ℕ, ◌+◌, ◌^◌, ◌<◌, ◌≤◌}
 use Rattle.tt_font.specs.declared.component.ComponentReader.{ComponentReader}
 

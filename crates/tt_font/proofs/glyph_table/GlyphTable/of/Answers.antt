@@ -4,8 +4,8 @@ use Rattle.tt_font.specs.Directory.{table}
 use Rattle.tt_font.specs.Files.{font_glyph_count}
 use Rattle.tt_font.specs.Numbers.{u16_at}
 use Rattle.tt_font.specs.declared.tag.Tag.TheVariants.{Head, Loca}
-use Rattle.tt_components.proofs.FontFacts.{is_font}
-use Rattle.tt_components.proofs.glyphs.Glyphs.of.Goals as goal
+use Rattle.tt_font.proofs.FontFacts.{is_font}
+use Rattle.tt_font.proofs.glyph_table.GlyphTable.of.Goals as goal
 
 pub table-requires : goal.table-requires
 table-requires c = (is_font c.args.bytes.now c.requires.font).directory
