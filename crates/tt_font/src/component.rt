@@ -75,7 +75,7 @@ impl Component {
     }
 
     /// Whether the instructions follow the last component.
-    pub fn has_instructions(&self) -> bool
+    pub(crate) fn has_instructions(&self) -> bool
         ensures { result ≡ has_instructions self.now.flags }
     {
         self.flags & WE_HAVE_INSTRUCTIONS != 0

@@ -3,8 +3,8 @@
 
 ghost use Rattle.std.specs.Prelude.{◌≡◌, ◌==◌, ◌+◌, ◌*◌, ◌≤◌, ◌<◌, ◌^◌, take, drop, length, IfOk, IfSome};
 ghost use Rattle.std.specs.Option.{option_map};
-ghost use Rattle.tt_font.specs.Numbers.{u32_at, first_below};
-ghost use Rattle.tt_font.specs.Directory.{record_count, record_place, first_record, extent, table};
+ghost use Rattle.tt_font.specs.Numbers.{u32_at};
+ghost use Rattle.tt_font.specs.Directory.{record_count, first_record, extent, table};
 ghost use Rattle.tt_font.specs.Conditions.{Tests, directory_fault, table_fault, optional_table_fault};
 
 use crate::fault::FontFault;

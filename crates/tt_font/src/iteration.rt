@@ -1,7 +1,7 @@
 //! The sizes of all glyphs' outlines, summed over their components iteration by iteration (OpenType
 //! specification, `glyf`, "Composite glyph description").
 
-ghost use Rattle.std.specs.Prelude.{◌≡◌, ℕ, [], ◌*◌, length, IfOk, IfErr, OnOk, IsTrue, ◌↔◌, alloc_error};
+ghost use Rattle.std.specs.Prelude.{◌≡◌, [], ◌*◌, length, IfOk, IfErr, OnOk, IsTrue, ◌↔◌, alloc_error};
 ghost use Rattle.tt_font.specs.Numbers.{first_below};
 ghost use Rattle.tt_font.specs.ComponentReads.{HasRoom, HasRead, HasReadAtLeast, HasReadAtMost};
 ghost use Rattle.tt_font.specs.Representation.CompositeLists.{AreAllComposites, AgreeOnSimple};
