@@ -1,1 +1,2 @@
+pub mod CauseLemmas
 pub mod Written

@@ -1,5 +1,8 @@
 //! From where states come to a point.
 
+ghost use Rattle.std.specs.Prelude.{◌≡◌, IfSome};
+ghost use Rattle.hintcheck_explain.specs.Representation.Causes.{BringsDepths};
+
 use crate::describing::Numbers;
 use crate::explored_program::ExploredProgram;
 use crate::stepping::{StepOutcome, outcome_at};
@@ -86,7 +89,9 @@ pub(crate) fn edges_of(
 }
 
 /// Returns a way as an arrival at the point to which it leads.
-fn arrival_of(subject: &ExploredProgram<'_>, edge: &Edge) -> Arrival {
+fn arrival_of(subject: &ExploredProgram<'_>, edge: &Edge) -> Arrival
+    ensures { result.depth ≡ edge.now.depth }
+{
     Arrival {
         point: edge.from,
         from: Some(subject.place(edge.from)),
@@ -109,7 +114,9 @@ fn way_with(
     edges: &[Edge],
     point: PointKey,
     depth: usize,
-) -> Option<Arrival> {
+) -> Option<Arrival>
+    ensures { IfSome result (λ arrival. arrival.depth ≡ depth) }
+{
     if point == START && depth == 0 {
         return Some(BEGINNING);
     }
@@ -129,7 +136,9 @@ pub(crate) fn depths_at(
     point: PointKey,
     depth: usize,
     other_depth: usize,
-) -> Option<Trouble> {
+) -> Option<Trouble>
+    ensures { IfSome result (BringsDepths depth other_depth) }
+{
     let one = way_with(subject, edges, point, depth)?;
     let other = way_with(subject, edges, point, other_depth)?;
     Some(Trouble::Depths { one, other })

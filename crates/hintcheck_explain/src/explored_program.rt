@@ -1,5 +1,9 @@
 //! A program with what the search has found of it.
 
+ghost use Rattle.std.specs.Prelude.{◌≡◌, ◌<◌, IfOk, length, reverse};
+ghost use Rattle.tt_abs.specs.Spots.{spot_of};
+ghost use Rattle.tt_family.specs.Contents.{frames_at};
+
 use crate::instruction_text::name_of;
 use hintcheck_report::Place;
 use std::alloc::{AllocError, Global};
@@ -20,7 +24,10 @@ pub(crate) struct ExploredProgram<'a> {
 
 impl<'a> ExploredProgram<'a> {
     /// Returns in which program a context is.
-    pub(crate) fn spot(&self, context: u32) -> Spot {
+    pub(crate) fn spot(&self, context: u32) -> Spot
+        ensures { context < length self.now.certificate.now.contexts
+            → result ≡ spot_of (frames_at self.now.certificate.now.contexts context) }
+    {
         if context < self.certificate.contexts() {
             self.certificate.builder().spot(context)
         } else {
@@ -68,7 +75,10 @@ impl<'a> ExploredProgram<'a> {
     ///
     /// # Errors
     /// If memory runs out.
-    pub(crate) fn frames(&self, alloc: Global, context: u32) -> Result<Vec<Frame>, AllocError> {
+    pub(crate) fn frames(&self, alloc: Global, context: u32) -> Result<Vec<Frame>, AllocError>
+        ensures { context < length self.now.certificate.now.contexts → IfOk result (λ frames.
+            frames.items ≡ reverse (frames_at self.now.certificate.now.contexts context)) }
+    {
         if context < self.certificate.contexts() {
             self.certificate.builder().frames(alloc, context)
         } else {

@@ -1,11 +1,13 @@
 //! How much of a limit of the font a refused program needs, as far as searches with a greater one
 //! tell.
 
-ghost use Rattle.std.specs.Prelude.{◌≡◌};
+ghost use Rattle.std.specs.Prelude.{◌≡◌, IfOk, IfSome, None};
 ghost use Rattle.tt_abs.specs.Entries.{Ascends};
 ghost use Rattle.tt_abs.specs.Settings.{setting_of};
 ghost use Rattle.tt_abs.specs.StateFlow.{FunctionsFit};
-ghost use Rattle.hintcheck_explain.specs.Faults.{TellsFailure};
+ghost use Rattle.tt_find.specs.FoundSubjects.{IsJustifiedFor};
+ghost use Rattle.hintcheck_explain.specs.Faults.{HasLeast, TellsFailure};
+ghost use Rattle.hintcheck_explain.specs.Representation.Needs.{raised};
 
 use crate::asked::{Asked, ExplainFault};
 use hintcheck_report::Place;
@@ -53,6 +55,7 @@ fn limit_of(reason: Reason) -> Option<Limit> {
 
 /// Returns the setting where the limit has this number.
 fn with_limit<'a>(setting: &Setting<'a>, limit: Limit, number: u16) -> Setting<'a>
+    ensures raised { result ≡ raised setting.now limit number }
     ensures start { result.start ≡ setting.now.start }
     ensures functions { result.limits.functions ≡ setting.now.limits.functions }
 {
@@ -89,6 +92,10 @@ fn fault_with(
 ) -> Result<Option<Refusal>, Exhausted>
     requires ascends { Ascends setting.now.start.now }
     requires fits { FunctionsFit (setting_of setting.now) setting.now.start.now }
+    ensures accepted { IfOk result
+        (λ fault. fault ≡ None → HasLeast (raised setting.now limit number)) }
+    ensures refused { IfOk result
+        (λ fault. IfSome fault (IsJustifiedFor (raised setting.now limit number))) }
 {
     let raised = with_limit(setting, limit, number);
     Ok(explore(alloc, &raised, budget)?.into_fault())
@@ -104,6 +111,8 @@ fn least_number(
 ) -> Result<u16, Exhausted>
     requires ascends { Ascends setting.now.start.now }
     requires fits { FunctionsFit (setting_of setting.now) setting.now.start.now }
+    requires greatest { HasLeast (raised setting.now limit 65535) }
+    ensures { IfOk result (λ least. HasLeast (raised setting.now limit least)) }
 {
     let mut refused: u16 = 0;
     let mut accepted = u16::MAX;

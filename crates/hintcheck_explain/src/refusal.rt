@@ -1,7 +1,10 @@
 //! Explains why a program is refused.
 
+ghost use Rattle.std.specs.Prelude.{IfOk, IfSome, reverse};
+ghost use Rattle.tt_abs.specs.Settings.{setting_of};
 ghost use Rattle.tt_stream.specs.Streams.{CountsPrintFailure};
 ghost use Rattle.hintcheck_explain.specs.Faults.{TellsFailure};
+ghost use Rattle.hintcheck_explain.specs.Representation.Causes.{IsCause, IsCaseOf};
 
 use crate::arrivals::{Edge, Ways, depths_at, edges_of};
 use crate::asked::ExplainFault;
@@ -42,13 +45,16 @@ fn trouble_of(
     frames: &[Frame],
     state: &State,
     failed: Failed,
-) -> Result<Option<Trouble>, AllocError> {
+) -> Result<Option<Trouble>, AllocError>
+    ensures { IfOk result (λ found. IfSome found
+        (IsCause (setting_of subject.now.setting.now) (reverse frames.now) point.1 state.now failed)) }
+{
     if let Failed::OtherDepth { depth } = failed {
         let other = usize::try_from(depth).unwrap_or(usize::MAX);
         return Ok(depths_at(subject, edges, point, state.depth(), other));
     }
     match outcome_at(subject.setting, frames, point.1, state)? {
-        StepOutcome::Refused(found) if found == failed => Ok(Some(Trouble::Failed(failed))),
+        StepOutcome::Refused(found) if found == failed => Ok(Some(Trouble::Failed(found))),
         StepOutcome::Goes { .. } if failed.reason() == Reason::TooManyContexts => {
             Ok(Some(Trouble::Other))
         }
@@ -64,7 +70,9 @@ fn case_of<'a>(
     spot: Spot,
     offset: u32,
     failed: Failed,
-) -> Result<Option<Case<'a>>, AllocError> {
+) -> Result<Option<Case<'a>>, AllocError>
+    ensures { IfOk result (λ found. IfSome found (IsCaseOf subject.now spot offset failed)) }
+{
     for context in 0..subject.certificate.contexts() {
         if subject.spot(context) != spot {
             continue;

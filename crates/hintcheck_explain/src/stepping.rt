@@ -1,5 +1,9 @@
 //! What an instruction makes of what is known at its place.
 
+ghost use Rattle.std.specs.Prelude.{IfOk, reverse};
+ghost use Rattle.tt_abs.specs.Settings.{setting_of};
+ghost use Rattle.hintcheck_explain.specs.Representation.Causes.{TellsRefused};
+
 use std::alloc::AllocError;
 use tt_abs::{Failed, Moves, Point, Setting, State, StepFault, step_at};
 use tt_code::Frame;
@@ -24,7 +28,10 @@ pub(crate) fn outcome_at(
     frames: &[Frame],
     offset: u32,
     state: &State,
-) -> Result<StepOutcome, AllocError> {
+) -> Result<StepOutcome, AllocError>
+    ensures refused { IfOk result
+        (TellsRefused (setting_of setting.now) (reverse frames.now) offset state.now) }
+{
     let point = Point { frames, offset };
     if setting.is_end(&point, offset) {
         return Ok(StepOutcome::Ends);

@@ -1,5 +1,8 @@
 //! Which test of an instruction fails on what a symbolic state knows.
 
+ghost use Rattle.std.specs.Prelude.{IfOk, IsTrue};
+ghost use Rattle.hintcheck_explain.specs.Representation.Causes.{HasReason};
+
 use crate::describing::Beyond;
 use crate::element::Element;
 use crate::stepping::{StepOutcome, outcome_at};
@@ -171,7 +174,9 @@ impl Trial<'_, '_> {
 }
 
 /// Whether a program is refused for this reason where this test fails.
-fn is_reason(reason: Reason, trouble: Trouble) -> bool {
+fn is_reason(reason: Reason, trouble: Trouble) -> bool
+    ensures { IsTrue result → HasReason reason trouble }
+{
     match trouble {
         Trouble::Failed(failed) => failed.reason() == reason,
         Trouble::Range { .. } => reason == Reason::UnknownOperand,
@@ -232,7 +237,9 @@ pub(crate) fn trouble_of(
     setting: &Setting<'_>,
     state: &SymbolicState,
     reason: Reason,
-) -> Result<Trouble, AllocError> {
+) -> Result<Trouble, AllocError>
+    ensures { IfOk result (HasReason reason) }
+{
     let trouble = first_trouble(alloc, setting, state)?;
     if is_reason(reason, trouble) {
         Ok(trouble)

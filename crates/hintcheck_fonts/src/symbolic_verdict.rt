@@ -9,7 +9,7 @@ ghost use Rattle.tt_font.specs.Reading.{FontData, Reads};
 ghost use Rattle.tt_symbolic_font.specs.Known.{StartGlyphs};
 ghost use Rattle.hintcheck_fonts.specs.FontPrograms.{IsFontInRange, judgement_on};
 ghost use Rattle.hintcheck_fonts.specs.Representation.ProgramOrder.{CanGoOn, skipped_to, stage_of};
-ghost use Rattle.hintcheck_fonts.specs.Representation.SymbolicChecks.{IsAfterCvt, TellsRefused};
+ghost use Rattle.hintcheck_fonts.specs.Representation.SymbolicChecks.{AnswersBySymbols, IsAfterCvt, TellsRefused};
 ghost use Rattle.hintcheck_fonts.specs.Sessions.{at_start};
 ghost use Rattle.hintcheck_fonts.specs.SymbolicVerdicts.{IsSymbolicVerdict};
 
@@ -19,7 +19,6 @@ use crate::report::{Name, Refused, Verdict};
 use crate::session::Outcome;
 use crate::symbolic_check::SymbolicCheck;
 use std::alloc::{AllocError, Global};
-use tt_abs::Exhausted;
 use tt_family::Budget;
 use tt_font::{Font, FontFault};
 use tt_symbolic_font::Ends;
@@ -31,12 +30,33 @@ const MOST_TAKEN_UP_AGAIN: u32 = 40;
 /// How many steps the search of a font usually makes at most, for all its programs together.
 pub const USUAL_STEPS: u64 = 1_000_000_000;
 
+/// Judges the next program and goes on to the one after it: returns the program's outcome, or none
+/// where no program is left. A search by steps makes no points, so that only memory ends it.
+fn judge_next(
+    alloc: Global,
+    programs: &mut FontPrograms<'_>,
+    judge: &mut SymbolicCheck,
+) -> Result<Option<Outcome>, AllocError>
+    requires range { IsFontInRange programs.old.font.now }
+    requires start { CanGoOn (λ functions. Ascends functions) (stage_of programs.old) }
+    ensures answer { IfOk result (λ answer. AnswersBySymbols programs.old.font.now judge.new
+        (stage_of programs.old) answer (stage_of programs.new)) }
+    ensures start { CanGoOn (λ functions. Ascends functions) (stage_of programs.new) }
+    ensures font { programs.new.font ≡ programs.old.font }
+    ensures keeps { judge.new.starts ≡ judge.old.starts }
+{
+    match programs.judge_next(alloc, judge, &mut Budget::unlimited()) {
+        Ok(outcome) => Ok(outcome),
+        Err(_) => Err(AllocError),
+    }
+}
+
 /// Judges the next program. Returns what is reported of it, if it is refused.
 fn refused_next(
     alloc: Global,
     programs: &mut FontPrograms<'_>,
     judge: &mut SymbolicCheck,
-) -> Result<Option<Refused>, Exhausted>
+) -> Result<Option<Refused>, AllocError>
     requires range { IsFontInRange programs.old.font.now }
     requires start { CanGoOn (λ functions. Ascends functions) (stage_of programs.old) }
     ensures answer { IfOk result (λ refused. TellsRefused programs.old.font.now judge.new
@@ -44,7 +64,7 @@ fn refused_next(
     ensures start { CanGoOn (λ functions. Ascends functions) (stage_of programs.new) }
     ensures font { programs.new.font ≡ programs.old.font }
 {
-    match programs.judge_next(alloc, judge, &mut Budget::unlimited())? {
+    match judge_next(alloc, programs, judge)? {
         Some(outcome) => Ok(outcome.refused),
         None => Ok(None),
     }
@@ -55,7 +75,7 @@ fn refused_before_glyphs(
     alloc: Global,
     programs: &mut FontPrograms<'_>,
     judge: &mut SymbolicCheck,
-) -> Result<Option<Refused>, Exhausted>
+) -> Result<Option<Refused>, AllocError>
     requires range { IsFontInRange programs.old.font.now }
     requires start { stage_of programs.old ≡ at_start }
     ensures none { IfOk result (λ refused. refused ≡ None
@@ -94,7 +114,7 @@ fn refused_glyphs(
     alloc: Global,
     programs: &mut FontPrograms<'_>,
     judge: &mut SymbolicCheck,
-) -> Result<Vec<Refused>, Exhausted>
+) -> Result<Vec<Refused>, AllocError>
     requires range { IsFontInRange programs.old.font.now }
     requires start { CanGoOn (λ functions. Ascends functions) (stage_of programs.old) }
     requires stage { IsAfterCvt programs.old.font.now judge.old.ends (stage_of programs.old) }
@@ -105,7 +125,7 @@ fn refused_glyphs(
     take_up(alloc, programs, judge, &ends)?;
     let mut again = 0;
     let mut refused = Vec::new(alloc);
-    while let Some(outcome) = programs.judge_next(alloc, judge, &mut Budget::unlimited())? {
+    while let Some(outcome) = judge_next(alloc, programs, judge)? {
         if judge.may_write_kept() && again < MOST_TAKEN_UP_AGAIN {
             again += 1;
             take_up(alloc, programs, judge, &ends)?;
@@ -119,11 +139,14 @@ fn refused_glyphs(
 
 /// Judges the programs of a font by symbolic states, one after the other: returns the refused ones,
 /// in their order.
+///
+/// # Errors
+/// If memory runs out.
 pub fn refused_programs(
     alloc: Global,
     font: &Font<'_>,
     judge: &mut SymbolicCheck,
-) -> Result<Vec<Refused>, Exhausted>
+) -> Result<Vec<Refused>, AllocError>
     requires { IsFontInRange font.now }
     ensures { IfOk result (λ refused. IsSymbolicVerdict font.now
         (judgement_on font.now refused.items)) }
@@ -132,10 +155,8 @@ pub fn refused_programs(
     match refused_before_glyphs(alloc, &mut programs, judge)? {
         Some(one) => {
             let mut refused = Vec::new(alloc);
-            match refused.push(one) {
-                Ok(()) => Ok(refused),
-                Err(_) => Err(Exhausted::Memory),
-            }
+            refused.push(one)?;
+            Ok(refused)
         }
         None => refused_glyphs(alloc, &mut programs, judge),
     }

@@ -36,7 +36,7 @@ pub loop-refused-smaller-then-again-lt-MOST_TAKEN_UP_AGAIN :
 loop-refused-smaller-then-again-lt-MOST_TAKEN_UP_AGAIN c =
     let d = c.loop-refused.programs.font.now in
     let s = stage_of c.loop-refused.programs in
-    let t = stage_of c.judge_next.new.self in
+    let t = stage_of c.judge_next.new.programs in
     let u = stage_of c.take_up-then-again-lt-MOST_TAKEN_UP_AGAIN.new.programs in
     let ends = c.take_ends-ends.result in
     let again = c.loop-refused.again in
@@ -50,7 +50,7 @@ pub loop-refused-preserved-then-again-lt-MOST_TAKEN_UP_AGAIN :
 loop-refused-preserved-then-again-lt-MOST_TAKEN_UP_AGAIN c =
     let d = c.loop-refused.programs.font.now in
     let s = stage_of c.loop-refused.programs in
-    let t = stage_of c.judge_next.new.self in
+    let t = stage_of c.judge_next.new.programs in
     let u = stage_of c.take_up-then-again-lt-MOST_TAKEN_UP_AGAIN.new.programs in
     let ends = c.take_ends-ends.result in
     let starts = c.take_up-then-again-lt-MOST_TAKEN_UP_AGAIN.new.judge.starts in
@@ -71,7 +71,7 @@ pub loop-refused-smaller : goal.loop-refused-smaller
 loop-refused-smaller c =
     let d = c.loop-refused.programs.font.now in
     let s = stage_of c.loop-refused.programs in
-    let t = stage_of c.judge_next.new.self in
+    let t = stage_of c.judge_next.new.programs in
     let again = c.loop-refused.again in
     let e = c.in_ok-outcome.ensures in
     subst (λ (f : Bor FontData). takings_left f.now again t < takings_left d again s) (sym e.font)
@@ -81,7 +81,7 @@ pub loop-refused-preserved : goal.loop-refused-preserved
 loop-refused-preserved c =
     let d = c.loop-refused.programs.font.now in
     let s = stage_of c.loop-refused.programs in
-    let t = stage_of c.judge_next.new.self in
+    let t = stage_of c.judge_next.new.programs in
     let ends = c.take_ends-ends.result in
     let j = c.judge_next.new.judge in
     let i = c.loop-refused.invariant in
@@ -100,7 +100,7 @@ pub returns : goal.returns
 returns c =
     let d = c.loop-refused.programs.font.now in
     let s = stage_of c.loop-refused.programs in
-    let t = stage_of c.judge_next.new.self in
+    let t = stage_of c.judge_next.new.programs in
     let i = c.loop-refused.invariant in
     let rs = c.loop-refused.refused.items in
     subst (λ (f : Bor FontData). IsSymbolicVerdict f.now (judgement_on f.now rs)) i.font
