@@ -61,10 +61,9 @@ pub record HoldNoSuchPlace (bytes word : List ℕ) (offset : Option ℕ)
   pub named : Names word font program
   pub lacks : LacksPlace program offset told
 
--- why an offset can't be asked for in a program; out of memory is unspecified
+-- why an offset can't be asked for in a program
 abbrev pub IsFaultOfOffset : List ℕ → Option ℕ → CommandFault → Type 0
 IsFaultOfOffset program offset (fault.OffsetWord told) = LacksPlace program offset told
-IsFaultOfOffset program offset fault.OutOfMemory = Unit {0}
 IsFaultOfOffset program offset other = ⊥
 
 -- the name of a code, `?` where it has none

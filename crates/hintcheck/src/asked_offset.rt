@@ -1,49 +1,31 @@
 //! The offset that is asked for in a program.
 
-ghost use Rattle.std.specs.Prelude.{◌≡◌, ◌↔◌, ◌<◌, ◌^◌, IfErr, IfOk, IsTrue, OnOk, length};
+ghost use Rattle.std.specs.Prelude.{◌↔◌, ◌<◌, ◌^◌, IfErr, IsTrue, OnOk, length};
 ghost use Rattle.hintcheck.specs.Explanations.{BeginsInstruction, HasPlace};
 ghost use Rattle.hintcheck.specs.Neighbours.{IsFaultOfOffset};
 
 use crate::commands::faults::CommandFault;
 use crate::neighbours::neighbours_of;
-use std::alloc::{AllocError, Global};
-use tt_code::{CodeFault, Program};
+use tt_code::first_uncut;
 
 /// Whether an instruction of the program begins at the offset: there is a byte, and those before it
 /// can be cut into instructions, structured or not.
-///
-/// # Errors
-/// `OutOfMemory`.
-pub(crate) fn begins_instruction(
-    alloc: Global,
-    program: &[u8],
-    offset: u32,
-) -> Result<bool, CommandFault>
+pub(crate) fn begins_instruction(program: &[u8], offset: u32) -> bool
     requires { length program.now < 2 ^ 31 }
-    ensures begins { IfOk result (λ begins. IsTrue begins ↔ BeginsInstruction program.now offset) }
-    ensures faults { IfErr result (λ fault. fault ≡ CommandFault.OutOfMemory) }
+    ensures { IsTrue result ↔ BeginsInstruction program.now offset }
 {
     let offset = offset as usize;
     if program.len() <= offset {
-        return Ok(false);
+        return false;
     }
-    match Program::cut(alloc, &program[..offset]) {
-        Ok(_program) => Ok(true),
-        Err(CodeFault::Structure(_at)) => Ok(true),
-        Err(CodeFault::CannotCut(_at)) => Ok(false),
-        Err(CodeFault::OutOfMemory(AllocError)) => Err(CommandFault::OutOfMemory),
-    }
+    first_uncut(&program[..offset]).is_none()
 }
 
 /// Checks that an instruction of the program begins at the offset, if one is asked for.
 ///
 /// # Errors
-/// `OffsetWord` where none begins there, with the instructions around it; `OutOfMemory`.
-pub(crate) fn check_offset(
-    alloc: Global,
-    program: &[u8],
-    offset: Option<u32>,
-) -> Result<(), CommandFault>
+/// `OffsetWord` where none begins there, with the instructions around it.
+pub(crate) fn check_offset(program: &[u8], offset: Option<u32>) -> Result<(), CommandFault>
     requires { length program.now < 2 ^ 31 }
     ensures begins { OnOk result (HasPlace program.now offset) }
     ensures faults { IfErr result (IsFaultOfOffset program.now offset) }
@@ -51,9 +33,9 @@ pub(crate) fn check_offset(
     let Some(offset) = offset else {
         return Ok(());
     };
-    if begins_instruction(alloc, program, offset)? {
+    if begins_instruction(program, offset) {
         Ok(())
     } else {
-        Err(CommandFault::OffsetWord(neighbours_of(alloc, program, offset)?))
+        Err(CommandFault::OffsetWord(neighbours_of(program, offset)))
     }
 }

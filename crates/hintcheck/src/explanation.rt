@@ -263,7 +263,7 @@ fn explain_word<O: Sink>(
     let read = font_in(alloc, font)?;
     match named_program(&read, word) {
         Some(named) => {
-            check_offset(alloc, named.bytes, offset)?;
+            check_offset(named.bytes, offset)?;
             explain_named(alloc, &read, named.name, offset, budget, out)
         }
         None => Err(CommandFault::ProgramName),

@@ -1,12 +1,10 @@
 //! The instructions around an offset of a program at which none begins.
 
-ghost use Rattle.std.specs.Prelude.{◌≡◌, ◌<◌, ◌^◌, IfErr, IfOk, length, MatchOption, slice_get, Some};
+ghost use Rattle.std.specs.Prelude.{◌≡◌, ◌<◌, ◌^◌, length, MatchOption, slice_get, Some};
 ghost use Rattle.hintcheck.specs.Explanations.{BeginsInstruction};
 ghost use Rattle.hintcheck.specs.Neighbours.{AreAround, IsFirstAfter, IsInstructionOf, IsLastBefore, NoneAfter, NoneBefore, code_name};
 
 use crate::asked_offset::begins_instruction;
-use crate::commands::faults::CommandFault;
-use std::alloc::Global;
 use std::fmt;
 use tt_code::name;
 
@@ -78,73 +76,49 @@ fn neighbour_at(program: &[u8], offset: u32) -> Neighbour
 }
 
 /// Returns the last instruction that begins before the offset, if one does.
-///
-/// # Errors
-/// `OutOfMemory`.
-fn last_before(
-    alloc: Global,
-    program: &[u8],
-    offset: u32,
-) -> Result<Option<Neighbour>, CommandFault>
+fn last_before(program: &[u8], offset: u32) -> Option<Neighbour>
     requires { length program.now < 2 ^ 31 }
-    ensures found { IfOk result (λ found. MatchOption found
-        (NoneBefore program.now offset) (IsLastBefore program.now offset)) }
-    ensures faults { IfErr result (λ fault. fault ≡ CommandFault.OutOfMemory) }
+    ensures { MatchOption result
+        (NoneBefore program.now offset) (IsLastBefore program.now offset) }
 {
     let mut at = offset.min(program.len() as u32);
     while at > 0 {
         at -= 1;
-        if begins_instruction(alloc, program, at)? {
-            return Ok(Some(neighbour_at(program, at)));
+        if begins_instruction(program, at) {
+            return Some(neighbour_at(program, at));
         }
     }
-    Ok(None)
+    None
 }
 
 /// Returns the first instruction that begins after the offset, if one does.
-///
-/// # Errors
-/// `OutOfMemory`.
-fn first_after(
-    alloc: Global,
-    program: &[u8],
-    offset: u32,
-) -> Result<Option<Neighbour>, CommandFault>
+fn first_after(program: &[u8], offset: u32) -> Option<Neighbour>
     requires { length program.now < 2 ^ 31 }
-    ensures found { IfOk result (λ found. MatchOption found
-        (NoneAfter program.now offset) (IsFirstAfter program.now offset)) }
-    ensures faults { IfErr result (λ fault. fault ≡ CommandFault.OutOfMemory) }
+    ensures { MatchOption result
+        (NoneAfter program.now offset) (IsFirstAfter program.now offset) }
 {
     let mut at = offset;
     while (at as usize) < program.len() {
         at += 1;
-        if begins_instruction(alloc, program, at)? {
-            return Ok(Some(neighbour_at(program, at)));
+        if begins_instruction(program, at) {
+            return Some(neighbour_at(program, at));
         }
     }
-    Ok(None)
+    None
 }
 
 /// Returns what is around the offset, at which no instruction of the program begins. An instruction
 /// has at most 512 bytes, so that few offsets are looked at.
-///
-/// # Errors
-/// `OutOfMemory`.
-pub(crate) fn neighbours_of(
-    alloc: Global,
-    program: &[u8],
-    offset: u32,
-) -> Result<Neighbours, CommandFault>
+pub(crate) fn neighbours_of(program: &[u8], offset: u32) -> Neighbours
     requires few { length program.now < 2 ^ 31 }
     requires none { BeginsInstruction program.now offset → ⊥ }
-    ensures around { IfOk result (AreAround program.now offset) }
-    ensures faults { IfErr result (λ fault. fault ≡ CommandFault.OutOfMemory) }
+    ensures { AreAround program.now offset result }
 {
-    let Some(before) = last_before(alloc, program, offset)? else {
-        return Ok(Neighbours::Nowhere);
+    let Some(before) = last_before(program, offset) else {
+        return Neighbours::Nowhere;
     };
-    match first_after(alloc, program, offset)? {
-        Some(after) => Ok(Neighbours::Between(before, after)),
-        None => Ok(Neighbours::Behind(before)),
+    match first_after(program, offset) {
+        Some(after) => Neighbours::Between(before, after),
+        None => Neighbours::Behind(before),
     }
 }

@@ -200,7 +200,7 @@ fn explain_word<O: Sink>(
     let read = font_in(alloc, font)?;
     match named_program(&read, word) {
         Some(named) => {
-            check_offset(alloc, named.bytes, offset)?;
+            check_offset(named.bytes, offset)?;
             explain_named(alloc, &read, named, offset, steps, out)
         }
         None => Err(CommandFault::ProgramName),

@@ -4,7 +4,7 @@ use crate::element::Element;
 use crate::exchange::{exchange_of, is_of_one, place_under};
 use crate::view::View;
 use tt_abs::{Cell, State};
-use tt_code::kinds::{Arithmetic, Effect, Pushed, Row, Source as Register, StackOp, Update};
+use tt_code::kinds::{Arithmetic, Effect, NewNumber, Pushed, Row, StackOp, Update};
 use tt_code::{Instr, entry};
 
 /// Where a number was kept before an instruction, or that the instruction makes it.
@@ -126,13 +126,13 @@ fn provenance_on_stack(state: &State, instr: &Instr<'_>, place: usize) -> Proven
 fn provenance_by_update(state: &State, update: Update, element: Element) -> Option<Provenance> {
     let depth = state.depth();
     match update {
-        Update::SetReference(reference, source) => {
+        Update::SetReference(reference, number) => {
             if Element::of_reference(reference) != element {
                 return None;
             }
-            Some(match source {
-                Register::Taken(position) => under(depth, usize::from(position)),
-                Register::Same(other) => Provenance::Kept(Element::of_reference(other)),
+            Some(match number {
+                NewNumber::Taken(position) => under(depth, usize::from(position)),
+                NewNumber::Same(other) => Provenance::Kept(Element::of_reference(other)),
             })
         }
         Update::SetLoop(position) if element == Element::Loop => {

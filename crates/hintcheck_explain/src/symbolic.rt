@@ -13,7 +13,7 @@ use crate::legend::Legend;
 use crate::symbolic_calls::SymbolicCalls;
 use crate::symbolic_case::{instruction_at, trouble_of};
 use crate::symbolic_knowledge::SymbolicKnowledge;
-use crate::symbolic_origin::{SourceText, code_of};
+use crate::symbolic_origin::{SymbolOriginText, code_of};
 use crate::trouble::Trouble;
 use crate::view::{View, symbolic_cell};
 use hintcheck_report::{Place, Refused};
@@ -180,13 +180,13 @@ fn tell_origin<O: Sink>(
     let Some(cell) = symbolic_cell(&known.state, element) else {
         return Ok(());
     };
-    let Some(source) = known.source(cell) else {
+    let Some(origin) = known.origin(cell) else {
         return Ok(());
     };
-    let text = SourceText {
+    let text = SymbolOriginText {
         program: searched.name,
         setting: searched.setting,
-        source,
+        origin,
     };
     writeln!(out, "Where the number comes from: {text}")
 }

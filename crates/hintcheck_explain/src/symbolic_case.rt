@@ -13,7 +13,7 @@ use std::alloc::{AllocError, Global};
 use tt_abs::{Cell, Failed, Role, Setting, State};
 use tt_code::kinds::{Pointer, Reference};
 use tt_code::{Frame, Instr, Reason};
-use tt_symbolic_check::Place as SearchedPlace;
+use tt_symbolic_check::Site;
 use tt_symbolic_state::state::State as SymbolicState;
 
 /// How many cells a state of the strict profile may have.
@@ -189,7 +189,7 @@ pub(crate) fn instruction_at<'a>(
     setting: &Setting<'a>,
     state: &SymbolicState,
 ) -> Option<Instr<'a>> {
-    let place = SearchedPlace::of(state);
+    let place = Site::of(state);
     code_of(setting, place.spot).at(place.offset)
 }
 

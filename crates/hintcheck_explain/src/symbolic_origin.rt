@@ -7,8 +7,8 @@ use std::fmt;
 use tt_abs::{Kind, Setting, Spot};
 use tt_cert::Name;
 use tt_code::Program;
-use tt_symbolic_check::Place as SearchedPlace;
-use tt_symbolic_search::Source;
+use tt_symbolic_check::Site;
+use tt_symbolic_search::SymbolOrigin;
 
 /// The codes of RS and RCVT.
 const READS: [u8; 2] = [0x43, 0x45];
@@ -37,20 +37,20 @@ impl fmt::Display for MetNumber {
 
 /// Where a number comes from that isn't known.
 #[derive(Clone, Copy)]
-pub(crate) struct SourceText<'a> {
+pub(crate) struct SymbolOriginText<'a> {
     pub program: Name,
     pub setting: &'a Setting<'a>,
-    pub source: Source,
+    pub origin: SymbolOrigin,
 }
 
-impl SourceText<'_> {
+impl SymbolOriginText<'_> {
     /// Returns a place as it is printed.
-    fn place(&self, at: SearchedPlace) -> Place {
+    fn place(&self, at: Site) -> Place {
         Place::at(self.program, at.spot, at.offset)
     }
 
     /// Returns the code of the instruction at a place, if one is there.
-    fn code_at(&self, at: SearchedPlace) -> Option<u8> {
+    fn code_at(&self, at: Site) -> Option<u8> {
         let instruction = code_of(self.setting, at.spot).at(at.offset)?;
         Some(instruction.code())
     }
@@ -67,10 +67,10 @@ impl SourceText<'_> {
     }
 }
 
-impl fmt::Display for SourceText<'_> {
+impl fmt::Display for SymbolOriginText<'_> {
     fn fmt<W: fmt::Write>(&self, f: &mut fmt::Formatter<W>) -> fmt::Result {
-        match self.source {
-            Source::Made(at) => {
+        match self.origin {
+            SymbolOrigin::Made(at) => {
                 let place = self.place(at);
                 let code = self.code_at(at).unwrap_or(0);
                 let name = name_of(code);
@@ -81,7 +81,7 @@ impl fmt::Display for SourceText<'_> {
                 let making = Making::symbolic(code);
                 write!(f, "{name} at {place} {making}")
             }
-            Source::Met {
+            SymbolOrigin::Met {
                 at,
                 first: None,
                 second: None,
@@ -92,7 +92,7 @@ impl fmt::Display for SourceText<'_> {
                     "ways that meet at {place} bring numbers that aren't known."
                 )
             }
-            Source::Met { at, first, second } => {
+            SymbolOrigin::Met { at, first, second } => {
                 let place = self.place(at);
                 let first = MetNumber(first);
                 let second = MetNumber(second);
@@ -101,11 +101,11 @@ impl fmt::Display for SourceText<'_> {
                     "ways that meet at {place} bring different numbers: {first}, {second}."
                 )
             }
-            Source::Start => write!(
+            SymbolOrigin::Start => write!(
                 f,
                 "the program starts with it, as the CVT program leaves it."
             ),
-            Source::Lost => write!(f, "what was searched doesn't tell."),
+            SymbolOrigin::Lost => write!(f, "what was searched doesn't tell."),
         }
     }
 }

@@ -8,7 +8,7 @@ use Rattle.tt_code.specs.States.{IsNumber, Registers, reference, with_reference,
 use Rattle.tt_code.specs.Changes.{taken_at, with_stored, updated, all_updated, numbers, natural, zone_of}
 use Rattle.tt_code.specs.declared.kinds.Update.{Update}
 use Rattle.tt_code.specs.declared.kinds.Update.TheVariants as update
-use Rattle.tt_code.specs.declared.kinds.Source.TheVariants as source
+use Rattle.tt_code.specs.declared.kinds.NewNumber.TheVariants as new_number
 use Rattle.tt_code.specs.declared.kinds.Pointer.{Pointer}
 use Rattle.tt_code.specs.declared.kinds.Pointer.TheVariants.{Zp0, Zp1, Zp2}
 use Rattle.tt_code.specs.declared.kinds.Reference.{Reference}
@@ -242,8 +242,8 @@ Readable taken _ = Unit {0}
 
 pub update_best : {X : Type 0} (In : X → Type 0) (x : X) → In x → (t : X → List ℤ) (f : X → Registers ℤ ZoneNumber) (taken : List Cell) (a : Registers Cell ZoneCell) (u : Update)
     → Readable taken u → IsBestStack In t taken → AreBest In f a → AreBest In (λ x. updated numbers (t x) u (f x)) (updated cells taken u a)
-update_best In x i t f taken a (update.SetReference r (source.Taken n)) known h k = reference_best In f a r (λ x. taken_at (pos 1) (t x) n) (taken_at (Known (pos 1)) taken n) k (h.each n)
-update_best In x i t f taken a (update.SetReference r (source.Same q)) known h k = reference_best In f a r (λ x. reference q (f x).graphics) (reference q a.graphics) k (best_reference In f a q k)
+update_best In x i t f taken a (update.SetReference r (new_number.Taken n)) known h k = reference_best In f a r (λ x. taken_at (pos 1) (t x) n) (taken_at (Known (pos 1)) taken n) k (h.each n)
+update_best In x i t f taken a (update.SetReference r (new_number.Same q)) known h k = reference_best In f a r (λ x. reference q (f x).graphics) (reference q a.graphics) k (best_reference In f a q k)
 update_best In x i t f taken a (update.SetPointer p n) known h k =
     pointer_best In f a p (λ x. zone_of (taken_at (pos 1) (t x) n)) (zone_in (taken_at (Known (pos 1)) taken n)) k
     (zone_of_known In (λ x. taken_at (pos 1) (t x) n) (taken_at (Known (pos 1)) taken n) known.0 known.1 (h.each n))

@@ -19,7 +19,7 @@ use Rattle.tt_code.specs.declared.reason.Reason.{Reason}
 use Rattle.tt_code.specs.declared.reason.Reason.TheVariants as reason
 use Rattle.tt_code.specs.declared.kinds.Operand.{Operand}
 use Rattle.tt_code.specs.declared.kinds.Operand.TheVariants as operand
-use Rattle.tt_code.specs.declared.kinds.Source.TheVariants as source
+use Rattle.tt_code.specs.declared.kinds.NewNumber.TheVariants as new_number
 use Rattle.tt_code.specs.declared.kinds.Update.{Update}
 use Rattle.tt_code.specs.declared.kinds.Update.TheVariants as update
 use Rattle.tt_code.specs.declared.kinds.StackOp.{StackOp}
@@ -212,8 +212,8 @@ module _ (s : Setting) (P : List (ℕ × ℕ) → (ℕ → Cell) → Type 0)
       → P functions (updated cells taken u x).storage
   updated_kept g functions taken (update.Store i v) x fits h = stores functions x.storage (index_in (taken_at (Known (pos 1)) taken i)) (taken_at (Known (pos 1)) taken v) h fits
   updated_kept g functions taken (update.SetPointer p i) x fits h = h
-  updated_kept g functions taken (update.SetReference r (source.Taken i)) x fits h = h
-  updated_kept g functions taken (update.SetReference r (source.Same q)) x fits h = h
+  updated_kept g functions taken (update.SetReference r (new_number.Taken i)) x fits h = h
+  updated_kept g functions taken (update.SetReference r (new_number.Same q)) x fits h = h
   updated_kept g functions taken (update.SetLoop i) x fits h = h
   updated_kept g functions taken update.LoopIsOne x fits h = h
 

@@ -19,7 +19,7 @@ use Rattle.tt_code.specs.declared.reason.Reason.TheVariants as reason
 use Rattle.tt_code.specs.declared.kinds.Reference.{Reference}
 use Rattle.tt_code.specs.declared.kinds.Reference.TheVariants.{Rp0, Rp1, Rp2}
 use Rattle.tt_code.specs.declared.kinds.Pointer.TheVariants.{Zp0, Zp1, Zp2}
-use Rattle.tt_code.specs.declared.kinds.Source.TheVariants as source
+use Rattle.tt_code.specs.declared.kinds.NewNumber.TheVariants as new_number
 use Rattle.tt_code.specs.declared.kinds.Update.{Update}
 use Rattle.tt_code.specs.declared.kinds.Update.TheVariants as update
 use Rattle.tt_code.specs.declared.kinds.Pushed.{Pushed}
@@ -117,12 +117,12 @@ if_in_range true c d h k = h
 if_in_range false c d h k = k
 
 updated_in_range : (taken : List Cell) (u : Update) (x : Registers Cell ZoneCell) → AreInRange taken → AreRegistersInRange x → AreRegistersInRange (updated cells taken u x)
-updated_in_range taken (update.SetReference Rp0 (source.Taken i)) x h k = record { rp0 = at_in_range taken i h; rp1 = k.rp1; rp2 = k.rp2; loop_number = k.loop_number; storage = k.storage }
-updated_in_range taken (update.SetReference Rp1 (source.Taken i)) x h k = record { rp0 = k.rp0; rp1 = at_in_range taken i h; rp2 = k.rp2; loop_number = k.loop_number; storage = k.storage }
-updated_in_range taken (update.SetReference Rp2 (source.Taken i)) x h k = record { rp0 = k.rp0; rp1 = k.rp1; rp2 = at_in_range taken i h; loop_number = k.loop_number; storage = k.storage }
-updated_in_range taken (update.SetReference Rp0 (source.Same q)) x h k = record { rp0 = reference_in_range q x k; rp1 = k.rp1; rp2 = k.rp2; loop_number = k.loop_number; storage = k.storage }
-updated_in_range taken (update.SetReference Rp1 (source.Same q)) x h k = record { rp0 = k.rp0; rp1 = reference_in_range q x k; rp2 = k.rp2; loop_number = k.loop_number; storage = k.storage }
-updated_in_range taken (update.SetReference Rp2 (source.Same q)) x h k = record { rp0 = k.rp0; rp1 = k.rp1; rp2 = reference_in_range q x k; loop_number = k.loop_number; storage = k.storage }
+updated_in_range taken (update.SetReference Rp0 (new_number.Taken i)) x h k = record { rp0 = at_in_range taken i h; rp1 = k.rp1; rp2 = k.rp2; loop_number = k.loop_number; storage = k.storage }
+updated_in_range taken (update.SetReference Rp1 (new_number.Taken i)) x h k = record { rp0 = k.rp0; rp1 = at_in_range taken i h; rp2 = k.rp2; loop_number = k.loop_number; storage = k.storage }
+updated_in_range taken (update.SetReference Rp2 (new_number.Taken i)) x h k = record { rp0 = k.rp0; rp1 = k.rp1; rp2 = at_in_range taken i h; loop_number = k.loop_number; storage = k.storage }
+updated_in_range taken (update.SetReference Rp0 (new_number.Same q)) x h k = record { rp0 = reference_in_range q x k; rp1 = k.rp1; rp2 = k.rp2; loop_number = k.loop_number; storage = k.storage }
+updated_in_range taken (update.SetReference Rp1 (new_number.Same q)) x h k = record { rp0 = k.rp0; rp1 = reference_in_range q x k; rp2 = k.rp2; loop_number = k.loop_number; storage = k.storage }
+updated_in_range taken (update.SetReference Rp2 (new_number.Same q)) x h k = record { rp0 = k.rp0; rp1 = k.rp1; rp2 = reference_in_range q x k; loop_number = k.loop_number; storage = k.storage }
 updated_in_range taken (update.SetPointer Zp0 i) x h k = record { rp0 = k.rp0; rp1 = k.rp1; rp2 = k.rp2; loop_number = k.loop_number; storage = k.storage }
 updated_in_range taken (update.SetPointer Zp1 i) x h k = record { rp0 = k.rp0; rp1 = k.rp1; rp2 = k.rp2; loop_number = k.loop_number; storage = k.storage }
 updated_in_range taken (update.SetPointer Zp2 i) x h k = record { rp0 = k.rp0; rp1 = k.rp1; rp2 = k.rp2; loop_number = k.loop_number; storage = k.storage }

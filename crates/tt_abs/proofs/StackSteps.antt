@@ -1,10 +1,8 @@
 -- What is done on the stack in place, against the outcome on cells.
 use Rattle.std.specs.Prelude.{ℤ, pos, Result, OnOk, IfErr, remove}
-use Rattle.std.specs.Result.{IsErrAnd}
-use Rattle.std.proofs.Common.{◌≡◌, ℕ, zero, suc, ◌+◌, List, [], ◌∷◌, Some, Ok, Err, true, false, refl, sym, ◌∙◌, ap, subst, arith, drop}
+use Rattle.std.proofs.Common.{◌≡◌, ℕ, zero, suc, ◌+◌, List, [], ◌∷◌, Some, Ok, Err, true, false, refl, sym, ◌∙◌, ap, arith, drop}
 use Rattle.tt_code.specs.Refusals.{Tested}
 use Rattle.tt_code.specs.Computing.{element}
-use Rattle.tt_code.specs.declared.reason.Reason.{Reason}
 use Rattle.tt_code.specs.declared.reason.Reason.TheVariants as reason
 use Rattle.tt_code.specs.declared.kinds.StackOp.TheVariants as op
 use Rattle.tt_code.specs.declared.kinds.Arithmetic.{Arithmetic}

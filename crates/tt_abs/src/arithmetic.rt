@@ -1,7 +1,7 @@
 //! What is known of a result, by what is known of the operands: the result itself exactly where it
 //! is the same for all numbers that the operands may be.
 
-ghost use Rattle.std.specs.Prelude.{◌≡◌, Bool, ℤ, ◌+ℤ◌, ◌-ℤ◌, neg_ℤ, not};
+ghost use Rattle.std.specs.Prelude.{◌≡◌, ℤ, ◌+ℤ◌, ◌-ℤ◌, neg_ℤ, not};
 ghost use Rattle.tt_code.specs.Computing.{absolute, equal};
 ghost use Rattle.tt_code.specs.States.{is_true as holds};
 ghost use Rattle.tt_abs.specs.Transfers.{and_cells, exact_cell, le_cells, lt_cells, of_both_known, of_known, only_if, or_cells, truth_cell};

@@ -13,7 +13,7 @@ use crate::stack::Stack;
 use crate::state::State;
 use smallvec::SmallVec;
 use std::alloc::{AllocError, Global};
-use tt_code::kinds::{Pushed, Source, Update};
+use tt_code::kinds::{NewNumber, Pushed, Update};
 
 /// What a line pushes: at most two cells.
 pub type PushedCells = SmallVec<Cell, 2>;
@@ -63,8 +63,8 @@ fn update(state: &mut State, count: usize, change: Update) -> Result<(), AllocEr
     match change {
         Update::SetReference(r, source) => {
             let cell = match source {
-                Source::Taken(position) => taken(&state.stack, count, position),
-                Source::Same(q) => reference(&state.graphics, q),
+                NewNumber::Taken(position) => taken(&state.stack, count, position),
+                NewNumber::Same(q) => reference(&state.graphics, q),
             };
             set_reference(&mut state.graphics, r, cell);
         }

@@ -1,6 +1,6 @@
 //! Orders of values that stand for sets of machine values, and their joins.
 
-ghost use Rattle.std.specs.Prelude.{◌≡◌, ℕ, ◌↔◌, IsTrue, IsFalse, IfOk, IfErr};
+ghost use Rattle.std.specs.Prelude.{◌≡◌, ◌↔◌, IsTrue, IsFalse, IfOk, IfErr};
 ghost use Rattle.tt_abs.specs.Orders.{Order as OrderOf, IsLeastAbove, OrderLaws};
 
 use thiserror::Error;

@@ -6,7 +6,7 @@ use Rattle.tt_code.specs.Table.{Lists}
 use Rattle.tt_code.specs.Settings.{Setting, ZoneNumber, Zero, One}
 use Rattle.tt_code.specs.States.{Machine, Registers, Value, Exactly, Anything, Outcome, leaves, reference, with_reference, with_pointer}
 use Rattle.tt_code.specs.Operands.{take_operands, test_uses}
-use Rattle.tt_code.specs.declared.kinds.Source.TheVariants as source
+use Rattle.tt_code.specs.declared.kinds.NewNumber.TheVariants as new_number
 use Rattle.tt_code.specs.declared.kinds.Update.{Update}
 use Rattle.tt_code.specs.declared.kinds.Update.TheVariants as update
 use Rattle.tt_code.specs.declared.kinds.Pushed.{Pushed}
@@ -46,9 +46,9 @@ with_stored i n area k = if nat_eq i k then n else area k
 
 -- one change of a line, by the elements that were taken
 abbrev pub updated : {N Z : Type 0} → Reading N Z → List N → Update → Registers N Z → Registers N Z
-updated read taken (update.SetReference r (source.Taken i)) x =
+updated read taken (update.SetReference r (new_number.Taken i)) x =
     record x { graphics = with_reference r (taken_at read.one taken i) x.graphics }
-updated read taken (update.SetReference r (source.Same q)) x =
+updated read taken (update.SetReference r (new_number.Same q)) x =
     record x { graphics = with_reference r (reference q x.graphics) x.graphics }
 updated read taken (update.SetPointer p i) x =
     record x { graphics = with_pointer p (read.zone (taken_at read.one taken i)) x.graphics }

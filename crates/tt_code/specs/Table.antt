@@ -13,7 +13,7 @@ use Rattle.tt_code.specs.declared.kinds.Within.TheVariants.{In, Both, GlyphAnd}
 use Rattle.tt_code.specs.declared.kinds.Operand.{Operand}
 use Rattle.tt_code.specs.declared.kinds.Operand.TheVariants.{Number, Point, Cvt, Storage, Zone, Contour, LoopPoints, PointPairs, CvtPairs}
 use Rattle.tt_code.specs.declared.kinds.Use.{Use}
-use Rattle.tt_code.specs.declared.kinds.Source.TheVariants.{Taken, Same}
+use Rattle.tt_code.specs.declared.kinds.NewNumber.TheVariants.{Taken, Same}
 use Rattle.tt_code.specs.declared.kinds.Update.{Update}
 use Rattle.tt_code.specs.declared.kinds.Update.TheVariants.{SetReference, SetPointer, SetLoop, LoopIsOne, Store}
 use Rattle.tt_code.specs.declared.kinds.Pushed.{Pushed}

@@ -68,7 +68,7 @@ pub struct Use {
 
 /// Where the new number of a reference point comes from.
 #[derive(Clone, Copy)]
-pub enum Source {
+pub enum NewNumber {
     /// The element taken at this position, the first one being 0.
     Taken(u8),
     /// The number of this reference point.
@@ -78,8 +78,8 @@ pub enum Source {
 /// What an instruction changes besides the stack.
 #[derive(Clone, Copy)]
 pub enum Update {
-    /// The reference point becomes the source's number.
-    SetReference(Reference, Source),
+    /// The reference point gets this new number.
+    SetReference(Reference, NewNumber),
     /// The zone pointer becomes the zone taken at this position.
     SetPointer(Pointer, u8),
     /// The loop number becomes the element taken at this position.

@@ -20,6 +20,7 @@ pub mod table;
 
 pub use fault::CodeFault;
 pub use instr::Instr;
+pub use instruction_length::first_uncut;
 pub use kinds::Effect;
 pub use limits::Limits;
 pub use machine::{Body, Frame, Graphics};

@@ -5,13 +5,13 @@ ghost use Rattle.std.specs.Prelude.{◌≡◌, map, option_map};
 ghost use Rattle.tt_code.specs.Table.{effect_of, name_of};
 ghost use Rattle.tt_code.specs.Entries.{codes_from, name_text, view};
 
+use crate::kinds::NewNumber::{Same, Taken};
 use crate::kinds::Operand::{
     Contour, Cvt, CvtPairs, LoopPoints, Number, Point, PointPairs, Storage, Zone,
 };
 use crate::kinds::Pointer::{Zp0, Zp1, Zp2};
 use crate::kinds::Pushed::{Any, Stored};
 use crate::kinds::Reference::{Rp0, Rp1, Rp2};
-use crate::kinds::Source::{Same, Taken};
 use crate::kinds::Update::{LoopIsOne, SetLoop, SetPointer, SetReference, Store};
 use crate::kinds::Within::{Both, GlyphAnd, In};
 use crate::kinds::{Arithmetic, Control, Effect, Push, Row, StackOp, Use};

@@ -60,15 +60,13 @@ impl Budget {
         ensures exceeded { OnErr result (Exceeds self.old self.new) }
         ensures budget { EndTellsBudget self.old self.new result }
     {
-        match self.left {
-            Some(left) if left > 0 => {
-                self.left = Some(left - 1);
-                Ok(())
-            }
-            _ => {
-                self.left = None;
-                Err(Exhausted::Budget)
+        if let Some(left) = &mut self.left {
+            if *left > 0 {
+                *left -= 1;
+                return Ok(());
             }
         }
+        self.left = None;
+        Err(Exhausted::Budget)
     }
 }

@@ -1,6 +1,6 @@
 //! Finished families of abstract states.
 
-ghost use Rattle.std.specs.Prelude.{◌≡◌, ◌⊎◌, ◌<◌, ◌≤◌, ℕ, None, Some, [], ◌∷◌, IfOk, IfSome, OnOk, length, reverse};
+ghost use Rattle.std.specs.Prelude.{◌≡◌, ◌⊎◌, ◌<◌, ◌≤◌, None, Some, [], ◌∷◌, IfSome, length};
 ghost use Rattle.std.specs.List.{All};
 ghost use Rattle.std.specs.List.Sorted.{IsStrictlySortedBy};
 ghost use Rattle.std.specs.Map.{keys_of};
@@ -8,9 +8,8 @@ ghost use Rattle.tt_abs.specs.Entries.{Ascends};
 ghost use Rattle.tt_family.specs.Places.{place_cmp, states_of};
 ghost use Rattle.tt_family.specs.Puts.{family_state};
 ghost use Rattle.tt_family.specs.Ends.{AreDefinedAtEnd, AreDefinedWhereFilled, AreKnownAtEnd, FillingsKeepEnd};
-ghost use Rattle.tt_family.specs.Contents.{HasChild, IsChild, IsFamily, family_of, frames_at, points_of, state_at};
+ghost use Rattle.tt_family.specs.Contents.{IsFamily, family_of, points_of, state_at};
 ghost use Rattle.tt_family.specs.Ascending.{IsFinished, IsContextAt};
-ghost use Rattle.tt_abs.specs.Spots.{spot_of};
 
 use crate::builder::Builder;
 use crate::states::States;

@@ -25,8 +25,8 @@ use Rattle.tt_abs.specs.declared.refusal.Refusal.TheVariants.{Refused, Exhausted
 use Rattle.tt_find.specs.Found.{IsJustified, NamesPlace}
 use Rattle.tt_family.specs.Fillings.{IsJustAfter}
 use Rattle.tt_find.specs.Representation.Solvers.{ComesFrom, IsCountable, HasLaws, IsLeading, IsLeadingAt, IsLeadingOn, IsLeadingTo, IsOnWay, IsStored, IsWalk, IsWhole, TellsSource, calls_of, here_of, place_of_way, place_over, places_from}
-use Rattle.tt_find.specs.declared.origin.Origin.{Origin}
-use Rattle.tt_find.specs.declared.origin.Origin.TheVariants.{JustBefore, Elsewhere}
+use Rattle.tt_find.specs.declared.approach.Approach.{Approach}
+use Rattle.tt_find.specs.declared.approach.Approach.TheVariants.{JustBefore, Elsewhere}
 use Rattle.tt_find.specs.declared.solver.Solver.{Solver}
 use Rattle.tt_find.specs.declared.walk.Walk.{Walk}
 use Rattle.tt_find.proofs.Points.{frames_stay}
@@ -51,7 +51,7 @@ pub comes_before : (s : Setting) (p q : Place) → Precedes s p q → ComesFrom 
 comes_before s p q just = ((λ _. just), (λ away _. let no_such : JustBefore ≡ Elsewhere = away in cc))
 
 -- from where a state comes to a place
-pub comes_by : (s : Setting) (v : Contents) (c off number next : ℕ) (after : Option ℕ) (source : Origin) → IsFamily v → c < length v.contexts → number < length v.contexts
+pub comes_by : (s : Setting) (v : Contents) (c off number next : ℕ) (after : Option ℕ) (source : Approach) → IsFamily v → c < length v.contexts → number < length v.contexts
     → IsJustAfter s (place_of v c off) after → TellsSource c number after next source → ComesFrom s (place_of v c off) (place_of v number next) source
 comes_by s v c off number next after source family lt there is tells = (
   (λ before.
@@ -73,7 +73,7 @@ module _ (s : Setting) (functions : List (ℕ × ℕ)) (laws : HasLaws s functio
   ranged_on solver p a way = (derived_is state_order (flow_of s functions) (height_of s) laws.flow p a (way.sound.kept.sound.derived p a way.here)).in_range
 
   -- the state was put at the only place
-  pub whole_put : (old new : Solver) (p : Place) (c off : ℕ) (t : State) (source : Origin) → IsLeading s functions old p (place_of old.builder c off ∷ []) t → c < length old.builder.contexts
+  pub whole_put : (old new : Solver) (p : Place) (c off : ℕ) (t : State) (source : Approach) → IsLeading s functions old p (place_of old.builder c off ∷ []) t → c < length old.builder.contexts
       → IsStored old new c off t source → ComesFrom s p (place_of old.builder c off) source → IsWhole s functions new
   whole_put old new p c off t source leading lt stored comes =
       leading_ends s functions laws new p t (leading_put s functions laws old new p c off t [] source leading lt stored comes)
@@ -164,7 +164,7 @@ module _ (s : Setting) (functions : List (ℕ × ℕ)) (laws : HasLaws s functio
       record { leading = subst L same to.leading; just_after = to.just_after; goes_over = λ n e. let one : next ≡ n = cc in at ∙ ap Some one; walks = to.walks }
 
   -- it has the state now
-  pub put : (old new : Solver) (walk walk' : Walk) (off : ℕ) (after : Option ℕ) (ways : Moves) (index : ℕ) (over : Option ℕ) (number next : ℕ) (source : Origin)
+  pub put : (old new : Solver) (walk walk' : Walk) (off : ℕ) (after : Option ℕ) (ways : Moves) (index : ℕ) (over : Option ℕ) (number next : ℕ) (source : Approach)
       → IsLeadingTo s functions old walk off after ways index over number next → IsStored old new number next walk.state source → TellsSource walk.context number after next source
       → IsWalk new.builder walk' → walk'.context ≡ walk.context → walk'.state ≡ walk.state → IsLeadingOn s functions new walk' off after ways index over
   put old new walk walk' off after ways index over number next source to stored tells is context state =

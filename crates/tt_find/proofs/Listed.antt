@@ -17,15 +17,15 @@ use Rattle.tt_family.specs.declared.joined.Joined.TheVariants.{New}
 use Rattle.tt_family.proofs.FillingLaws.{some_or_none}
 use Rattle.tt_family.proofs.Puts.{places_apart}
 use Rattle.tt_find.specs.Representation.Solvers.{IsListed, SparesAt}
-use Rattle.tt_find.specs.declared.origin.Origin.{Origin}
-use Rattle.tt_find.specs.declared.origin.Origin.TheVariants.{JustBefore, Elsewhere}
+use Rattle.tt_find.specs.declared.approach.Approach.{Approach}
+use Rattle.tt_find.specs.declared.approach.Approach.TheVariants.{JustBefore, Elsewhere}
 use Rattle.tt_find.proofs.Points.{family_kept, has_number, key_kept, same_or_apart}
 
-pub cases_source : (source : Origin) → (source ≡ JustBefore) ⊎ (source ≡ Elsewhere)
+pub cases_source : (source : Approach) → (source ≡ JustBefore) ⊎ (source ≡ Elsewhere)
 cases_source JustBefore = inl refl
 cases_source Elsewhere = inr refl
 
-module _ (v v' : Contents) (spare spare' : List (ℕ × ℕ)) (c off : ℕ) (t : State) (changed : Bool) (source : Origin) (family : IsFamily v) (lt : c < length v.contexts)
+module _ (v v' : Contents) (spare spare' : List (ℕ × ℕ)) (c off : ℕ) (t : State) (changed : Bool) (source : Approach) (family : IsFamily v) (lt : c < length v.contexts)
     (same : v'.contexts ≡ v.contexts) (put : PutsAt state_order (family_of v) (family_of v') (place_of v c off) t changed)
     (spares : SparesAt spare spare' (c, off) (family_of v (place_of v c off)) source) where
   key_same : (p : Place) → ◌≡◌ {A = ℕ × ℕ} (point_key_of v' p) (point_key_of v p)
@@ -126,7 +126,7 @@ module _ (v v' : Contents) (spare : List (ℕ × ℕ)) (frames : List Frame) (nu
 
 -- what is spare after a state came to a point
 
-pub spared_elsewhere : (old new : List (ℕ × ℕ)) (point : ℕ × ℕ) (was : Option State) (source : Origin) → source ≡ Elsewhere → has_point new point ≡ false
+pub spared_elsewhere : (old new : List (ℕ × ℕ)) (point : ℕ × ℕ) (was : Option State) (source : Approach) → source ≡ Elsewhere → has_point new point ≡ false
     → ((q : ℕ × ℕ) → is_at (place_cmp point) q ≡ false → has_point new q ≡ has_point old q) → SparesAt old new point was source
 spared_elsewhere old new point was source away gone others = record {
   elsewhere = λ q other. others q (places_apart point q other);
@@ -135,7 +135,7 @@ spared_elsewhere old new point was source away gone others = record {
   same = λ before _. absurd (let no_such : JustBefore ≡ Elsewhere = sym before ∙ away in cc);
 }
 
-pub spared_new : (old new : List (ℕ × ℕ)) (point : ℕ × ℕ) (was : Option State) (source : Origin) (joined : Joined) → source ≡ JustBefore → joined ≡ New → TellsNew joined was
+pub spared_new : (old new : List (ℕ × ℕ)) (point : ℕ × ℕ) (was : Option State) (source : Approach) (joined : Joined) → source ≡ JustBefore → joined ≡ New → TellsNew joined was
     → has_point new point ≡ true → ((q : ℕ × ℕ) → is_at (place_cmp point) q ≡ false → has_point new q ≡ has_point old q) → SparesAt old new point was source
 spared_new old new point was source joined before is_new tells there others = record {
   elsewhere = λ q other. others q (places_apart point q other);

@@ -11,7 +11,7 @@ use Rattle.tt_abs.specs.States.{start_of, state_laws, state_order}
 use Rattle.tt_family.specs.Contents.{family_of, frames_at, number_of}
 use Rattle.tt_family.specs.Places.{PutGives, PutsAt, has_point, states_of}
 use Rattle.tt_family.specs.Puts.{number_at, place_of}
-use Rattle.tt_find.specs.declared.origin.Origin.TheVariants.{Elsewhere}
+use Rattle.tt_find.specs.declared.approach.Approach.TheVariants.{Elsewhere}
 use Rattle.tt_find.specs.declared.solver.Solver.{Solver}
 use Rattle.tt_find.specs.Found.{IsDerived}
 use Rattle.tt_find.specs.Finders.{IsEmptySolver}

@@ -31,7 +31,7 @@ use Rattle.tt_abs.specs.declared.refusal.Refusal.TheVariants.{Refused, Exhausted
 use Rattle.tt_find.specs.Representation.OffsetMarks.{SetsMark, mark_of}
 use Rattle.tt_find.specs.declared.marks.Mark.TheVariants.{Kept, Passed}
 use Rattle.tt_find.specs.declared.marks.OffsetMarks.{OffsetMarks}
-use Rattle.tt_find.specs.declared.origin.Origin.{Origin}
+use Rattle.tt_find.specs.declared.approach.Approach.{Approach}
 use Rattle.tt_find.specs.declared.stop.Stop.{Stop}
 use Rattle.tt_find.specs.declared.stop.Stop.TheVariants.{Fault, Restart}
 use Rattle.tt_find.specs.declared.solver.Solver.{Solver}
@@ -60,7 +60,7 @@ pub names_at : (Is : Place → Reason → Type 0) (p : Place) (failed : Failed) 
 names_at Is p failed fault e h = let N : Refusal → Type 0 = λ x. NamesPlace Is x in subst N (sym e) (p, refl, refl, h)
 
 -- a state that is put makes at most one update
-pub stored_updates : (old new : Solver) (context offset : ℕ) (a : State) (source : Origin) → IsStored old new context offset a source → updates_of new ≤ updates_of old + 1
+pub stored_updates : (old new : Solver) (context offset : ℕ) (a : State) (source : Approach) → IsStored old new context offset a source → updates_of new ≤ updates_of old + 1
 stored_updates old new context offset a source stored = go stored.put.changed stored.put.changes where
   go : (changed : Bool) → new.changes ≡ old.changes + cond changed 1 0 → updates_of new ≤ updates_of old + 1
   go true e = let p = stored.passes in omega arith
@@ -269,7 +269,7 @@ module _ (s : Setting) (functions : List (ℕ × ℕ)) (laws : HasLaws s functio
 
   -- The state was put at the first of the places.
 
-  module _ (old new : Solver) (p : Place) (c off : ℕ) (t : State) (qs : List Place) (source : Origin) (leading : IsLeading s functions old p (place_of old.builder c off ∷ qs) t)
+  module _ (old new : Solver) (p : Place) (c off : ℕ) (t : State) (qs : List Place) (source : Approach) (leading : IsLeading s functions old p (place_of old.builder c off ∷ qs) t)
       (lt : c < length old.builder.contexts) (stored : IsStored old new c off t source) (comes : ComesFrom s p (place_of old.builder c off) source) where
     abbrev Q : Place
     Q = place_of old.builder c off
@@ -695,7 +695,7 @@ module _ (s : Setting) (functions : List (ℕ × ℕ)) (laws : HasLaws s functio
       })
 
 -- a put, after the point's offset was marked
-pub stored_from : (old middle new last : Solver) (c off : ℕ) (t : State) (source : Origin) (marks : OffsetMarks) → middle ≡ record old { marks = marks } → IsPut middle new c off t → KeepsRest middle new
+pub stored_from : (old middle new last : Solver) (c off : ℕ) (t : State) (source : Approach) (marks : OffsetMarks) → middle ≡ record old { marks = marks } → IsPut middle new c off t → KeepsRest middle new
     → mark_of old.marks (spot_of (frames_at old.builder.contexts c)) off ≢ Passed → SetsMark old.marks marks (spot_of (frames_at old.builder.contexts c)) off Kept
     → SparesAt new.spare.keys last.spare.keys (c, off) (family_of old.builder (place_of old.builder c off)) source → last ≡ record new { spare = last.spare }
     → IsStored old last c off t source

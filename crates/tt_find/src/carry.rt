@@ -9,7 +9,7 @@ ghost use Rattle.tt_find.specs.Representation.BudgetStops.{IsStopOfNoBudget, Sto
 ghost use Rattle.tt_find.specs.Representation.SolverSubjects.{EndsJustBefore, GoesOnFor, HasLawsFor, IsNextAfter, IsOnWayFor, IsPoppedFor, IsSteppedAt, IsWholeFor, LeadsAlong, LeadsOver, NamesRefusalAt, StopsFor};
 ghost use Rattle.tt_find.specs.Representation.Solvers.{HasRisen, IsStored, IsWalk, KeepsEverywhere, MakesAtMost, StopsApart, TellsSource, refused_in};
 
-use crate::origin::Origin;
+use crate::approach::Approach;
 use crate::solver::{Solver, refused_at};
 use crate::stop::Stop;
 use crate::successor::resolve_successor;
@@ -54,12 +54,12 @@ fn step_state(
 
 /// Returns from where a state comes to an offset of a context: from the instruction just before it,
 /// which ends at `after` in the context `here`, or from elsewhere.
-fn origin_of(here: u32, context: u32, after: Option<u32>, next: u32) -> Origin
+fn approach_of(here: u32, context: u32, after: Option<u32>, next: u32) -> Approach
     ensures { TellsSource here context after next result }
 {
     match after {
-        Some(after) if after == next && context == here => Origin::JustBefore,
-        _ => Origin::Elsewhere,
+        Some(after) if after == next && context == here => Approach::JustBefore,
+        _ => Approach::Elsewhere,
     }
 }
 
@@ -73,7 +73,7 @@ pub(crate) fn store(
     walk: &mut Walk,
     context: u32,
     offset: u32,
-    source: Origin,
+    source: Approach,
 ) -> Result<(), Stop>
     requires there { context < length solver.old.builder.contexts }
     requires in_range { state_order.InRange walk.old.state }
@@ -102,12 +102,12 @@ pub(crate) fn store(
 }
 
 /// Whether the walk's state may pass this offset without being kept, if it comes from `source`.
-fn goes_over(solver: &Solver, walk: &Walk, source: Origin, next: u32) -> bool
-    ensures { IsTrue result → source ≡ Origin.JustBefore }
+fn goes_over(solver: &Solver, walk: &Walk, source: Approach, next: u32) -> bool
+    ensures { IsTrue result → source ≡ Approach.JustBefore }
 {
     match source {
-        Origin::JustBefore => solver.may_pass(walk.context, walk.spot, next),
-        Origin::Elsewhere => false,
+        Approach::JustBefore => solver.may_pass(walk.context, walk.spot, next),
+        Approach::Elsewhere => false,
     }
 }
 
@@ -143,7 +143,7 @@ fn step_over(
         }
         return Ok(Some(next));
     }
-    if let Err(stop) = store(solver, walk, context, next, Origin::JustBefore) {
+    if let Err(stop) = store(solver, walk, context, next, Approach::JustBefore) {
         return Err(stop);
     }
     Ok(None)
@@ -203,7 +203,7 @@ fn store_successors(
                 return Err(Stop::Fault(not_entered(&solver.builder, here, offset, fault)));
             }
         };
-        let source = origin_of(here, context, after, next);
+        let source = approach_of(here, context, after, next);
         if over.is_none() && goes_over(solver, walk, source, next) {
             over = Some(next);
         } else if let Err(stop) = store(solver, walk, context, next, source) {

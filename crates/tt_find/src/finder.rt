@@ -14,8 +14,8 @@ ghost use Rattle.tt_find.specs.Representation.Solvers.{updates_of};
 ghost use Rattle.tt_find.specs.Representation.SolverSubjects.{HasLawsFor, IsFoundFor, IsWholeFor, StopsFor};
 ghost use Rattle.tt_find.specs.Finders.{HasFound, IsEmptySolver};
 
+use crate::approach::Approach;
 use crate::carry::{carry_on, store};
-use crate::origin::Origin;
 use crate::solver::Solver;
 use crate::stop::Stop;
 use crate::walk::Walk;
@@ -111,7 +111,7 @@ fn run_to_fixpoint(
 {
     let mut walk = Walk::start(alloc, setting.start)?;
     solver.builder.family_facts();
-    if let Err(stop) = store(solver, &mut walk, 0, 0, Origin::Elsewhere) {
+    if let Err(stop) = store(solver, &mut walk, 0, 0, Approach::Elsewhere) {
         return Err(stop);
     }
     while let Some((context, offset)) = solver.worklist.pop_first() {

@@ -1,10 +1,10 @@
 //! The least family of abstract states that is good for a program.
 #![tactic(auto)]
 
+mod approach;
 mod carry;
 pub mod finder;
 mod marks;
-mod origin;
 mod solver;
 mod stop;
 mod successor;

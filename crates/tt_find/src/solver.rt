@@ -10,8 +10,8 @@ ghost use Rattle.tt_find.specs.Finders.{IsEmptySolver};
 ghost use Rattle.tt_find.specs.Representation.Solvers.{IsPassed, IsPut, KeepsRest, NamesApart, SparesAt, refused_in};
 ghost use Rattle.tt_find.specs.Representation.OffsetMarks.{mark_of};
 
+use crate::approach::Approach;
 use crate::marks::{Mark, OffsetMarks};
-use crate::origin::Origin;
 use crate::worklist::Worklist;
 use std::alloc::{AllocError, Global};
 use std::collections::BTreeSet;
@@ -147,7 +147,7 @@ impl Solver {
         &mut self,
         context: u32,
         offset: u32,
-        source: Origin,
+        source: Approach,
         joined: Joined,
     ) -> Result<(), AllocError>
         ensures spare { IfOk result (λ _. (was : Option StateValue) → TellsNew joined was
@@ -155,10 +155,10 @@ impl Solver {
         ensures rest { IfOk result (λ _. self.new ≡ record self.old { spare = self.new.spare }) }
     {
         match source {
-            Origin::Elsewhere => {
+            Approach::Elsewhere => {
                 self.spare.remove(&(context, offset));
             }
-            Origin::JustBefore => {
+            Approach::JustBefore => {
                 if let Joined::New = joined {
                     self.spare.insert((context, offset))?;
                 }

@@ -3,14 +3,14 @@
 ghost use Rattle.std.specs.Prelude.{◌≡◌, ◌≤ℤ◌, IfOk, OnOk, pos, take};
 ghost use Rattle.tt_code.specs.Changes.{taken_at, zone_of as zone_of_number};
 ghost use Rattle.tt_code.specs.declared.kinds.Update.TheVariants as update_kind;
-ghost use Rattle.tt_code.specs.declared.kinds.Source.TheVariants as source;
+ghost use Rattle.tt_code.specs.declared.kinds.NewNumber.TheVariants as new_number;
 ghost use Rattle.tt_symbolic_state.specs.Values.{Fits, Valuation, value};
 ghost use Rattle.tt_symbolic_state.specs.Shows.{values, zone_number};
 ghost use Rattle.tt_symbolic.specs.Representation.Changing.{Changes, ChangesAll, StoresAt, StoresBetween};
 
 use crate::areas::forget;
 use tt_code::Reason;
-use tt_code::kinds::{Pointer, Reference, Source, Update};
+use tt_code::kinds::{NewNumber, Pointer, Reference, Update};
 use tt_symbolic_cells::{reference, set_pointer, set_reference};
 use tt_symbolic_state::StepRefusal;
 use tt_symbolic_state::cell::{Cell, Range, bounds, is_in_machine, known, number};
@@ -90,7 +90,7 @@ fn change_reference(
     position: u8,
 ) -> Result<(), StepRefusal>
     ensures { OnOk result (Changes count
-        (update_kind.SetReference which (source.Taken position)) state.old state.new) }
+        (update_kind.SetReference which (new_number.Taken position)) state.old state.new) }
 {
     let cell = taken(&state.stack, count, position)?;
     set_reference(&mut state.graphics, which, cell);
@@ -100,7 +100,7 @@ fn change_reference(
 /// Sets a reference point to another one.
 fn copy_reference(state: &mut State, count: usize, which: Reference, other: Reference)
     ensures { Changes count
-        (update_kind.SetReference which (source.Same other)) state.old state.new }
+        (update_kind.SetReference which (new_number.Same other)) state.old state.new }
 {
     let cell = reference(&state.graphics, other);
     set_reference(&mut state.graphics, which, cell);
@@ -176,10 +176,10 @@ fn update(state: &mut State, count: usize, change: Update) -> Result<(), StepRef
     ensures { OnOk result (Changes count change state.old state.new) }
 {
     match change {
-        Update::SetReference(which, Source::Taken(position)) => {
+        Update::SetReference(which, NewNumber::Taken(position)) => {
             change_reference(state, count, which, position)
         }
-        Update::SetReference(which, Source::Same(other)) => {
+        Update::SetReference(which, NewNumber::Same(other)) => {
             copy_reference(state, count, which, other);
             Ok(())
         }

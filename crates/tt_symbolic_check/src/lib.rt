@@ -15,7 +15,7 @@ mod walk;
 pub use checking::check;
 pub use copying::{Split, copied, copy_into, lower, raise};
 pub use covering::{covers, has_functions};
-pub use refusal::{CheckRefusal, Place};
+pub use refusal::{CheckRefusal, Site};
 pub use splits::wanted;
 pub use start::{Start, start_state};
 pub use walk::{Effort, USUAL_EFFORT, is_at_end};

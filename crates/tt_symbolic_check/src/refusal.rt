@@ -42,21 +42,21 @@ impl From<AllocError> for CheckRefusal {
 
 /// Where a state is: in which program, and at which offset there.
 #[derive(Clone, Copy, Debug, PartialEq, Eq)]
-pub struct Place {
+pub struct Site {
     /// The main program, or the program in which the function is that runs.
     pub spot: Spot,
     /// The offset there, in bytes.
     pub offset: u32,
 }
 
-impl Place {
+impl Site {
     /// Returns where the state is.
-    pub fn of(state: &State) -> Place {
+    pub fn of(state: &State) -> Site {
         let spot = match state.calls.as_slice() {
             [] => Spot::Main,
             [.., call] => Spot::of_body(call.body),
         };
-        Place {
+        Site {
             spot,
             offset: state.offset,
         }
@@ -64,7 +64,7 @@ impl Place {
 
     /// Returns the refusal of the instruction at this place.
     pub fn refused(self, refusal: StepRefusal) -> CheckRefusal {
-        let Place { spot, offset } = self;
+        let Site { spot, offset } = self;
         match refusal {
             StepRefusal::Refused(reason) => CheckRefusal::Refused {
                 spot,

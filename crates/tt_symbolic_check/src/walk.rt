@@ -7,7 +7,7 @@ use crate::copying::{Split, lower, raise};
 use crate::covering::covers_by;
 use crate::place_index::PlaceIndex;
 use crate::pool::Pool;
-use crate::refusal::{CheckRefusal, Place};
+use crate::refusal::{CheckRefusal, Site};
 use crate::splits::wanted;
 use crate::start::{Start, start_state};
 use std::alloc::{AllocError, Global};
@@ -313,7 +313,7 @@ fn advance(
     ensures { OnOk result (Reaches setting.now kept.now listed.now walk.old walk.new
         (λ final. Walks setting.now kept.now listed.now final entry.may_stop entry.state.value)) }
 {
-    let place = Place::of(&entry.state);
+    let place = Site::of(&entry.state);
     match go_on(pool, setting, kept, listed, index, walk, entry, widest) {
         Ok(()) => Ok(()),
         Err(refusal) => Err(place.refused(refusal)),

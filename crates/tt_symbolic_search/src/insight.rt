@@ -3,7 +3,7 @@
 use crate::origins::Origins;
 use crate::track::Track;
 use std::alloc::{AllocError, Global};
-use tt_symbolic_check::Place;
+use tt_symbolic_check::Site;
 use tt_symbolic_state::State;
 use tt_symbolic_state::cell::Cell;
 
@@ -16,12 +16,12 @@ pub struct Question {
 
 /// Where a number comes from that isn't known, as far as the search tells.
 #[derive(Clone, Copy, Debug, PartialEq, Eq)]
-pub enum Source {
+pub enum SymbolOrigin {
     /// The instruction at this place makes it, or reads it where nothing is known of it.
-    Made(Place),
+    Made(Site),
     /// States that met at this place had different numbers. Each is told where it was known.
     Met {
-        at: Place,
+        at: Site,
         first: Option<i32>,
         second: Option<i32>,
     },
@@ -37,14 +37,14 @@ pub struct KnownState {
     /// The state.
     pub state: State,
     /// Where the number of each of its symbols comes from.
-    sources: Vec<Source>,
+    origins: Vec<SymbolOrigin>,
 }
 
 impl KnownState {
     /// Makes it of a track.
     pub(crate) fn of(
         alloc: Global,
-        origins: &Origins,
+        all: &Origins,
         track: Box<Track>,
     ) -> Result<KnownState, AllocError> {
         let Track {
@@ -52,19 +52,19 @@ impl KnownState {
             origins: numbers,
             ..
         } = Box::into_inner(track);
-        let mut sources = Vec::new(alloc);
+        let mut origins = Vec::new(alloc);
         for number in numbers.as_slice() {
-            sources.push(origins.source(alloc, *number)?)?;
+            origins.push(all.symbol_origin(alloc, *number)?)?;
         }
-        Ok(KnownState { state, sources })
+        Ok(KnownState { state, origins })
     }
 
     /// Returns where the number of a cell's symbol comes from; nothing where it has none.
-    pub fn source(&self, cell: Cell) -> Option<Source> {
+    pub fn origin(&self, cell: Cell) -> Option<SymbolOrigin> {
         if cell.factor == 0 {
             return None;
         }
-        self.sources.get(cell.symbol as usize).copied()
+        self.origins.get(cell.symbol as usize).copied()
     }
 }
 

@@ -36,5 +36,5 @@ mod track;
 mod waiting;
 mod writes;
 
-pub use insight::{Insight, KnownState, Question, Source};
+pub use insight::{Insight, KnownState, Question, SymbolOrigin};
 pub use search::{Found, Search, USUAL_SEARCH};

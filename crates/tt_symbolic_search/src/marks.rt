@@ -2,7 +2,7 @@
 
 use std::alloc::{AllocError, Global};
 use tt_abs::{Setting, Spot};
-use tt_symbolic_check::Place;
+use tt_symbolic_check::Site;
 
 /// For each offset of the three programs whether states are listed there: a bit each.
 pub(crate) struct Marks {
@@ -49,7 +49,7 @@ impl Marks {
     }
 
     /// Whether states are listed at a place.
-    pub(crate) fn at(&self, place: Place) -> bool {
+    pub(crate) fn at(&self, place: Site) -> bool {
         let list = match place.spot {
             Spot::Main => &self.main,
             Spot::Font => &self.font,
@@ -62,7 +62,7 @@ impl Marks {
     }
 
     /// Notes that states are listed at a place.
-    pub(crate) fn set(&mut self, place: Place) {
+    pub(crate) fn set(&mut self, place: Site) {
         match place.spot {
             Spot::Main => set_mark(&mut self.main, place.offset),
             Spot::Font => set_mark(&mut self.font, place.offset),

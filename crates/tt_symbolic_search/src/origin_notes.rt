@@ -4,7 +4,7 @@ use crate::origins::OriginNumber;
 use std::alloc::{AllocError, Global};
 use std::collections::HashMap;
 use tt_abs::Spot;
-use tt_symbolic_check::Place;
+use tt_symbolic_check::Site;
 use tt_symbolic_state::State;
 
 /// The first number of an instruction that made symbols.
@@ -29,8 +29,8 @@ impl Point {
     }
 
     /// Returns its place.
-    pub(crate) fn place(self) -> Place {
-        Place {
+    pub(crate) fn place(self) -> Site {
+        Site {
             spot: match self.body {
                 Some(body) => Spot::of_body(body),
                 None => Spot::Main,

@@ -3,7 +3,7 @@
 //! is noted beside that where the merges were, and which instructions made the other symbols.
 
 use crate::cell_names::CellName;
-use crate::insight::Source;
+use crate::insight::SymbolOrigin;
 use crate::origin_notes::{FIRST_MAKER, Meeting, Notes, Point};
 use std::alloc::{AllocError, Global};
 use std::collections::HashMap;
@@ -248,26 +248,30 @@ impl Origins {
     ///
     /// # Errors
     /// If memory runs out.
-    pub(crate) fn source(&self, alloc: Global, from: OriginNumber) -> Result<Source, AllocError> {
+    pub(crate) fn symbol_origin(
+        &self,
+        alloc: Global,
+        from: OriginNumber,
+    ) -> Result<SymbolOrigin, AllocError> {
         if from == NOWHERE {
-            return Ok(Source::Start);
+            return Ok(SymbolOrigin::Start);
         }
         let Some(notes) = &self.notes else {
-            return Ok(Source::Lost);
+            return Ok(SymbolOrigin::Lost);
         };
         if let Some(at) = notes.made_at(from) {
-            return Ok(Source::Made(at.place()));
+            return Ok(SymbolOrigin::Made(at.place()));
         }
         for wanted in [Wanted::LostNumbers, Wanted::Any] {
             if let Some(meeting) = self.meeting(alloc, notes, from, wanted)? {
-                return Ok(Source::Met {
+                return Ok(SymbolOrigin::Met {
                     at: meeting.at.place(),
                     first: meeting.first,
                     second: meeting.second,
                 });
             }
         }
-        Ok(Source::Lost)
+        Ok(SymbolOrigin::Lost)
     }
 
     /// Returns the cell that an origin names, if its merge is one that is looked for and the cell

@@ -20,7 +20,7 @@ use tt_abs::{Kind, Setting, Spot};
 use tt_code::Reason;
 use tt_symbolic::kept::Kept;
 use tt_symbolic::step::code_at;
-use tt_symbolic_check::{CheckRefusal, Place, Start, is_at_end, lower, raise, start_state, wanted};
+use tt_symbolic_check::{CheckRefusal, Site, Start, is_at_end, lower, raise, start_state, wanted};
 use tt_symbolic_state::{State, StepRefusal};
 
 /// How many steps a state makes beside another one before it is put down.
@@ -99,7 +99,7 @@ pub(crate) struct Run {
     way: Option<Way>,
     before: Before,
     /// Where a kept entry was first written.
-    pub first_write: Option<Place>,
+    pub first_write: Option<Site>,
     /// How many steps were made: never more than it may make.
     pub steps: u64,
     /// How many elements the stack had at most.
@@ -218,7 +218,7 @@ impl Run {
         if way.led == Led::Back && self.must_arrive(way) {
             return Some(Arrival::Back);
         }
-        if self.marks.at(Place::of(state)) {
+        if self.marks.at(Site::of(state)) {
             return Some(Arrival::AtListed);
         }
         let is_meeting = way.led != Led::On || code == Some(EIF);
@@ -250,7 +250,7 @@ impl Run {
             return Ok(Some(way));
         }
         let state = &way.track.state;
-        self.marks.set(Place::of(state));
+        self.marks.set(Site::of(state));
         let Way { track, .. } = way;
         self.arrivals
             .arrive(task.alloc, merges, track, signature, arrival)?;
@@ -288,7 +288,7 @@ impl Run {
         task: &Task<'_>,
         merges: &Merges,
         track: &Track,
-        place: Place,
+        place: Site,
         refusal: StepRefusal,
     ) -> Result<Stop, AllocError> {
         let reason = match &refusal {
@@ -320,7 +320,7 @@ impl Run {
         let Some(question) = task.question else {
             return Ok(());
         };
-        let place = Place::of(&track.state);
+        let place = Site::of(&track.state);
         if place.spot == Spot::Main && question.offset == Some(place.offset) {
             self.see(task.alloc, track)?;
         }
@@ -378,7 +378,7 @@ impl Run {
         way: &mut Way,
         code: Option<u8>,
     ) -> Result<(), Stop> {
-        let place = Place::of(&way.track.state);
+        let place = Site::of(&way.track.state);
         self.keep(task, &way.track)
             .map_err(|error| out_of_memory(task, error))?;
         let track = &mut way.track;

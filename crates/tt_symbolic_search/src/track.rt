@@ -40,7 +40,7 @@ pub(crate) struct Track {
 
 /// Where a state is in the order of the program: for the main program and each call, how many turns
 /// it has seen, and at which offset it is.
-pub(crate) type Place = Vec<(u32, u32)>;
+pub(crate) type Progress = Vec<(u32, u32)>;
 
 /// Makes a list the same as another one, in the memory that it has, where that is enough.
 fn copy_list<T: Copy>(list: &mut Vec<T>, other: &[T]) -> Result<(), AllocError> {
@@ -96,7 +96,7 @@ impl Track {
     }
 
     /// Makes a place the one where it is, in the memory that the place has, where that is enough.
-    pub(crate) fn put_place(&self, place: &mut Place) -> Result<(), AllocError> {
+    pub(crate) fn put_place(&self, place: &mut Progress) -> Result<(), AllocError> {
         place.clear();
         for level in 0..self.levels.len() {
             if let Some(step) = self.place_at(level) {

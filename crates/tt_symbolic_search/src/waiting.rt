@@ -1,6 +1,6 @@
 //! The items that wait to be carried on, in the order of their places in the program.
 
-use crate::track::{Place, Track};
+use crate::track::{Progress, Track};
 use std::alloc::{AllocError, Global};
 use std::collections::BTreeSet;
 
@@ -10,7 +10,7 @@ const MOST_SPARE: usize = 32;
 /// An item that waits: its place, and its number.
 #[derive(PartialEq, Eq, PartialOrd, Ord, Drop)]
 struct Waiter {
-    place: Place,
+    place: Progress,
     item: usize,
 }
 
@@ -19,7 +19,7 @@ pub(crate) struct Waiting {
     first: Option<Waiter>,
     rest: BTreeSet<Waiter>,
     /// Places that are no longer needed, whose memory is used again.
-    spare: Vec<Place>,
+    spare: Vec<Progress>,
 }
 
 // Written out, so that who holds what waits proves in one step that its memory is given back.
@@ -56,14 +56,18 @@ impl Waiting {
     }
 
     /// Returns where a track is, in memory that is no longer needed, where there is some.
-    pub(crate) fn place_of(&mut self, alloc: Global, track: &Track) -> Result<Place, AllocError> {
+    pub(crate) fn place_of(
+        &mut self,
+        alloc: Global,
+        track: &Track,
+    ) -> Result<Progress, AllocError> {
         let mut place = self.spare.pop().unwrap_or(Vec::new(alloc));
         track.put_place(&mut place)?;
         Ok(place)
     }
 
     /// Lets an item wait.
-    pub(crate) fn put(&mut self, place: Place, item: usize) -> Result<(), AllocError> {
+    pub(crate) fn put(&mut self, place: Progress, item: usize) -> Result<(), AllocError> {
         let waiter = Waiter { place, item };
         match self.first.take() {
             None => self.first = Some(waiter),

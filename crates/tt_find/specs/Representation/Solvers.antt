@@ -33,8 +33,8 @@ use Rattle.tt_find.specs.Found.{ArePointsOf, IsDerived, IsNeeded, NamesPlace, Na
 use Rattle.tt_find.specs.Representation.OffsetMarks.{SetsMark, mark_at, mark_of}
 use Rattle.tt_find.specs.declared.marks.Mark.TheVariants.{Free, Kept, Passed}
 use Rattle.tt_find.specs.declared.marks.OffsetMarks.{OffsetMarks}
-use Rattle.tt_find.specs.declared.origin.Origin.{Origin}
-use Rattle.tt_find.specs.declared.origin.Origin.TheVariants.{JustBefore, Elsewhere}
+use Rattle.tt_find.specs.declared.approach.Approach.{Approach}
+use Rattle.tt_find.specs.declared.approach.Approach.TheVariants.{JustBefore, Elsewhere}
 use Rattle.tt_find.specs.declared.solver.Solver.{Solver}
 use Rattle.tt_find.specs.declared.stop.Stop.{Stop}
 use Rattle.tt_find.specs.declared.walk.Walk.{Walk}
@@ -211,7 +211,7 @@ pub record KeepsRest (old new : Solver) : Type 0 where
 
 -- What is spare after a state came to a point: from elsewhere, the point no longer is; from just
 -- before, it is where it had no state, and otherwise as it was.
-pub record SparesAt (old new : List (ℕ × ℕ)) (point : ℕ × ℕ) (was : Option State) (source : Origin)
+pub record SparesAt (old new : List (ℕ × ℕ)) (point : ℕ × ℕ) (was : Option State) (source : Approach)
     : Type 0 where
   pub elsewhere : (q : ℕ × ℕ) → q ≢ point → has_point new q ≡ has_point old q
   pub listed : source ≡ Elsewhere → has_point new point ≡ false
@@ -219,7 +219,7 @@ pub record SparesAt (old new : List (ℕ × ℕ)) (point : ℕ × ℕ) (was : Op
   pub same : source ≡ JustBefore → (was ≡ None → ⊥) → has_point new point ≡ has_point old point
 
 -- the state was put at the point, over which none had passed; states are kept there from then on
-pub record IsStored (old new : Solver) (context offset : ℕ) (state : State) (source : Origin)
+pub record IsStored (old new : Solver) (context offset : ℕ) (state : State) (source : Approach)
     : Type 0 where
   pub put : IsPut old new context offset state
   pub fresh : mark_of old.marks (spot_of (frames_at old.builder.contexts context)) offset ≢ Passed
@@ -338,12 +338,12 @@ pub record IsPopped (s : Setting) (functions : List (ℕ × ℕ)) (solver : Solv
 
 -- the state comes from just before exactly if it stays in the context and comes to the offset just
 -- after the instruction that left it
-abbrev pub TellsSource : ℕ → ℕ → Option ℕ → ℕ → Origin → Type 0
+abbrev pub TellsSource : ℕ → ℕ → Option ℕ → ℕ → Approach → Type 0
 TellsSource here context after next source =
     (source ≡ JustBefore) ↔ ((context ≡ here) × (after ≡ Some next))
 
 -- the state comes to the second place from just before, or from elsewhere
-abbrev pub ComesFrom : Setting → Place → Place → Origin → Type 0
+abbrev pub ComesFrom : Setting → Place → Place → Approach → Type 0
 ComesFrom s p q source =
     (source ≡ JustBefore → Precedes s p q) × (source ≡ Elsewhere → Precedes s p q → ⊥)
 

@@ -1,19 +1,20 @@
-use Rattle.std.proofs.Common.{arith, refl}
+use Rattle.std.proofs.Common.{◌≡◌, ℕ, Bool, true, false, IfNone, IfSome, IsTrue, Option, None, Some, List, length, is_some, not, take, ◌<◌, arith, refl}
+use Rattle.tt_code.specs.Cut.{CanBeCut, CannotBeCut}
+use Rattle.hintcheck.specs.Explanations.{BeginsInstruction}
 use Rattle.hintcheck.proofs.PlaceLemmas.{begins_after, begins_within, none_begins}
 use Rattle.hintcheck.proofs.asked_offset.begins_instruction.Goals as goal
 
-pub returns-then-program-offset-clause-begins : goal.returns-then-program-offset-clause-begins
-returns-then-program-offset-clause-begins c = (λ is. cc, λ begins. let within = begins_within c.args.program.now c.args.offset begins in absurd (omega arith))
+pub returns-then-program-offset : goal.returns-then-program-offset
+returns-then-program-offset c = (λ is. cc, λ begins. let within = begins_within c.args.program.now c.args.offset begins in absurd (omega arith))
 
-pub returns-in-Ok-clause-begins : goal.returns-in-Ok-clause-begins
-returns-in-Ok-clause-begins c = (λ is. begins_after c.args.program.now c.args.offset (omega arith) (c.in-Ok._program, c.in-Ok.ensures.ok), λ begins. refl)
+-- whether an instruction begins, by what is known of the first one that can't be cut
+begins_or_not : (program : List ℕ) (offset : ℕ) (found : Option ℕ) (none : Bool) → is_some found ≡ not none → offset < length program
+    → IfNone found (CanBeCut (take offset program)) → IfSome found (CannotBeCut (take offset program))
+    → (IsTrue none → BeginsInstruction program offset) × (BeginsInstruction program offset → IsTrue none)
+begins_or_not program offset None true same within cut uncut = (λ is. begins_after program offset within cut, λ begins. refl)
+begins_or_not program offset None false same within cut uncut = absurd (cc)
+begins_or_not program offset (Some end) true same within cut uncut = absurd (cc)
+begins_or_not program offset (Some end) false same within cut uncut = (λ is. cc, λ begins. absurd (none_begins program offset end uncut begins))
 
-pub returns-in-Err-Structure-clause-begins : goal.returns-in-Err-Structure-clause-begins
-returns-in-Err-Structure-clause-begins c =
-    let has = c.cut.ensures.unstructured c.in-Err-Structure._at (cc) in
-    (λ is. begins_after c.args.program.now c.args.offset (omega arith) (has.0, has.1), λ begins. refl)
-
-pub returns-in-Err-CannotCut-clause-begins : goal.returns-in-Err-CannotCut-clause-begins
-returns-in-Err-CannotCut-clause-begins c =
-    let uncut = c.cut.ensures.refused c.in-Err-CannotCut._at (cc) in
-    (λ is. cc, λ begins. absurd (none_begins c.args.program.now c.args.offset c.in-Err-CannotCut._at uncut begins))
+pub returns : goal.returns
+returns c = begins_or_not c.args.program.now c.args.offset c.first_uncut.result c.is_none.result c.is_none.ensures (omega arith) c.first_uncut.ensures.cut c.first_uncut.ensures.uncut

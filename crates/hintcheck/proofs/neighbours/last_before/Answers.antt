@@ -9,8 +9,8 @@ loop-at-init c = record {
   none = λ k from below begins. let within = begins_within c.args.program.now k begins in absurd (omega arith);
 }
 
-pub returns-then-branch-clause-found : goal.returns-then-branch-clause-found
-returns-then-branch-clause-found c = record {
+pub returns-then-begins_instruction : goal.returns-then-begins_instruction
+returns-then-begins_instruction c = record {
   instruction = c.neighbour_at.ensures.instruction;
   before = omega arith;
   last = λ k above below begins. c.loop-at.invariant.none k (omega arith) below begins;

@@ -1,4 +1,3 @@
-use Rattle.tt_abs.specs.Settings.{setting_of}
 use Rattle.tt_family.proofs.Checked.{ok_map, err_map}
 use Rattle.tt_family.proofs.Judged.{listing_broken, listing_exhausted, listing_good, listing_safe}
 use Rattle.tt_family.proofs.checker.check_listing.Goals as goal

@@ -5,7 +5,7 @@ use Rattle.tt_family.specs.Puts.{place_of}
 use Rattle.tt_abs.specs.declared.spot.Spot.{Spot}
 use Rattle.tt_find.specs.Found.{IsJustified}
 use Rattle.tt_find.specs.Representation.Solvers.{IsApart, IsPassed}
-use Rattle.tt_find.specs.declared.origin.Origin.TheVariants.{JustBefore}
+use Rattle.tt_find.specs.declared.approach.Approach.TheVariants.{JustBefore}
 use Rattle.tt_find.proofs.Leads.{comes_before, ranged_to, whole_put}
 use Rattle.tt_find.proofs.Steps.{apart_left, leading_passed, passed_updates, stop_map, stored_updates}
 use Rattle.tt_find.proofs.carry.step_over.Goals as goal

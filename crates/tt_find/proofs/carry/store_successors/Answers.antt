@@ -110,7 +110,7 @@ loop-way-preserved c =
     elim c.if-is_none.branch [
       | then-is_none+then-goes_over w ↦
           let none : c.loop-way.over ≡ None = none_of c.loop-way.over w.if-is_none.ensures in
-          let (same, at) = c.origin_of-source.ensures.0 (w.goes_over.ensures w.if-goes_over.true) in
+          let (same, at) = c.approach_of-source.ensures.0 (w.goes_over.ensures w.if-goes_over.true) in
           let T : Option ℕ → Type 0 = λ o. IsLeadingTo s fs solver walk c.args.offset c.args.after c.args.ways (c.loop-way.index + 1) o number next in
           let later = held s fs c.requires.laws solver walk c.args.offset c.args.after c.args.ways (c.loop-way.index + 1) number next (subst T none to) (same ∙ sym on.here) at in
           let P : Solver × Walk × Option ℕ → Type 0 = λ x. IsLeadingOn s fs x.0 x.1 c.args.offset c.args.after c.args.ways (c.loop-way.index + 1) x.2 in
@@ -132,9 +132,9 @@ loop-way-preserved c =
           }
       | else-is_none+in_default-store w ↦
           let stored = w.in_default-store.ensures.stored in
-          let S : ℕ → Type 0 = λ n. TellsSource n number c.args.after next c.origin_of-source.result in
+          let S : ℕ → Type 0 = λ n. TellsSource n number c.args.after next c.approach_of-source.result in
           let later = put s fs c.requires.laws solver w.store.new.solver walk w.store.new.walk c.args.offset c.args.after c.args.ways (c.loop-way.index + 1) c.loop-way.over number next
-          c.origin_of-source.result to stored (subst S (sym on.here) c.origin_of-source.ensures) w.in_default-store.ensures.walk w.in_default-store.ensures.context w.in_default-store.ensures.state in
+          c.approach_of-source.result to stored (subst S (sym on.here) c.approach_of-source.ensures) w.in_default-store.ensures.walk w.in_default-store.ensures.context w.in_default-store.ensures.state in
           let P : Solver × Walk × Option ℕ → Type 0 = λ x. IsLeadingOn s fs x.0 x.1 c.args.offset c.args.after c.args.ways (c.loop-way.index + 1) x.2 in
           let all : ◌≡◌ {A = Solver × Walk × Option ℕ} (w.store.new.solver, w.store.new.walk, c.loop-way.over) (c.if-is_none.solver, c.if-is_none.walk, c.if-is_none.over) =
           λ i. (sym w.solver-is i, sym w.walk-is i, sym w.over-is i) in
@@ -145,7 +145,7 @@ loop-way-preserved c =
             here = ap (λ (x : Walk). x.context) w.walk-is ∙ w.in_default-store.ensures.context ∙ on.here;
             risen = subst R (sym w.solver-is) (risen_on c.args.solver.now solver w.store.new.solver before stored.put.risen);
             few =
-                let more = stored_updates solver w.store.new.solver number next walk.state c.origin_of-source.result stored in
+                let more = stored_updates solver w.store.new.solver number next walk.state c.approach_of-source.result stored in
                 let so_far = on.few in
                 let after : updates_of w.store.new.solver + cond (is_some c.loop-way.over) 1 0 ≤ updates_of c.args.solver.now + (c.loop-way.index + 1) = omega arith in
                 let F : Solver × Walk × Option ℕ → Type 0 = λ x. updates_of x.0 + cond (is_some x.2) 1 0 ≤ updates_of c.args.solver.now + (c.loop-way.index + 1) in

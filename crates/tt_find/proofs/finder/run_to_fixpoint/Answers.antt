@@ -5,7 +5,7 @@ use Rattle.tt_abs.specs.States.{state_laws, state_order}
 use Rattle.tt_find.proofs.Budget.{measure_falls, updates_fit}
 use Rattle.tt_find.proofs.Starting.{whole_start}
 use Rattle.tt_find.proofs.Steps.{popped_left, stored_updates}
-use Rattle.tt_find.specs.declared.origin.Origin.TheVariants.{Elsewhere}
+use Rattle.tt_find.specs.declared.approach.Approach.TheVariants.{Elsewhere}
 use Rattle.tt_find.proofs.finder.run_to_fixpoint.Goals as goal
 
 pub loop-context-init : goal.loop-context-init
