@@ -1,7 +1,7 @@
 # Completion of hintcheck's words for bash.
 _hintcheck() {
     local word=${COMP_WORDS[COMP_CWORD]} commands='verdict scan explain find check list upgrade bare help'
-    local command=${COMP_WORDS[1]} at=$COMP_CWORD i options=--help
+    local command=${COMP_WORDS[1]} at=$COMP_CWORD i option options=--help
     COMPREPLY=()
     if [ "$COMP_CWORD" -eq 1 ]; then
         mapfile -t COMPREPLY < <(compgen -W "$commands --help --version" -- "$word")
@@ -9,10 +9,10 @@ _hintcheck() {
     fi
     case $command in
         verdict) options='--symbolic --points --json --help' ;;
-        scan) options='--symbolic --points --fail-on --json --help' ;;
+        scan) options='--symbolic --points --fail-on --expect --json --causes --help' ;;
         find | check) options='--points --help' ;;
-        explain) options='--symbolic --points --help' ;;
-        bare) options='--symbolic --help' ;;
+        explain) options='--symbolic --points --json --help' ;;
+        bare) options='--symbolic --points --help' ;;
         list) options='--numbers --help' ;;
     esac
     case $command in
@@ -27,15 +27,21 @@ _hintcheck() {
                     [ "${COMP_WORDS[i + 1]}" = = ] && i=$((i + 1)) && at=$((at - 1))
                     i=$((i + 1)) at=$((at - 2))
                     [ "$i" -ge "$COMP_CWORD" ] && return
-                elif [ "${COMP_WORDS[i]}" = --fail-on ]; then
+                elif [[ ${COMP_WORDS[i]} = --@(fail-on|expect) ]]; then
                     # Of `scan` alone, whose names may be anywhere.
+                    option=${COMP_WORDS[i]}
                     [ "${COMP_WORDS[i + 1]}" = = ] && i=$((i + 1))
                     i=$((i + 1))
                     if [ "$i" -ge "$COMP_CWORD" ]; then
-                        mapfile -t COMPREPLY < <(compgen -W possible -- "${word#=}")
+                        if [ "$option" = --expect ]; then
+                            compopt -o filenames
+                            mapfile -t COMPREPLY < <(compgen -f -- "${word#=}")
+                        else
+                            mapfile -t COMPREPLY < <(compgen -W possible -- "${word#=}")
+                        fi
                         return
                     fi
-                elif [[ ${COMP_WORDS[i]} = --@(symbolic|json|numbers) ]]; then
+                elif [[ ${COMP_WORDS[i]} = --@(symbolic|json|causes|numbers) ]]; then
                     at=$((at - 1))
                 fi
             done

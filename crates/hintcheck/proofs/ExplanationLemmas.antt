@@ -2,17 +2,17 @@
 use Rattle.std.proofs.Common.{◌≡◌, ◌∙◌, ℕ, IfErr, IsErrAnd, List, [], Some, Result, Ok, Err, refl, sym, ap, subst}
 use Rattle.std.specs.Prelude.{slice_get}
 use Rattle.tt_code.specs.Cut.{Instruction}
-use Rattle.tt_font.specs.Reading.{FontData, GlyphData}
+use Rattle.tt_font.specs.Reading.{FontData, GlyphData, Reads}
 use Rattle.tt_cert.specs.declared.name.Name.{Name}
 use Rattle.tt_cert.specs.declared.name.Name.TheVariants as name
-use Rattle.hintcheck_explain.specs.Faults.{HasLeast, HasRefusal, TellsFailure as TellsExplained}
+use Rattle.hintcheck_explain.specs.Faults.{IsAnsweredFor, TellsFailure as TellsExplained}
 use Rattle.hintcheck_explain.specs.declared.asked.ExplainFault.{ExplainFault}
 use Rattle.tt_abs.specs.declared.exhausted.Exhausted.TheVariants.{Memory, Budget as Points}
 use Rattle.hintcheck_explain.specs.declared.asked.ExplainFault.TheVariants as explaining
 use Rattle.tt_stream.specs.declared.text.PrintFailed.TheVariants as failed
 use Rattle.hintcheck.specs.Commands.{TellsFailure, fault_of_explain}
 use Rattle.hintcheck.specs.CommandFaults.{IsEndOfWork, IsFaultOfExplanation}
-use Rattle.hintcheck.specs.Explanations.{IsAnswered, Refuses, TellsProgram, cvt_accepted, cvt_refused, font_accepted, font_refused, glyph_accepted, glyph_refused}
+use Rattle.hintcheck.specs.Explanations.{IsAnswered, IsReportOf, TellsProgram, cvt_accepted, cvt_refused, font_accepted, font_refused, glyph_accepted, glyph_refused}
 use Rattle.hintcheck_fonts.specs.FontPrograms.{cvt_subject, font_of, font_subject, glyph_subject}
 use Rattle.tt_abs.specs.Failures.{reason_of}
 use Rattle.tt_abs.specs.declared.refusal.Refusal.{Refusal}
@@ -24,14 +24,21 @@ use Rattle.hintcheck_explain.specs.declared.asked.Explained.{Explained}
 use Rattle.hintcheck_explain.specs.declared.asked.Explained.TheVariants as explained
 use Rattle.hintcheck_fonts.specs.ProgramVerdicts.{IfRefused, IsSubjectOf}
 use Rattle.hintcheck_report.specs.Places.{reported_at}
-use Rattle.hintcheck_fonts.specs.Programs.{EndsWith, Subject}
+use Rattle.hintcheck_report.specs.declared.refused.Refused.{Refused}
+use Rattle.hintcheck_fonts.specs.Programs.{EndsWith, IsRefusal, Subject}
 use Rattle.hintcheck_fonts.specs.Representation.Judges.{IsRefusedFor}
-use Rattle.hintcheck_fonts.specs.Representation.ProgramOrder.{next_program, start_at, with_start}
+use Rattle.hintcheck_fonts.specs.Representation.ProgramOrder.{IsNext, next_program, start_at, with_start}
 use Rattle.hintcheck_fonts.specs.Representation.SessionStages.{KeepsKnown}
 use Rattle.hintcheck_fonts.specs.Sessions.{Stage, after_font, at_glyph, at_start, over}
+use Rattle.hintcheck_fonts.specs.declared.programs.Next.{Next}
 use Rattle.hintcheck_fonts.proofs.FontEnds.{least_of}
 use Rattle.hintcheck_fonts.proofs.ProgramSteps.{glyph_of}
 use Rattle.hintcheck_fonts.proofs.ProgramVerdictLemmas.{HasFlow, accepted_found, found_refusal}
+use Rattle.hintcheck.specs.Explanations.{HoldExplained, status_of_explained}
+use Rattle.hintcheck.specs.Listing.{Calls}
+use Rattle.hintcheck.specs.MeansSafe.{HoldAcceptedBy, HoldExplainedBy, HoldUnacceptedBy}
+use Rattle.hintcheck_words.specs.declared.words.Profile.{Profile}
+use Rattle.hintcheck_words.specs.declared.words.Profile.TheVariants.{Strict, Symbolic}
 use Rattle.hintcheck.specs.declared.commands.faults.CommandFault.{CommandFault}
 use Rattle.hintcheck.specs.declared.commands.faults.CommandFault.TheVariants as command
 
@@ -58,64 +65,73 @@ ended_failures command.Budget (Err told) n is ended = rw is refl
 ended_failures _ (Err told) n is ended = absurd ended
 
 -- what was explained of a program, whatever it was searched for by
-pub answered : (x : Subject) (s : AnySetting) (r : Result Explained ExplainFault) (e : Explained) → IsSubjectOf x s → HasFlow (setting_of s) s.start.now → r ≡ Ok e
-    → (r ≡ Ok explained.Accepted → HasLeast s) → (r ≡ Ok explained.Refused → HasRefusal s) → IsAnswered x e
-answered x s r explained.Accepted subject h is accepted refused =
-    let (found, least) = accepted is in
+pub answered : (x : Subject) (s : AnySetting) (called : Name) (e : Explained) → IsSubjectOf x s → x.name ≡ called → HasFlow (setting_of s) s.start.now → IsAnsweredFor s called e → IsAnswered x e
+answered x s called explained.Accepted subject same h (found, least) =
     least_of x s.main.now (family_of found.certificate)
     (accepted_found x s.main.now (setting_of s) s.start.now found.updates found.certificate subject.cut subject.setting subject.functions h least)
-answered x s r explained.Refused subject h is accepted refused =
-    let why = refused is in (
-      reported_at x.name why.spot why.offset (reason_of why.failed),
-      found_refusal x s.main.now (setting_of s) s.start.now (fault.Refused why.spot why.offset why.failed) subject.cut subject.setting subject.functions h why.justified why.none_good,
-    )
+answered x s called (explained.Refused r) subject same h why =
+    let refusal = found_refusal x s.main.now (setting_of s) s.start.now (fault.Refused why.spot why.offset why.failed) subject.cut subject.setting subject.functions h why.justified why.none_good in
+    subst (IsRefusal x) (sym (why.reported ∙ ap (λ (n : Name). reported_at n why.spot why.offset (reason_of why.failed)) (sym same))) refusal
 
 -- a program that can't be cut is refused
-pub uncut_answered : (x : Subject) (f : Refusal) → Refuses f → IfRefused x.name f (IsRefusedFor x) → IsAnswered x explained.Refused
-uncut_answered x (fault.Refused spot offset test) refuses refused = (reported_at x.name spot offset (reason_of test), refused.refusal)
-uncut_answered x (fault.Exhausted by) refuses refused = absurd refuses
+pub uncut_answered : (x : Subject) (called : Name) (f : Refusal) (r : Refused) → x.name ≡ called → IsReportOf called f r → IfRefused x.name f (IsRefusedFor x) → IsAnswered x (explained.Refused r)
+uncut_answered x called (fault.Refused spot offset test) r same reported refused =
+    subst (IsRefusal x) (sym (reported ∙ ap (λ (n : Name). reported_at n spot offset (reason_of test)) (sym same))) refused.refusal
+uncut_answered x called (fault.Exhausted by) r same reported refused = absurd reported
 
--- what the exit status of a program tells that was explained
-pub font_told : (d : FontData) (e : Explained) (status : ℕ) → IsAnswered (font_subject d) e → (e ≡ explained.Accepted → status ≡ 0) → (e ≡ explained.Refused → status ≡ 1) → TellsProgram d name.Font status
-font_told d explained.Accepted status judged zero one = record { accepted = λ is. font_accepted judged; refused = λ is. absurd (let bad = zero refl in cc) }
-font_told d explained.Refused status judged zero one = record { accepted = λ is. absurd (let bad = one refl in cc); refused = λ is. font_refused name.Font judged.0 judged.1 }
+-- the next program has the name that is told of it
+pub next_name : (d : FontData) (s : Stage) (x : Subject) (n : Next) → next_program d s ≡ Some x → IsNext d s n → x.name ≡ n.name
+next_name d s x n next (y, is_next, told) =
+    let same : y ≡ x = cc in
+    sym (told.name ∙ ap (λ (z : Subject). z.name) same)
 
-pub cvt_told : (d : FontData) (f : List Instruction) (functions : List (ℕ × ℕ)) (e : Explained) (status : ℕ) → EndsWith (font_subject d) f functions → IsAnswered (cvt_subject d f functions) e
-    → (e ≡ explained.Accepted → status ≡ 0) → (e ≡ explained.Refused → status ≡ 1) → TellsProgram d name.Cvt status
-cvt_told d f functions explained.Accepted status ends judged zero one = record { accepted = λ is. cvt_accepted f functions ends judged; refused = λ is. absurd (let bad = zero refl in cc) }
-cvt_told d f functions explained.Refused status ends judged zero one = record {
-  accepted = λ is. absurd (let bad = one refl in cc);
-  refused = λ is. cvt_refused name.Cvt f functions judged.0 (λ same. cc) ends judged.1;
-}
+-- what is answered of a program that was explained
+pub font_told : (d : FontData) (e : Explained) → IsAnswered (font_subject d) e → TellsProgram d name.Font e
+font_told d explained.Accepted judged = font_accepted judged
+font_told d (explained.Refused r) judged = font_refused name.Font r judged
 
-pub glyph_told : (d : FontData) (f p : List Instruction) (functions known : List (ℕ × ℕ)) (id : ℕ) (g : GlyphData) (e : Explained) (status : ℕ)
+pub cvt_told : (d : FontData) (f : List Instruction) (functions : List (ℕ × ℕ)) (e : Explained) → EndsWith (font_subject d) f functions → IsAnswered (cvt_subject d f functions) e → TellsProgram d name.Cvt e
+cvt_told d f functions explained.Accepted ends judged = cvt_accepted f functions ends judged
+cvt_told d f functions (explained.Refused r) ends judged = cvt_refused name.Cvt f functions r (λ same. cc) ends judged
+
+pub glyph_told : (d : FontData) (f p : List Instruction) (functions known : List (ℕ × ℕ)) (id : ℕ) (g : GlyphData) (e : Explained)
     → EndsWith (font_subject d) f functions → EndsWith (cvt_subject d f functions) p known → slice_get d.glyphs id ≡ Some g
-    → IsAnswered (glyph_subject (font_of d f p) known id g) e → (e ≡ explained.Accepted → status ≡ 0) → (e ≡ explained.Refused → status ≡ 1) → TellsProgram d (name.Glyph id) status
-glyph_told d f p functions known id g explained.Accepted status ends cvt_ends there judged zero one = record {
-  accepted = λ is. glyph_accepted f p functions known id g ends cvt_ends there judged;
-  refused = λ is. absurd (let bad = zero refl in cc);
-}
-glyph_told d f p functions known id g explained.Refused status ends cvt_ends there judged zero one = record {
-  accepted = λ is. absurd (let bad = one refl in cc);
-  refused = λ is. glyph_refused f p functions known id g judged.0 ends cvt_ends there judged.1;
-}
+    → IsAnswered (glyph_subject (font_of d f p) known id g) e → TellsProgram d (name.Glyph id) e
+glyph_told d f p functions known id g explained.Accepted ends cvt_ends there judged = glyph_accepted f p functions known id g ends cvt_ends there judged
+glyph_told d f p functions known id g (explained.Refused r) ends cvt_ends there judged = glyph_refused f p functions known id g r ends cvt_ends there judged
 
 -- the same of the program that is next
-pub next_told : (d : FontData) (called : Name) (s : Stage) (x : Subject) (e : Explained) (status : ℕ) → next_program d s ≡ Some x → x.name ≡ called → KeepsKnown d s
-    → IsAnswered (with_start x (start_at s)) e → (e ≡ explained.Accepted → status ≡ 0) → (e ≡ explained.Refused → status ≡ 1) → TellsProgram d called status
-next_told d called at_start x e status next name kept judged zero one =
+pub next_told : (d : FontData) (called : Name) (s : Stage) (x : Subject) (e : Explained) → next_program d s ≡ Some x → x.name ≡ called → KeepsKnown d s
+    → IsAnswered (with_start x (start_at s)) e → TellsProgram d called e
+next_told d called at_start x e next name kept judged =
     let same : x ≡ font_subject d = cc in
     let J : Subject → Type 0 = λ y. IsAnswered (with_start y []) e in
-    let T : Name → Type 0 = λ n. TellsProgram d n status in
-    subst T (sym (ap (λ (y : Subject). y.name) same) ∙ name) (font_told d e status (subst J same judged) zero one)
-next_told d called (after_font f functions) x e status next name kept judged zero one =
+    let T : Name → Type 0 = λ n. TellsProgram d n e in
+    subst T (sym (ap (λ (y : Subject). y.name) same) ∙ name) (font_told d e (subst J same judged))
+next_told d called (after_font f functions) x e next name kept judged =
     let same : x ≡ cvt_subject d f [] = cc in
     let J : Subject → Type 0 = λ y. IsAnswered (with_start y functions) e in
-    let T : Name → Type 0 = λ n. TellsProgram d n status in
-    subst T (sym (ap (λ (y : Subject). y.name) same) ∙ name) (cvt_told d f functions e status kept.ends (subst J same judged) zero one)
-next_told d called (at_glyph f p known id) x e status next name ((functions, font, cvt), le) judged zero one =
+    let T : Name → Type 0 = λ n. TellsProgram d n e in
+    subst T (sym (ap (λ (y : Subject). y.name) same) ∙ name) (cvt_told d f functions e kept.ends (subst J same judged))
+next_told d called (at_glyph f p known id) x e next name ((functions, font, cvt), le) judged =
     let (g, there, same) = glyph_of (λ g. glyph_subject (font_of d f p) [] id g) (slice_get d.glyphs id) x next in
     let J : Subject → Type 0 = λ y. IsAnswered (with_start y known) e in
-    let T : Name → Type 0 = λ n. TellsProgram d n status in
-    subst T (ap (λ (y : Subject). y.name) same ∙ name) (glyph_told d f p functions known id g e status font.ends cvt.ends there (subst J (sym same) judged) zero one)
-next_told d called over x e status next name kept judged zero one = absurd cc
+    let T : Name → Type 0 = λ n. TellsProgram d n e in
+    subst T (ap (λ (y : Subject). y.name) same ∙ name) (glyph_told d f p functions known id g e font.ends cvt.ends there (subst J (sym same) judged))
+next_told d called over x e next name kept judged = absurd cc
+
+-- the same of the program that a word names
+pub word_told : (bytes word : List ℕ) (d : FontData) (called : Name) (e : Explained) → Reads bytes d → Calls bytes word called → TellsProgram d called e → HoldExplained bytes word e
+word_told bytes word d called explained.Accepted reads text tells = record { font = d; reads = reads; name = called; text = text; accepted = tells }
+word_told bytes word d called (explained.Refused r) reads text tells = record { font = d; reads = reads; name = called; text = text; refused = tells }
+
+-- the exit status of what is answered by a profile
+pub accepted_by : (profile : Profile) (bytes word : List ℕ) (e : Explained) (status : ℕ) → HoldExplainedBy profile bytes word e → status ≡ status_of_explained e → status ≡ 0 → HoldAcceptedBy profile bytes word
+accepted_by Strict bytes word explained.Accepted status holds is zero = holds
+accepted_by Symbolic bytes word explained.Accepted status holds is zero = holds
+accepted_by profile bytes word (explained.Refused r) status holds is zero = absurd (cc)
+
+pub refused_by : (profile : Profile) (bytes word : List ℕ) (e : Explained) (status : ℕ) → HoldExplainedBy profile bytes word e → status ≡ status_of_explained e → status ≡ 1 → HoldUnacceptedBy profile bytes word
+refused_by Strict bytes word (explained.Refused r) status holds is one = (r, holds)
+refused_by Symbolic bytes word (explained.Refused r) status holds is one = (r, holds)
+refused_by profile bytes word explained.Accepted status holds is one = absurd (cc)

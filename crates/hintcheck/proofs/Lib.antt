@@ -3,6 +3,9 @@ pub mod ListingLemmas
 pub mod FaultLemmas
 pub mod PrintedLemmas
 pub mod ScanLemmas
+pub mod KnownLines
+pub mod KnownScans
+pub mod KnownFaults
 pub mod ScannedLines
 pub mod ScanFaults
 pub mod PlaceLemmas
@@ -10,4 +13,7 @@ pub mod ExplanationLemmas
 pub mod ProgramsBefore
 pub mod TellingFaults
 pub mod WrittenObjects
+pub mod CauseLemmas
 pub mod CertificateFaults
+pub mod ObjectFaults
+pub mod ToldCauses

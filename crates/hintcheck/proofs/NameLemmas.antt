@@ -2,14 +2,17 @@
 use Rattle.std.specs.Prelude.{◌↔◌, IsTrue, option_map, slice_get}
 use Rattle.std.specs.Fmt.{decimal}
 use Rattle.std.specs.Str.Parse.{AllDigits, ParsesUnsigned, digits_value}
-use Rattle.std.proofs.Common.{◌≡◌, ℕ, zero, suc, ◌<◌, ◌^◌, List, Bool, true, false, Option, None, Some, Result, Ok, Err, IfSome, length, get_or, refl, sym, subst, arith, rules, ◌∙◌}
+use Rattle.std.proofs.Common.{◌≡◌, ℕ, zero, suc, ◌<◌, ◌^◌, List, Bool, true, false, Option, None, Some, Result, Ok, Err, IfSome, IfNone, length, get_or, refl, ap, sym, subst, arith, rules, ◌∙◌}
 use Rattle.std.proofs.lemmas.Fmt.{decimal_digit, first_decimal, digits_decimal, decimal-digits_value, decimal_nonempty}
 use Rattle.std.proofs.lemmas.Str.Parse.{IsNumeralModel, numerals_by_value, tells_digits, not_in_digits, parse_plain}
 use Rattle.std.specs.Result.{OkIff, result_ok}
 use Rattle.std.proofs.lemmas.Option.{slice_get_within}
 use Rattle.tt_font.specs.Reading.{FontData, GlyphData}
 use Rattle.hintcheck_fonts.specs.FontPrograms.{IsFontInRange}
-use Rattle.hintcheck.specs.Listing.{IsOf16Bits, IsPlain, Names, program_in}
+use Rattle.hintcheck.specs.Listing.{Calls, IsNoName, IsOf16Bits, IsPlain, Names, program_in}
+use Rattle.hintcheck.specs.Listing.{by_name, by_glyph_name}
+use Rattle.tt_names.specs.Names.{IsFirstNamed, NamesNone}
+use Rattle.tt_names.specs.Post.{post_of}
 use Rattle.tt_cert.specs.Names.{text_of}
 use Rattle.tt_cert.specs.declared.name.Name.{Name}
 use Rattle.tt_cert.specs.declared.name.Name.TheVariants as name
@@ -59,14 +62,47 @@ of_16_bits d few (name.Glyph id) p e = let h = number_below d.glyphs id (slice_g
 abbrev pub IsReadAs : List ℕ → Option Name → Type 0
 IsReadAs word read = (called : Name) → IsOf16Bits called → word ≡ text_of called → read ≡ Some called
 
-pub no_name : (word : List ℕ) (d : FontData) (read : Option Name) → length d.glyphs < 2 ^ 16 → IsReadAs word read → read ≡ None → (p : List ℕ) → Names word d p → ⊥
-no_name word d read few is none p named =
+-- which program a word means
+abbrev pub IsMeant : List ℕ → List ℕ → Option Name → Type 0
+IsMeant bytes word meant = (called : Name) → IsOf16Bits called → Calls bytes word called → meant ≡ Some called
+
+-- a word that is a program's name means that program
+pub name_is_meant : (bytes word : List ℕ) (read : Option Name) (called : Name) → IsReadAs word read → read ≡ Some called → IsOf16Bits called → word ≡ text_of called
+    → IsMeant bytes word (Some called)
+name_is_meant bytes word read called is found bits text other small (by_name e) = let same : read ≡ Some other = is other small e in cc
+name_is_meant bytes word read called is found bits text other small (by_glyph_name id is_glyph nameless first) = absurd (nameless called bits text)
+
+-- there is one first glyph with a name
+one_first : (post word : List ℕ) (a b : ℕ) → IsFirstNamed post word a → IsFirstNamed post word b → a ≡ b
+one_first post word a b first other =
+    let above : a < b → ⊥ = λ lt. other.first a lt first.named in
+    let below : b < a → ⊥ = λ lt. first.first b lt other.named in
+    omega arith
+
+no_such_name : (word : List ℕ) (read : Option Name) → IsReadAs word read → read ≡ None → IsNoName word
+no_such_name word read is none = λ called small e. let some : read ≡ Some called = is called small e in cc
+
+-- another word means the first glyph that has it as its name
+pub glyph_is_meant : (bytes word : List ℕ) (read : Option Name) (found : Option ℕ) → IsReadAs word read → read ≡ None
+    → IfNone found (NamesNone (post_of bytes) word) → IfSome found (IsFirstNamed (post_of bytes) word) → IsMeant bytes word (option_map name.Glyph found)
+glyph_is_meant bytes word read found is none unnamed first other small (by_name e) = let some : read ≡ Some other = is other small e in cc
+glyph_is_meant bytes word read (Some glyph) is none unnamed first other small (by_glyph_name id is_glyph nameless one) =
+    ap (λ k. Some (name.Glyph k)) (one_first (post_of bytes) word glyph id first one) ∙ ap Some (sym is_glyph)
+glyph_is_meant bytes word read None is none unnamed first other small (by_glyph_name id is_glyph nameless one) = absurd (unnamed id one.named)
+
+pub glyph_called : (bytes word : List ℕ) (read : Option Name) (found : Option ℕ) → IsReadAs word read → read ≡ None
+    → IfSome found (IsFirstNamed (post_of bytes) word) → IfSome (option_map name.Glyph found) (Calls bytes word)
+glyph_called bytes word read (Some glyph) is none first = by_glyph_name glyph refl (no_such_name word read is none) first
+glyph_called bytes word read None is none first = tt
+
+pub no_name : (bytes word : List ℕ) (d : FontData) (meant : Option Name) → length d.glyphs < 2 ^ 16 → IsMeant bytes word meant → meant ≡ None → (p : List ℕ) → Names bytes word d p → ⊥
+no_name bytes word d meant few is none p named =
     let some = is named.name (of_16_bits d few named.name p named.there) named.text in cc
 
-pub no_program : (word : List ℕ) (d : FontData) (read : Option Name) (called : Name) → length d.glyphs < 2 ^ 16 → IsReadAs word read → read ≡ Some called → program_in d called ≡ None
-    → (p : List ℕ) → Names word d p → ⊥
-no_program word d read called few is found none p named =
-    let some : read ≡ Some named.name = is named.name (of_16_bits d few named.name p named.there) named.text in
+pub no_program : (bytes word : List ℕ) (d : FontData) (meant : Option Name) (called : Name) → length d.glyphs < 2 ^ 16 → IsMeant bytes word meant → meant ≡ Some called
+    → program_in d called ≡ None → (p : List ℕ) → Names bytes word d p → ⊥
+no_program bytes word d meant called few is found none p named =
+    let some : meant ≡ Some named.name = is named.name (of_16_bits d few named.name p named.there) named.text in
     let same : called ≡ named.name = cc in
     let there : program_in d called ≡ Some p = subst (λ n. program_in d n ≡ Some p) (sym same) named.there in cc
 
@@ -83,5 +119,10 @@ program_few d range name.Font p e = let same : d.fpgm ≡ p = cc in subst (λ x.
 program_few d range name.Cvt p e = let same : d.prep ≡ p = cc in subst (λ x. length x < 2 ^ 31) same range.prep.few
 program_few d range (name.Glyph id) p e = glyph_few d id (slice_get d.glyphs id) refl range p e
 
-pub named_few : (d : FontData) → IsFontInRange d → (word p : List ℕ) → Names word d p → length p < 2 ^ 31
-named_few d range word p named = program_few d range named.name p named.there
+pub named_few : (d : FontData) → IsFontInRange d → (bytes word p : List ℕ) → Names bytes word d p → length p < 2 ^ 31
+named_few d range bytes word p named = program_few d range named.name p named.there
+
+-- what is said of a value that is there
+pub of_some : {T : Type 0} (o : Option T) (x : T) (P : T → Type 0) → o ≡ Some x → IfSome o P → P x
+of_some None x P is holds = absurd cc
+of_some (Some y) x P is holds = let same : y ≡ x = cc in subst P same holds

@@ -29,10 +29,10 @@ prints_listing (Err e) detail bytes word old new listed told = tt
 
 -- where a verdict is asked for, its lines are the answer
 pub prints_for_verdict : (q : Request) (status : ℕ) (old new : Option (List ℕ)) → IsForVerdict q → PrintsVerdict q status old new → Prints q status old new
-prints_for_verdict (bare maxp cvt points contours program profile) status old new for_verdict printed = printed
+prints_for_verdict (bare maxp cvt points contours program budget profile) status old new for_verdict printed = printed
 prints_for_verdict (verdict font budget profile) status old new for_verdict printed = printed
-prints_for_verdict (scan fonts options) status old new for_verdict printed = absurd for_verdict
-prints_for_verdict (explain font program offset budget profile) status old new for_verdict printed = absurd for_verdict
+prints_for_verdict (scan fonts options expected) status old new for_verdict printed = absurd for_verdict
+prints_for_verdict (explain font program offset budget profile format) status old new for_verdict printed = absurd for_verdict
 prints_for_verdict (find font certificate budget) status old new for_verdict printed = printed
 prints_for_verdict (check font certificate budget) status old new for_verdict printed = printed
 prints_for_verdict (list font program detail) status old new for_verdict printed = absurd for_verdict

@@ -41,16 +41,16 @@ no_glyph_before (name.Glyph n) f p known id other way = other tt
 
 -- a refused one is before the one of this name
 pub refused_on_way : (d : FontData) (j : Finding) (called : Name) (s t : Stage) (o : Outcome) (r : Refused) → IsOutcomeOf d j s o t → (IsOfKindNext called s → ⊥) → IsOnWay called s → KeepsKnown d s
-    → o.refused ≡ Some r → IsRefusedIn d called
+    → o.refused ≡ Some r → IsRefusedIn d called r
 refused_on_way d j called s t o r (font_done f known ends) other way kept is = absurd cc
-refused_on_way d j called s t o r (font_stops r' is') other way kept is = told.font_refused called r' is'.refusal
+refused_on_way d j called s t o r (font_stops r' is') other way kept is = subst (IsRefusedIn d called) (let same : r' ≡ r = cc in same) (told.font_refused called r' is'.refusal)
 refused_on_way d j called s t o r (cvt_done f p start known ends) other way kept is = absurd cc
-refused_on_way d j called s t o r (cvt_stops f start r' is') other way kept is = told.cvt_refused called f start r' way kept.ends is'.refusal
+refused_on_way d j called s t o r (cvt_stops f start r' is') other way kept is = subst (IsRefusedIn d called) (let same : r' ≡ r = cc in same) (told.cvt_refused called f start r' way kept.ends is'.refusal)
 refused_on_way d j called s t o r (glyph_done f p known id g is' there accepts) other way kept is = absurd cc
 refused_on_way d j called s t o r (glyph_stops f p known id g r' there is') other way kept is = absurd (no_glyph_before called f p known id other way)
 
 pub refused_answer : (d : FontData) (j : Finding) (called : Name) (s t : Stage) (answer : Option Outcome) (by : Option Refused) (r : Refused) → AnswersFinding d j s answer t
-    → (answer ≡ None → by ≡ None) → ((o : Outcome) → answer ≡ Some o → by ≡ o.refused) → by ≡ Some r → (IsOfKindNext called s → ⊥) → IsOnWay called s → KeepsKnown d s → IsRefusedIn d called
+    → (answer ≡ None → by ≡ None) → ((o : Outcome) → answer ≡ Some o → by ≡ o.refused) → by ≡ Some r → (IsOfKindNext called s → ⊥) → IsOnWay called s → KeepsKnown d s → IsRefusedIn d called r
 refused_answer d j called s t (Some o) by r answers none some is other way kept = refused_on_way d j called s t o r answers other way kept (sym (some o refl) ∙ is)
 refused_answer d j called s t None by r answers none some is other way kept = absurd (let no = none refl in cc)
 

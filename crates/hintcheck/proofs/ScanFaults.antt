@@ -1,5 +1,5 @@
--- Only a scan has a fault that comes after the last line.
-use Rattle.std.proofs.Common.{◌≡◌, inl, inr, IfErr, IsErrAnd, Result, Ok, Err, subst}
+-- Only a scan, or an explanation in an object, has a fault that is told in what is printed.
+use Rattle.std.proofs.Common.{◌≡◌, inl, inr, IfErr, IsErrAnd, None, Result, Ok, Some, Err, subst}
 use Rattle.hintcheck_words.specs.Requests.{Request, bare, check, explain, find, list, scan, upgrade, verdict}
 use Rattle.hintcheck.specs.CommandFaults.{IsFaultOfPrinting, IsFaultOfRequest, IsFaultOfTask}
 use Rattle.hintcheck.specs.Commands.{IsForVerdict}
@@ -7,26 +7,29 @@ use Rattle.hintcheck.specs.Scans.{IsOfScan}
 use Rattle.hintcheck.specs.declared.commands.faults.CommandFault.{CommandFault}
 use Rattle.hintcheck.specs.declared.commands.faults.CommandFault.TheVariants as fault
 
--- no scan is asked for
+-- neither a scan nor the explanation of one program is asked for
 abbrev pub IsNoScan : Request → Type 0
-IsNoScan (scan fonts options) = ⊥
+IsNoScan (scan fonts options expected) = ⊥
+IsNoScan (explain font (Some program) offset budget profile format) = ⊥
 IsNoScan other = Unit {0}
 
 fault_of_scan : (q : Request) → IsNoScan q → IsFaultOfRequest q fault.ScanFault → ⊥
-fault_of_scan (bare maxp cvt points contours program profile) no_scan is = is
+fault_of_scan (bare maxp cvt points contours program budget profile) no_scan is = is.0
 fault_of_scan (verdict font budget profile) no_scan is = is.0
-fault_of_scan (scan fonts options) no_scan is = no_scan
-fault_of_scan (explain font program offset budget profile) no_scan is = elim is.0 [ inl reading ↦ reading | inr some ↦ some.1.1 ]
+fault_of_scan (scan fonts options expected) no_scan is = no_scan
+fault_of_scan (explain font None offset budget profile format) no_scan is = is.0
+fault_of_scan (explain font (Some program) offset budget profile format) no_scan is = no_scan
 fault_of_scan (find font certificate budget) no_scan is = elim is.0 [ inl e ↦ cc | inr other ↦ other.1 ]
 fault_of_scan (check font certificate budget) no_scan is = is.0
 fault_of_scan (list font program detail) no_scan is = elim is [ inl reading ↦ reading | inr some ↦ some.1 ]
 fault_of_scan (upgrade old new) no_scan is = elim is [ inl e ↦ cc | inr other ↦ other.1 ]
 
 unfinished_scan : (q : Request) → IsNoScan q → IsFaultOfRequest q fault.ScanUnfinished → ⊥
-unfinished_scan (bare maxp cvt points contours program profile) no_scan is = is
+unfinished_scan (bare maxp cvt points contours program budget profile) no_scan is = is.0
 unfinished_scan (verdict font budget profile) no_scan is = is.0
-unfinished_scan (scan fonts options) no_scan is = no_scan
-unfinished_scan (explain font program offset budget profile) no_scan is = elim is.0 [ inl reading ↦ reading | inr some ↦ some.1.1 ]
+unfinished_scan (scan fonts options expected) no_scan is = no_scan
+unfinished_scan (explain font None offset budget profile format) no_scan is = is.0
+unfinished_scan (explain font (Some program) offset budget profile format) no_scan is = no_scan
 unfinished_scan (find font certificate budget) no_scan is = elim is.0 [ inl e ↦ cc | inr other ↦ other.1 ]
 unfinished_scan (check font certificate budget) no_scan is = is.0
 unfinished_scan (list font program detail) no_scan is = elim is [ inl reading ↦ reading | inr some ↦ some.1 ]
@@ -48,10 +51,10 @@ pub task_no_scan : (q : Request) (f : CommandFault) → IsNoScan q → IsFaultOf
 task_no_scan q f no_scan is of = elim is [ inl asked ↦ request_no_scan q f no_scan asked of | inr printing ↦ printing_no_scan f printing.1 of ]
 
 pub verdict_no_scan : (q : Request) → IsForVerdict q → IsNoScan q
-verdict_no_scan (bare maxp cvt points contours program profile) is = tt
+verdict_no_scan (bare maxp cvt points contours program budget profile) is = tt
 verdict_no_scan (verdict font budget profile) is = tt
-verdict_no_scan (scan fonts options) is = is
-verdict_no_scan (explain font program offset budget profile) is = tt
+verdict_no_scan (scan fonts options expected) is = is
+verdict_no_scan (explain font program offset budget profile format) is = absurd is
 verdict_no_scan (find font certificate budget) is = tt
 verdict_no_scan (check font certificate budget) is = tt
 verdict_no_scan (list font program detail) is = tt

@@ -15,7 +15,9 @@ use Rattle.hintcheck_words.specs.declared.words.ScanOptions.{ScanOptions}
 use Rattle.hintcheck.specs.CommandFaults.{IsFaultOfFontFile}
 use Rattle.hintcheck.specs.FaultTexts.{command_fault_text}
 use Rattle.hintcheck.specs.RefusalClasses.{number_of_class}
-use Rattle.hintcheck.specs.Scans.{Answer, IsAnswer, PrintsScan, Scanned, counts_text, greatest_status, judged, left_out_text, line_of, status_of_answer, summary, text_of, unread}
+use Rattle.hintcheck.proofs.KnownScans.{noted_both, noted_none}
+use Rattle.hintcheck.specs.Representation.Expectations.{Expected, NotesScan, lines_of_answer, noted, scanned_lines}
+use Rattle.hintcheck.specs.Scans.{Answer, HasCauses, IsAnswer, Scanned, TellsFont, counts_text, greatest_status, judged, left_out_text, line_of, status_of_answer, summary, text_of, unread}
 use Rattle.hintcheck.specs.Texts.{profile_text}
 use Rattle.hintcheck_fonts.specs.Verdicts.{Judgement}
 use Rattle.hintcheck.specs.declared.commands.faults.CommandFault.{CommandFault}
@@ -46,46 +48,55 @@ greatest-append f (x ∷ xs) ys = omega (arith, greatest-append f xs ys)
 abbrev Answered : ScanOptions → Scanned → Type 0
 Answered options s = IsAnswer options.profile options.budget s.answer
 
+abbrev Caused : ScanOptions → Scanned → Type 0
+Caused options s = HasCauses options.format s.answer s.causes
+
 -- no font file
-pub scans_none : (options : ScanOptions) (old : Option (List ℕ)) → PrintsScan options [] 0 old old
-scans_none options old = record { scanned = []; names_are = refl; answers = All-nil (Answered options); greatest = refl; written = appends_nothing old }
+pub scans_none : (options : ScanOptions) (old : Option (List ℕ)) (v : Expected) → NotesScan options [] 0 old old v v
+scans_none options old v = record { scanned = []; names_are = refl; answers = All-nil (Answered options); causes = All-nil (Caused options); greatest = refl; written = appends_nothing old; noted_are = sym (noted_none v) }
 
 -- one font file
-pub scans_one : (options : ScanOptions) (name : List ℕ) (answer : Answer) (status : ℕ) (old new : Option (List ℕ)) → IsAnswer options.profile options.budget answer → status ≡ status_of_answer options.fail_on answer
-    → Appends old new (text_of options (record { name = name; answer = answer })) → PrintsScan options (name ∷ []) status old new
-scans_one options name answer status old new is same written =
-    let s : Scanned = record { name = name; answer = answer } in
+pub scans_one : (options : ScanOptions) (name : List ℕ) (answer : Answer) (status : ℕ) (old new : Option (List ℕ)) (before after : Expected) → IsAnswer options.profile options.budget answer → status ≡ status_of_answer options.fail_on answer
+    → TellsFont options name answer old new → after ≡ noted before (lines_of_answer options.fail_on name answer) → NotesScan options (name ∷ []) status old new before after
+scans_one options name answer status old new before after is same tells noted_are =
+    let s : Scanned = record { name = name; answer = answer; causes = tells.causes } in
     record {
       scanned = s ∷ [];
       names_are = refl;
       answers = All-cons (Answered options) s [] is (All-nil (Answered options));
+      causes = All-cons (Caused options) s [] tells.are (All-nil (Caused options));
       greatest = omega arith;
-      written = subst (Appends old new) (sym (append-nil (text_of options s))) written;
+      written = subst (Appends old new) (sym (append-nil (text_of options s))) tells.written;
+      noted_are = noted_are ∙ ap (noted before) (sym (append-nil (lines_of_answer options.fail_on name answer)));
     }
 
 -- font files, and then others
-pub scans_both : (options : ScanOptions) (a b : List (List ℕ)) (s t : ℕ) (old mid new : Option (List ℕ)) → PrintsScan options a s old mid → PrintsScan options b t mid new → PrintsScan options (a ++ b) (max s t) old new
-scans_both options a b s t old mid new first second =
+pub scans_both : (options : ScanOptions) (a b : List (List ℕ)) (s t : ℕ) (old mid new : Option (List ℕ)) (u v w : Expected) → NotesScan options a s old mid u v → NotesScan options b t mid new v w → NotesScan options (a ++ b) (max s t) old new u w
+scans_both options a b s t old mid new u v w first second =
+    let lines = λ (s : Scanned). lines_of_answer options.fail_on s.name s.answer in
     record {
       scanned = first.scanned ++ second.scanned;
       names_are = map-append (λ s. s.name) first.scanned second.scanned ∙ ap (λ x. x ++ map (λ s. s.name) second.scanned) first.names_are ∙ ap (λ y. a ++ y) second.names_are;
       answers = All-append (Answered options) first.scanned second.scanned first.answers second.answers;
+      causes = All-append (Caused options) first.scanned second.scanned first.causes second.causes;
       greatest = omega (arith, greatest-append options.fail_on first.scanned second.scanned, first.greatest, second.greatest);
       written = subst (Appends old new) (sym (flat_map-append (text_of options) first.scanned second.scanned)) (appends_both old mid new _ _ first.written second.written);
+      noted_are = second.noted_are ∙ ap (λ x. noted x (scanned_lines options.fail_on second.scanned)) first.noted_are ∙ noted_both u (scanned_lines options.fail_on first.scanned) (scanned_lines options.fail_on second.scanned)
+          ∙ ap (noted u) (sym (flat_map-append lines first.scanned second.scanned));
     }
 
 -- the font files so far, and the next one
-pub scans_more : {X : Type 0} (options : ScanOptions) (text : X → List ℕ) (xs : List X) (i : ℕ) (x : X) (name : List ℕ) (s t m : ℕ) (old mid new : Option (List ℕ)) → i < length xs → x ≡ get_or xs i x → name ≡ text x
-    → PrintsScan options (map text (take i xs)) s old mid → PrintsScan options (name ∷ []) t mid new → m ≡ max s t → PrintsScan options (map text (take (i + 1) xs)) m old new
-scans_more options text xs i x name s t m old mid new within is called so_far one greatest =
+pub scans_more : {X : Type 0} (options : ScanOptions) (text : X → List ℕ) (xs : List X) (i : ℕ) (x : X) (name : List ℕ) (s t m : ℕ) (old mid new : Option (List ℕ)) (u v w : Expected) → i < length xs → x ≡ get_or xs i x → name ≡ text x
+    → NotesScan options (map text (take i xs)) s old mid u v → NotesScan options (name ∷ []) t mid new v w → m ≡ max s t → NotesScan options (map text (take (i + 1) xs)) m old new u w
+scans_more options text xs i x name s t m old mid new u v w within is called so_far one greatest =
     let more : map text (take (i + 1) xs) ≡ map text (take i xs) ++ text x ∷ [] =
     ap (map text) (take_more xs i x within) ∙ map-append text (take i xs) (get_or xs i x ∷ []) ∙ ap (λ y. map text (take i xs) ++ text y ∷ []) (sym is) in
-    rw (more, greatest, ← called) (scans_both options (map text (take i xs)) (name ∷ []) s t old mid new so_far one)
+    rw (more, greatest, ← called) (scans_both options (map text (take i xs)) (name ∷ []) s t old mid new u v w so_far one)
 
 -- all font files
-pub scans_all : {X : Type 0} (options : ScanOptions) (text : X → List ℕ) (xs : List X) (i s : ℕ) (old new : Option (List ℕ)) → length xs ≤ i → PrintsScan options (map text (take i xs)) s old new
-    → PrintsScan options (map text xs) s old new
-scans_all options text xs i s old new within printed = subst (λ ys. PrintsScan options (map text ys) s old new) (take_all i xs within) printed
+pub scans_all : {X : Type 0} (options : ScanOptions) (text : X → List ℕ) (xs : List X) (i s : ℕ) (old new : Option (List ℕ)) (u v : Expected) → length xs ≤ i → NotesScan options (map text (take i xs)) s old new u v
+    → NotesScan options (map text xs) s old new u v
+scans_all options text xs i s old new u v within printed = subst (λ ys. NotesScan options (map text ys) s old new u v) (take_all i xs within) printed
 
 -- the line of a font of which glyph programs are refused, by its parts
 pub counts_written : (profile : Profile) (name : List ℕ) (programs possible undecided left : ℕ) (rs : List Refused) (o p q r s : Option (List ℕ)) → possible ≡ number_of_class PossibleFault rs
@@ -109,7 +120,7 @@ glyph_summary programs (x ∷ xs) r id first is =
 -- the line of a font of which glyph programs are refused, by the first of them
 pub glyph_line : (profile : Profile) (name : List ℕ) (programs : ℕ) (v : Judgement) (rs shown : List Refused) (r : Refused) (id : ℕ) (old new : Option (List ℕ)) → Some r ≡ slice_get rs 0 → rs ≡ v.refused
     → shown ≡ v.refused → programs ≡ v.programs → r.program ≡ Glyph id → Appends old new (name ++ (codes ": refused: " ++ ((counts_text programs shown ++ profile_text profile) ++ codes "\n")))
-    → Appends old new (line_of profile (record { name = name; answer = judged v }))
+    → Appends old new (line_of profile name (judged v))
 glyph_line profile name programs v rs shown r id old new first rs_are shown_are programs_are is written =
     let e : summary v.programs v.refused ≡ codes "refused: " ++ counts_text v.programs v.refused =
     glyph_summary v.programs v.refused r id (subst (λ xs. Some r ≡ slice_get xs 0) rs_are first) is in
@@ -121,7 +132,7 @@ glyph_line profile name programs v rs shown r id old new first rs_are shown_are 
 
 -- the line of a font file with a fault
 pub fault_line : (profile : Profile) (name : List ℕ) (f : CommandFault) (old new : Option (List ℕ)) → IsFaultOfFontFile f
-    → AppendsText (Some name ++? (Some (codes ": fault: ") ++? (command_fault_text f ++? Some (codes "\n")))) old new → Appends old new (line_of profile (record { name = name; answer = unread f }))
+    → AppendsText (Some name ++? (Some (codes ": fault: ") ++? (command_fault_text f ++? Some (codes "\n")))) old new → Appends old new (line_of profile name (unread f))
 fault_line profile name (fault.Font numbered) old new is written = written
 fault_line profile name (fault.Unopened why) old new is written = written
 fault_line profile name fault.Read old new is written = written
@@ -133,6 +144,9 @@ fault_line profile name fault.ProgramWord old new is written = absurd is
 fault_line profile name fault.ProgramName old new is written = absurd is
 fault_line profile name (fault.OffsetWord told) old new is written = absurd is
 fault_line profile name fault.ClassWord old new is written = absurd is
+fault_line profile name fault.ExpectedWord old new is written = absurd is
+fault_line profile name fault.FontWord old new is written = absurd is
+fault_line profile name (fault.KnownLine number) old new is written = absurd is
 fault_line profile name fault.CertificateWord old new is written = absurd is
 fault_line profile name fault.NewWord old new is written = absurd is
 fault_line profile name (fault.Form place) old new is written = absurd is

@@ -1,12 +1,18 @@
 -- Objects of JSON that are written piece by piece.
-use Rattle.std.proofs.Common.{◌≡◌, ℕ, List, ◌++◌, Option, codes, subst}
+use Rattle.std.proofs.Common.{◌≡◌, ℕ, Bor, List, ◌∷◌, ◌++◌, Option, codes, map, subst, sym}
+use Rattle.std.proofs.lemmas.List.Folds.{flat_map-map}
+use Rattle.std.specs.Prelude.{flat_map}
+use Rattle.std.specs.Str.Lines.{lines}
+use Rattle.hintcheck_explain.specs.declared.asked.Explained.{Explained}
+use Rattle.hintcheck_explain.specs.declared.asked.Explained.TheVariants as explained
+use Rattle.hintcheck.specs.Explanations.{status_of_explained}
 use Rattle.std.specs.Fmt.{decimal}
 use Rattle.std.specs.Io.KnownBytes.{Appends}
 use Rattle.json.specs.Print.{quoted}
 use Rattle.tt_code.specs.Refusals.{class_of, number_of, reason_text}
 use Rattle.hintcheck_words.specs.declared.words.Profile.{Profile}
 use Rattle.hintcheck.specs.Commands.{status_of}
-use Rattle.hintcheck.specs.JsonObjects.{beginning, fault_members, fault_object, place_members, profile_name, refused_object, refused_objects, verdict_members}
+use Rattle.hintcheck.specs.JsonObjects.{beginning, explanation_object, fault_members, fault_object, lines_member, next_string, place_members, profile_name, program_member, refusal_member, refused_object, refused_objects, strings, verdict_members}
 use Rattle.hintcheck.specs.RefusalClasses.{class_text}
 use Rattle.hintcheck.proofs.ScannedLines.{appends_both}
 use Rattle.hintcheck_fonts.specs.Verdicts.{Judgement}
@@ -50,3 +56,28 @@ pub fault_written : (name : List ℕ) (profile : Profile) (f : CommandFault) (st
 fault_written name profile f status o p q r s status_is first second third fourth =
     let start = subst (λ n. Appends o p (beginning name profile n)) status_is first in
     appends_both o p s _ _ start (appends_both p r s _ _ (appends_both p q r _ _ second third) fourth)
+
+-- strings, by the first one and the others
+pub strings_written : (texts : List (Bor (List ℕ))) (first : Bor (List ℕ)) (others : List (Bor (List ℕ))) (o p q : Option (List ℕ)) → texts ≡ first ∷ others → Appends o p (quoted first.now)
+    → Appends p q (flat_map (λ (text : Bor (List ℕ)). next_string text.now) others) → Appends o q (strings (map (λ (text : Bor (List ℕ)). text.now) texts))
+strings_written texts first others o p q is start rest =
+    let more = subst (Appends p q) (sym (flat_map-map next_string (λ (text : Bor (List ℕ)). text.now) others)) rest in
+    subst (λ (xs : List (Bor (List ℕ))). Appends o q (strings (map (λ (text : Bor (List ℕ)). text.now) xs))) (sym is) (appends_both o p q _ _ start more)
+
+-- the object of an explanation, by its pieces
+pub explanation_written : (name : List ℕ) (profile : Profile) (status : ℕ) (word : List ℕ) (e : Explained) (text : List ℕ) (o p q r s : Option (List ℕ)) → status ≡ status_of_explained e
+    → Appends o p (beginning name profile status) → Appends p q (program_member word) → Appends q r (refusal_member e) → Appends r s (lines_member (lines text))
+    → Appends o s (explanation_object name profile word e text)
+explanation_written name profile status word e text o p q r s status_is first second third fourth =
+    let start = subst (λ n. Appends o p (beginning name profile n)) status_is first in
+    appends_both o p s _ _ start (appends_three p q r s _ _ _ second third fourth)
+
+-- how a program is refused, if it is refused so
+pub refusal_written : (e : Explained) (r : Refused) (o p q s : Option (List ℕ)) → e ≡ explained.Refused r → Appends o p (codes "\"refused\":") → Appends p q (refused_object r) → Appends q s (codes ",")
+    → Appends o s (refusal_member e)
+refusal_written e r o p q s is first second third = subst (λ (x : Explained). Appends o s (refusal_member x)) (sym is) (appends_three o p q s _ _ _ first second third)
+
+-- the lines of a text
+pub lines_written : (text : List ℕ) (texts : List (Bor (List ℕ))) (o p q r : Option (List ℕ)) → map (λ (line : Bor (List ℕ)). line.now) texts ≡ lines text → Appends o p (codes "\"lines\":[")
+    → Appends p q (strings (map (λ (line : Bor (List ℕ)). line.now) texts)) → Appends q r (codes "]}\n") → Appends o r (lines_member (lines text))
+lines_written text texts o p q r are first second third = appends_three o p q r _ _ _ first (subst (λ (ls : List (List ℕ)). Appends p q (strings ls)) are second) third

@@ -1,17 +1,19 @@
 -- Which fault a command reports, and what that tells of its input; out of memory is unspecified.
-use Rattle.std.specs.Prelude.{◌≡◌, ◌≢◌, ◌⊎◌, ℕ, zero, Bool, List, Option, Some, None, alloc_error, true, unwrap_or, []}
+use Rattle.std.specs.Prelude.{◌≡◌, ◌≢◌, ◌⊎◌, ℕ, zero, All, Bool, List, Option, Some, None, alloc_error, true, unwrap_or, []}
 use Rattle.tt_font.specs.Conditions.{maxp_fault}
 use Rattle.tt_font.specs.FileFaults.{font_fault}
 use Rattle.tt_font.specs.declared.fault.FontFault.TheVariants.{OutOfMemory}
 use Rattle.hintcheck_words.specs.HexWords.{IsHexWord, Spells}
 use Rattle.hintcheck_words.specs.Requests.{Request, bare, check, explain, find, is_taken, list, meaning, scan, upgrade, verdict}
 use Rattle.hintcheck_words.specs.declared.words.FailOn.TheVariants.{Unknown}
-use Rattle.hintcheck_words.specs.declared.words.Format.TheVariants.{Json}
+use Rattle.hintcheck_words.specs.declared.words.Format.{Format}
+use Rattle.hintcheck_words.specs.declared.words.Format.TheVariants.{Json, Lines}
 use Rattle.hintcheck_words.specs.declared.words.ScanOptions.{ScanOptions}
 use Rattle.hintcheck.specs.Commands.{ReadsToEnd, status_of}
 use Rattle.hintcheck.specs.Containers.{container_beside}
 use Rattle.hintcheck_fonts.specs.BarePrograms.{IsMemory}
 use Rattle.hintcheck.specs.Explanations.{HoldPlace}
+use Rattle.hintcheck.specs.KnownRefusals.{IsExpectable, IsFirstBadLine}
 use Rattle.hintcheck.specs.Listing.{HoldNoSuchProgram}
 use Rattle.hintcheck.specs.Neighbours.{HoldNoSuchPlace}
 use Rattle.hintcheck.specs.declared.commands.faults.CommandFault.{CommandFault}
@@ -48,6 +50,13 @@ abbrev pub IsFaultWithin : Option ℕ → Option (List ℕ) → Option (List ℕ
 IsFaultWithin budget old new fault.Budget = budget ≢ None
 IsFaultWithin budget old new other = IsFaultOfSource old new other
 
+-- why there is no verdict on the font in these bytes within a budget: their first fault, or the
+-- budget is exceeded
+abbrev pub IsFaultInBudget : List ℕ → CommandFault → Type 0
+IsFaultInBudget bytes (fault.Font numbered) = IsFaultOfFont bytes numbered
+IsFaultInBudget bytes fault.Budget = Unit {0}
+IsFaultInBudget bytes other = ⊥
+
 -- all bytes were read, and have no fault as those of a font
 abbrev pub ReadNoFault : Option (List ℕ) → Option (List ℕ) → Type 0
 ReadNoFault old new = (bytes : List ℕ) × ReadsToEnd old new bytes × (font_fault bytes ≡ None)
@@ -73,12 +82,13 @@ pub record SpellFault (maxp program : List ℕ) (told : Numbered) : Type 0 where
   pub beside : told.1 ≡ Other
 
 -- Why there is no verdict on one glyph program: the first of the words that spells no bytes, or
--- else the fault of `maxp`.
+-- else the fault of `maxp`; or the budget is exceeded, where these have none.
 abbrev pub IsFaultOfGlyph : List ℕ → List ℕ → CommandFault → Type 0
 IsFaultOfGlyph maxp program fault.MaxpWord = IsHexWord maxp → ⊥
 IsFaultOfGlyph maxp program fault.ProgramWord = IsHexWord maxp × (IsHexWord program → ⊥)
 IsFaultOfGlyph maxp program (fault.Font numbered) = SpellFault maxp program numbered
 IsFaultOfGlyph maxp program fault.OutOfMemory = Unit {0}
+IsFaultOfGlyph maxp program fault.Budget = SpellNoFault maxp program
 IsFaultOfGlyph maxp program other = ⊥
 
 -- why there is no verdict on a font file
@@ -91,20 +101,53 @@ IsFaultOfFontFile fault.Budget = Unit {0}
 IsFaultOfFontFile other = ⊥
 
 -- Why a scan with these options has a fault: the word names no class of reasons; memory ran out at
--- an object of JSON; or one of the font files has a fault that gives the same exit status.
+-- an object of JSON or at the causes; or one of the font files has a fault that gives the same exit status.
 abbrev pub IsFaultOfScan : ScanOptions → CommandFault → Type 0
 IsFaultOfScan options fault.ClassWord = options.fail_on ≡ Unknown
-IsFaultOfScan options fault.OutOfMemory = options.format ≡ Json
+IsFaultOfScan options fault.OutOfMemory = options.format ≢ Lines
 IsFaultOfScan options fault.ScanFault =
     (reported : CommandFault) × IsFaultOfFontFile reported × (status_of reported ≡ 2)
 IsFaultOfScan options fault.ScanUnfinished =
     (reported : CommandFault) × IsFaultOfFontFile reported × (status_of reported ≡ 3)
 IsFaultOfScan options other = ⊥
 
+-- Why a scan with a file of known refusals and these options has a fault: that file is one of the
+-- fonts, or a font has a name that no line can hold; some bytes, those of that file, have a line
+-- that names no refusal; they can't be read or written, or memory ran out; or one of the faults of a
+-- scan without it.
+abbrev pub IsFaultOfExpecting : ScanOptions → CommandFault → Type 0
+IsFaultOfExpecting options fault.ExpectedWord = Unit {0}
+IsFaultOfExpecting options fault.FontWord = Unit {0}
+IsFaultOfExpecting options (fault.KnownLine number) = (held : List ℕ) × IsFirstBadLine held number
+IsFaultOfExpecting options (fault.Unopened why) = Unit {0}
+IsFaultOfExpecting options fault.Read = Unit {0}
+IsFaultOfExpecting options fault.File = Unit {0}
+IsFaultOfExpecting options fault.OutOfMemory = Unit {0}
+IsFaultOfExpecting options other = IsFaultOfScan options other
+
+-- why a scan has a fault, with a file of known refusals or without one
+abbrev pub IsFaultOfScanning : ScanOptions → Option (List ℕ) → CommandFault → Type 0
+IsFaultOfScanning options None reported = IsFaultOfScan options reported
+IsFaultOfScanning options (Some file) reported = IsFaultOfExpecting options reported
+
+-- A scan of font files with these names has no fault of its words: the one for which programs it is
+-- to fail names a class of reasons; and where it names a file of known refusals, that is none of the
+-- font files, and a line can hold the name of each.
+abbrev pub HasNoFaultOfScan : ScanOptions → List (List ℕ) → Option (List ℕ) → Type 0
+HasNoFaultOfScan options fonts None = options.fail_on ≢ Unknown
+HasNoFaultOfScan options fonts (Some file) =
+    options.fail_on ≢ Unknown × All (IsExpectable file) fonts
+
 -- why a file isn't opened
 abbrev pub IsFaultOfOpening : CommandFault → Type 0
 IsFaultOfOpening (fault.Unopened why) = Unit {0}
 IsFaultOfOpening other = ⊥
+
+-- why a font file can't be in a scan with a file of known refusals
+abbrev pub IsFaultOfNames : CommandFault → Type 0
+IsFaultOfNames fault.ExpectedWord = Unit {0}
+IsFaultOfNames fault.FontWord = Unit {0}
+IsFaultOfNames other = ⊥
 
 -- why the bytes of a file aren't read
 abbrev pub IsFaultOfReading : CommandFault → Type 0
@@ -112,6 +155,12 @@ IsFaultOfReading (fault.Unopened why) = Unit {0}
 IsFaultOfReading fault.Read = Unit {0}
 IsFaultOfReading fault.OutOfMemory = Unit {0}
 IsFaultOfReading other = ⊥
+
+-- why the lines of a file of known refusals aren't read: some bytes, those of the file, have a line
+-- that names no refusal; or they aren't read
+abbrev pub IsFaultOfKnown : CommandFault → Type 0
+IsFaultOfKnown (fault.KnownLine number) = (held : List ℕ) × IsFirstBadLine held number
+IsFaultOfKnown other = IsFaultOfReading other
 
 -- why there is no verdict on a font file, or its certificate isn't written
 abbrev pub IsFaultOfCertifying : CommandFault → Type 0
@@ -170,7 +219,7 @@ IsFaultOfPrinting other = ⊥
 
 -- why what a scan with these options tells of a font file isn't printed
 abbrev pub IsFaultOfTelling : ScanOptions → CommandFault → Type 0
-IsFaultOfTelling options fault.OutOfMemory = options.format ≡ Json
+IsFaultOfTelling options fault.OutOfMemory = options.format ≢ Lines
 IsFaultOfTelling options other = IsFaultOfPrinting other
 
 -- why the lines of a program aren't printed
@@ -219,15 +268,58 @@ IsFaultOfFileExplaining word offset reported =
     IsFaultOfReading reported
     ⊎ ((bytes : List ℕ) × IsFaultOfExplaining bytes word offset reported)
 
+-- Why no program with this name of a font file is explained within this budget, if there is one.
+pub record IsUnexplained (word : List ℕ) (offset budget : Option ℕ) (reported : CommandFault)
+    : Type 0 where
+  pub of_file : IsFaultOfFontFile reported
+  pub why : IsFaultOfFileExplaining word offset reported
+  pub within : IsWithin budget reported
+
+-- there is an object to be printed: that of an explanation, or of a font file's fault
+abbrev pub HasObject : List ℕ → Option ℕ → Option ℕ → Type 0
+HasObject word offset budget = ((bytes : List ℕ) × HoldPlace bytes word offset)
+    ⊎ ((reported : CommandFault) × IsUnexplained word offset budget reported)
+
+-- Why the program with this name of a font file isn't explained by an object: there is no such
+-- program, or no such place in it; memory ran out; the object isn't printed; or it tells a font
+-- file's fault, which gives the same exit status.
+abbrev pub IsFaultOfObject : List ℕ → Option ℕ → Option ℕ → CommandFault → Type 0
+IsFaultOfObject word offset budget fault.ProgramName =
+    (bytes : List ℕ) × HoldNoSuchProgram bytes word
+IsFaultOfObject word offset budget (fault.OffsetWord told) =
+    (bytes : List ℕ) × HoldNoSuchPlace bytes word offset told
+IsFaultOfObject word offset budget fault.OutOfMemory = Unit {0}
+IsFaultOfObject word offset budget fault.ScanFault = (reported : CommandFault)
+    × IsUnexplained word offset budget reported × (status_of reported ≡ 2)
+IsFaultOfObject word offset budget fault.ScanUnfinished = (reported : CommandFault)
+    × IsUnexplained word offset budget reported × (status_of reported ≡ 3)
+IsFaultOfObject word offset budget other =
+    HasObject word offset budget × IsFaultOfPrinting other
+
+-- why the program with this name of a font file isn't explained in this form
+abbrev pub IsFaultOfExplainingAs : Format → List ℕ → Option ℕ → Option ℕ → CommandFault → Type 0
+IsFaultOfExplainingAs Json word offset budget reported =
+    IsFaultOfObject word offset budget reported
+IsFaultOfExplainingAs other word offset budget reported =
+    IsFaultOfFileExplaining word offset reported × IsWithin budget reported
+
+-- why the causes for which programs of a font file are refused aren't told: there is no verdict on
+-- it, or a text isn't printed
+abbrev pub IsFaultOfFontCauses : CommandFault → Type 0
+IsFaultOfFontCauses reported = IsFaultOfFontFile reported ⊎ IsFaultOfPrinting reported
+
 -- Why what is asked for isn't answered.
 abbrev pub IsFaultOfRequest : Request → CommandFault → Type 0
-IsFaultOfRequest (bare maxp cvt points contours program profile) reported =
-    IsFaultOfGlyph maxp (unwrap_or program []) reported
+IsFaultOfRequest (bare maxp cvt points contours program budget profile) reported =
+    IsFaultOfGlyph maxp (unwrap_or program []) reported × IsWithin budget reported
 IsFaultOfRequest (verdict font budget profile) reported =
     IsFaultOfFontFile reported × IsWithin budget reported
-IsFaultOfRequest (scan fonts options) reported = IsFaultOfScan options reported
-IsFaultOfRequest (explain font program offset budget profile) reported =
-    IsFaultOfFileExplaining program offset reported × IsWithin budget reported
+IsFaultOfRequest (scan fonts options expected) reported =
+    IsFaultOfScanning options expected reported
+IsFaultOfRequest (explain font None offset budget profile format) reported =
+    IsFaultOfFontFile reported × IsWithin budget reported
+IsFaultOfRequest (explain font (Some program) offset budget profile format) reported =
+    IsFaultOfExplainingAs format program offset budget reported
 IsFaultOfRequest (find font certificate budget) reported =
     IsFaultOfFinding font certificate reported × IsWithin budget reported
 IsFaultOfRequest (check font certificate budget) reported =
@@ -235,15 +327,17 @@ IsFaultOfRequest (check font certificate budget) reported =
 IsFaultOfRequest (list font program detail) reported = IsFaultOfFileListing program reported
 IsFaultOfRequest (upgrade old new) reported = IsFaultOfUpgrading old new reported
 
--- The words of `bare` have no fault; that of `scan` names a class of reasons, if it is given; those
+-- The words of `bare` have no fault; those of `scan` have none, as `HasNoFaultOfScan` says; those
 -- of `find` and of `upgrade` are two different ones; and those of `explain` name a program of some
 -- font, and an instruction of it by an offset, if any.
 abbrev pub HasNoFault : Request → Type 0
-HasNoFault (bare maxp cvt points contours program profile) =
+HasNoFault (bare maxp cvt points contours program budget profile) =
     SpellNoFault maxp (unwrap_or program [])
 HasNoFault (verdict font budget profile) = Unit {0}
-HasNoFault (scan fonts options) = options.fail_on ≢ Unknown
-HasNoFault (explain font program offset budget profile) = (bytes : List ℕ) × HoldPlace bytes program offset
+HasNoFault (scan fonts options expected) = HasNoFaultOfScan options fonts expected
+HasNoFault (explain font None offset budget profile format) = Unit {0}
+HasNoFault (explain font (Some program) offset budget profile format) =
+    (bytes : List ℕ) × HoldPlace bytes program offset
 HasNoFault (find font certificate budget) = font ≢ certificate
 HasNoFault (check font certificate budget) = Unit {0}
 HasNoFault (list font program detail) = Unit {0}

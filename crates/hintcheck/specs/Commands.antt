@@ -123,10 +123,10 @@ HasAll left bytes = IfSome left (λ known. bytes ≡ known)
 
 -- one verdict is asked for, and not a scan, an explanation, a listing or an upgrade
 abbrev pub IsForVerdict : Request → Type 0
-IsForVerdict (bare maxp cvt points contours program profile) = Unit {0}
+IsForVerdict (bare maxp cvt points contours program budget profile) = Unit {0}
 IsForVerdict (verdict font budget profile) = Unit {0}
-IsForVerdict (scan fonts options) = ⊥
-IsForVerdict (explain font program offset budget profile) = ⊥
+IsForVerdict (scan fonts options expected) = ⊥
+IsForVerdict (explain font program offset budget profile format) = ⊥
 IsForVerdict (find font certificate budget) = Unit {0}
 IsForVerdict (check font certificate budget) = Unit {0}
 IsForVerdict (list font program detail) = ⊥

@@ -1,17 +1,18 @@
 -- One program of a font as it is explained: it is accepted, or it is refused, or one before it is.
 use Rattle.std.specs.Prelude.{◌≡◌, ◌≢◌, ℕ, List, [], Option, Some, IfSome, slice_get}
 use Rattle.tt_code.specs.Cut.{BeginsWith, Instruction, size}
-use Rattle.tt_cert.specs.Names.{text_of}
 use Rattle.tt_cert.specs.declared.name.Name.{Name}
 use Rattle.tt_cert.specs.declared.name.Name.TheVariants as name
 use Rattle.tt_font.specs.Reading.{FontData, GlyphData, Reads}
+use Rattle.tt_abs.specs.Failures.{reason_of}
 use Rattle.tt_abs.specs.declared.refusal.Refusal.{Refusal}
 use Rattle.tt_abs.specs.declared.refusal.Refusal.TheVariants as fault
 use Rattle.hintcheck_explain.specs.declared.asked.Explained.{Explained}
 use Rattle.hintcheck_explain.specs.declared.asked.Explained.TheVariants as explained
 use Rattle.hintcheck_fonts.specs.FontPrograms.{cvt_subject, font_of, font_subject, glyph_subject}
-use Rattle.hintcheck.specs.Listing.{Names, program_in}
+use Rattle.hintcheck.specs.Listing.{Calls, Names, program_in}
 use Rattle.hintcheck_fonts.specs.Programs.{EndsWith, HasLeastFamily, IsRefusal, Subject}
+use Rattle.hintcheck_report.specs.Places.{reported_at}
 use Rattle.hintcheck_report.specs.declared.refused.Refused.{Refused}
 
 -- The font's program of this name is accepted: it has its least family. It starts with the
@@ -28,42 +29,56 @@ pub data IsAcceptedIn (d : FontData) : Name → Type 0 where
       → HasLeastFamily (glyph_subject (font_of d f p) known id g)
       → IsAcceptedIn d (name.Glyph id)
 
--- The font's program of this name is refused, or one before it is, so that it isn't checked.
-pub data IsRefusedIn (d : FontData) : Name → Type 0 where
+-- The font's program of this name is refused so, or one before it is, so that it isn't checked.
+pub data IsRefusedIn (d : FontData) : Name → Refused → Type 0 where
   font_refused : (called : Name) (r : Refused) → IsRefusal (font_subject d) r
-      → IsRefusedIn d called
+      → IsRefusedIn d called r
   cvt_refused : (called : Name) (f : List Instruction) (functions : List (ℕ × ℕ)) (r : Refused)
       → called ≢ name.Font
       → EndsWith (font_subject d) f functions → IsRefusal (cvt_subject d f functions) r
-      → IsRefusedIn d called
+      → IsRefusedIn d called r
   glyph_refused : (f p : List Instruction) (functions known : List (ℕ × ℕ)) (id : ℕ)
       (g : GlyphData) (r : Refused)
       → EndsWith (font_subject d) f functions → EndsWith (cvt_subject d f functions) p known
       → slice_get d.glyphs id ≡ Some g
       → IsRefusal (glyph_subject (font_of d f p) known id g) r
-      → IsRefusedIn d (name.Glyph id)
+      → IsRefusedIn d (name.Glyph id) r
 
--- what an exit status tells of the font's program of this name
-pub record TellsProgram (d : FontData) (called : Name) (status : ℕ) : Type 0 where
-  pub accepted : status ≡ 0 → IsAcceptedIn d called
-  pub refused : status ≡ 1 → IsRefusedIn d called
+-- what is answered of the font's program of this name
+abbrev pub TellsProgram : FontData → Name → Explained → Type 0
+TellsProgram d called explained.Accepted = IsAcceptedIn d called
+TellsProgram d called (explained.Refused r) = IsRefusedIn d called r
 
 -- The bytes hold a font, and the word is the name of a program of it that is accepted.
 pub record HoldAcceptedProgram (bytes word : List ℕ) : Type 0 where
   pub font : FontData
   pub reads : Reads bytes font
   pub name : Name
-  pub text : word ≡ text_of name
+  pub text : Calls bytes word name
   pub accepted : IsAcceptedIn font name
 
--- The bytes hold a font, and the word is the name of a program of it that is refused, or before
+-- The bytes hold a font, and the word is the name of a program of it that is refused so, or before
 -- which one is.
-pub record HoldRefusedProgram (bytes word : List ℕ) : Type 0 where
+pub record HoldRefusal (bytes word : List ℕ) (r : Refused) : Type 0 where
   pub font : FontData
   pub reads : Reads bytes font
   pub name : Name
-  pub text : word ≡ text_of name
-  pub refused : IsRefusedIn font name
+  pub text : Calls bytes word name
+  pub refused : IsRefusedIn font name r
+
+-- the same, however it is refused
+abbrev pub HoldRefusedProgram : List ℕ → List ℕ → Type 0
+HoldRefusedProgram bytes word = (r : Refused) × HoldRefusal bytes word r
+
+-- the bytes hold a font, and the word is the name of a program of it, of which this is answered
+abbrev pub HoldExplained : List ℕ → List ℕ → Explained → Type 0
+HoldExplained bytes word explained.Accepted = HoldAcceptedProgram bytes word
+HoldExplained bytes word (explained.Refused r) = HoldRefusal bytes word r
+
+-- the exit status of a program that was explained
+abbrev pub status_of_explained : Explained → ℕ
+status_of_explained explained.Accepted = 0
+status_of_explained (explained.Refused r) = 1
 
 -- An instruction of the program begins at the offset: the program begins with whole instructions of
 -- that size, and bytes are left after them. (Own: it is said of a program that can't be cut, too,
@@ -85,7 +100,7 @@ pub record HoldPlace (bytes word : List ℕ) (offset : Option ℕ) : Type 0 wher
   pub font : FontData
   pub reads : Reads bytes font
   pub program : List ℕ
-  pub named : Names word font program
+  pub named : Names bytes word font program
   pub place : HasPlace program offset
 
 -- where an offset is asked for, an instruction of the font's program of this name begins there
@@ -93,12 +108,13 @@ abbrev pub HasPlaceIn : FontData → Name → Option ℕ → Type 0
 HasPlaceIn d called offset =
     (program : List ℕ) → program_in d called ≡ Some program → HasPlace program offset
 
--- whether the program is accepted: it has its least family, or it is refused
+-- whether the program is accepted: it has its least family, or it is refused so
 abbrev pub IsAnswered : Subject → Explained → Type 0
 IsAnswered x explained.Accepted = HasLeastFamily x
-IsAnswered x explained.Refused = (r : Refused) × IsRefusal x r
+IsAnswered x (explained.Refused r) = IsRefusal x r
 
--- the fault refuses a program
-abbrev pub Refuses : Refusal → Type 0
-Refuses (fault.Refused spot offset failed) = Unit {0}
-Refuses (fault.Exhausted by) = ⊥
+-- the fault refuses the program of this name, of which this is reported
+abbrev pub IsReportOf : Name → Refusal → Refused → Type 0
+IsReportOf called (fault.Refused spot offset failed) r =
+    r ≡ reported_at called spot offset (reason_of failed)
+IsReportOf called (fault.Exhausted by) r = ⊥

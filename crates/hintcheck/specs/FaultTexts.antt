@@ -39,9 +39,13 @@ command_fault_text (fault.Usage text) = None
 command_fault_text fault.MaxpWord = Some (codes "words: MAXP")
 command_fault_text fault.ProgramWord = Some (codes "words: PROGRAM")
 command_fault_text fault.ProgramName =
-    Some (codes "words: PROGRAM: f, p, or g and the number of a glyph")
+    Some (codes "words: PROGRAM: f, p, g and the number of a glyph, or its name")
 command_fault_text (fault.OffsetWord told) = Some (codes "words: OFFSET" ++ neighbours_text told)
 command_fault_text fault.ClassWord = Some (codes "words: CLASS")
+command_fault_text fault.ExpectedWord = Some (codes "words: FILE: a font of the scan")
+command_fault_text fault.FontWord = Some (codes "words: FONT: a line feed in the name")
+command_fault_text (fault.KnownLine number) =
+    Some (codes "44 FILE line " ++ (decimal number ++ codes ": not a number, a program and a font"))
 command_fault_text fault.CertificateWord =
     Some (codes "words: CERT: the font would be written over")
 command_fault_text fault.NewWord = Some (codes "words: NEW")

@@ -1,7 +1,8 @@
--- What a scan prints in the form JSON: an object for each font file, in a line. (RFC 8259. Own: the
--- members and their names.)
+-- What is printed in the form JSON: an object in a line, for a scan one for each font file, and one
+-- for an explanation. (RFC 8259. Own: the members and their names.)
 use Rattle.std.specs.Prelude.{ℕ, codes, flat_map, List, [], ◌∷◌, ◌++◌}
 use Rattle.std.specs.Fmt.{decimal}
+use Rattle.std.specs.Str.Lines.{lines}
 use Rattle.json.specs.Print.{quoted}
 use Rattle.tt_code.specs.Refusals.{class_of, number_of, reason_text}
 use Rattle.tt_font.specs.FaultNumbers.{fault_number}
@@ -9,6 +10,10 @@ use Rattle.tt_font.specs.FaultTexts.{fault_text}
 use Rattle.tt_cert.specs.Names.{text_of}
 use Rattle.hintcheck_words.specs.declared.words.Profile.{Profile}
 use Rattle.hintcheck_words.specs.declared.words.Profile.TheVariants.{Strict, Symbolic}
+use Rattle.hintcheck_explain.specs.declared.asked.Explained.{Explained}
+use Rattle.hintcheck_explain.specs.declared.asked.Explained.TheVariants as explained
+use Rattle.hintcheck.specs.Commands.{status_of}
+use Rattle.hintcheck.specs.Explanations.{status_of_explained}
 use Rattle.hintcheck.specs.FaultTexts.{container_text, unopened_text}
 use Rattle.hintcheck.specs.RefusalClasses.{class_text}
 use Rattle.hintcheck_fonts.specs.Verdicts.{Judgement}
@@ -73,3 +78,36 @@ fault_object other = []
 -- why there is no verdict
 abbrev pub fault_members : CommandFault → List ℕ
 fault_members reported = codes "\"fault\":" ++ fault_object reported
+
+-- the object of a font file with this name and this fault, in a line
+abbrev pub unread_object : List ℕ → Profile → CommandFault → List ℕ
+unread_object name profile reported =
+    beginning name profile (status_of reported) ++ (fault_members reported ++ codes "}\n")
+
+-- a string that comes after another
+unfoldable pub next_string : List ℕ → List ℕ
+next_string text = codes "," ++ quoted text
+
+-- strings, with commas between them
+abbrev pub strings : List (List ℕ) → List ℕ
+strings [] = []
+strings (text ∷ texts) = quoted text ++ flat_map next_string texts
+
+-- which program is explained
+abbrev pub program_member : List ℕ → List ℕ
+program_member word = codes "\"program\":" ++ (quoted word ++ codes ",")
+
+-- how it is refused, if it is
+abbrev pub refusal_member : Explained → List ℕ
+refusal_member explained.Accepted = []
+refusal_member (explained.Refused r) = codes "\"refused\":" ++ (refused_object r ++ codes ",")
+
+-- the lines of the explanation, and the object's end
+abbrev pub lines_member : List (List ℕ) → List ℕ
+lines_member texts = codes "\"lines\":[" ++ (strings texts ++ codes "]}\n")
+
+-- the object of an explanation with this text, in a line: of the program that the word names in the
+-- font file with this name, of which this is answered
+abbrev pub explanation_object : List ℕ → Profile → List ℕ → Explained → List ℕ → List ℕ
+explanation_object name profile word e text = beginning name profile (status_of_explained e)
+    ++ (program_member word ++ (refusal_member e ++ lines_member (lines text)))

@@ -2,6 +2,8 @@ pub mod Texts
 pub mod Listing
 pub mod Explanations
 pub mod Commands
+pub mod CauseAnswers
+pub mod Causes
 pub mod Containers
 pub mod SymbolicAnswers
 pub mod SymbolicExplanations
@@ -14,3 +16,5 @@ pub mod RefusalClasses
 pub mod Representation
 pub mod Scans
 pub mod JsonObjects
+pub mod KnownRefusals
+pub mod ExpectedScans

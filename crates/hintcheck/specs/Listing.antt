@@ -13,6 +13,8 @@ use Rattle.tt_font.specs.Reading.{FontData, Reads}
 use Rattle.tt_cert.specs.Names.{text_of}
 use Rattle.tt_cert.specs.declared.name.Name.{Name}
 use Rattle.tt_cert.specs.declared.name.Name.TheVariants as name
+use Rattle.tt_names.specs.Names.{IsFirstNamed}
+use Rattle.tt_names.specs.Post.{post_of}
 use Rattle.hintcheck_words.specs.declared.words.Detail.{Detail}
 use Rattle.hintcheck_words.specs.declared.words.Detail.TheVariants.{Names as Named, Numbers}
 use Rattle.hintcheck_report.specs.Texts.{refused_text}
@@ -35,10 +37,21 @@ program_in d name.Font = Some d.fpgm
 program_in d name.Cvt = Some d.prep
 program_in d (name.Glyph id) = option_map (λ g. g.program) (slice_get d.glyphs id)
 
--- the word is the name of this program of the font
-pub record Names (word : List ℕ) (d : FontData) (program : List ℕ) : Type 0 where
+-- the word is the name of no program, whichever font has it
+abbrev pub IsNoName : List ℕ → Type 0
+IsNoName word = (called : Name) → IsOf16Bits called → word ≢ text_of called
+
+-- The word calls the program of this name in the font in these bytes: it is that name; or it is the
+-- name of no program, and the program is that of the first glyph that has it as its name.
+pub data Calls (bytes word : List ℕ) (called : Name) : Type 0 where
+  by_name : word ≡ text_of called → Calls bytes word called
+  by_glyph_name : (id : ℕ) → called ≡ name.Glyph id → IsNoName word
+      → IsFirstNamed (post_of bytes) word id → Calls bytes word called
+
+-- the word calls this program of the font in these bytes
+pub record Names (bytes word : List ℕ) (d : FontData) (program : List ℕ) : Type 0 where
   pub name : Name
-  pub text : word ≡ text_of name
+  pub text : Calls bytes word name
   pub there : program_in d name ≡ Some program
 
 -- no cut of the program is structured
@@ -51,7 +64,7 @@ pub record HoldUnlistedProgram (bytes word : List ℕ) : Type 0 where
   pub font : FontData
   pub reads : Reads bytes font
   pub program : List ℕ
-  pub named : Names word font program
+  pub named : Names bytes word font program
   pub unlisted : CannotBeListed program
 
 -- why a program isn't listed, and at which of its offsets: it can't be cut, or its structure is at
@@ -81,7 +94,7 @@ pub record HoldToldProgram (bytes word : List ℕ) (old new : Option (List ℕ))
   pub font : FontData
   pub reads : Reads bytes font
   pub name : Name
-  pub text : word ≡ text_of name
+  pub text : Calls bytes word name
   pub program : List ℕ
   pub there : program_in font name ≡ Some program
   pub told : TellsUnlisted name program old new
@@ -90,7 +103,7 @@ pub record HoldToldProgram (bytes word : List ℕ) (old new : Option (List ℕ))
 pub record HoldNoSuchProgram (bytes word : List ℕ) : Type 0 where
   pub font : FontData
   pub reads : Reads bytes font
-  pub none : (program : List ℕ) → Names word font program → ⊥
+  pub none : (program : List ℕ) → Names bytes word font program → ⊥
 
 -- What is listed. (OpenType specification, "The TrueType Instruction Set": the names.)
 
@@ -150,7 +163,7 @@ pub record HoldListedProgram (detail : Detail) (bytes word : List ℕ)
   pub font : FontData
   pub reads : Reads bytes font
   pub program : List ℕ
-  pub named : Names word font program
+  pub named : Names bytes word font program
   pub listed : IsListed detail program old new
 
 -- The lines of the instructions before an offset were written. (Representation: no public clause

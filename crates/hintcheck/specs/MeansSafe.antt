@@ -1,5 +1,5 @@
 -- What the exit statuses 0 and 1 mean: what was asked for is safe, or refused.
-use Rattle.std.specs.Prelude.{◌≡◌, ◌↔◌, ◌+◌, ◌≤◌, ◌<◌, ℕ, All, List, [], Some, length, true, unwrap_or}
+use Rattle.std.specs.Prelude.{◌≡◌, ◌↔◌, ◌+◌, ◌≤◌, ◌<◌, ℕ, All, Contains, List, [], None, Option, Some, length, true, unwrap_or}
 use Rattle.tt_code.specs.declared.reason.ReasonClass.TheVariants.{PossibleFault}
 use Rattle.tt_font.specs.Reading.{FontData, GlyphData, Reads}
 use Rattle.hintcheck_words.specs.HexWords.{Spells}
@@ -12,16 +12,19 @@ use Rattle.hintcheck_words.specs.Requests.{Request, bare, check, explain, find, 
 use Rattle.hintcheck.specs.CommandFaults.{IsFaultOfFontFile, MeansNoFault, TellsFault}
 use Rattle.hintcheck.specs.Commands.{status_of}
 use Rattle.hintcheck.specs.declared.commands.faults.CommandFault.{CommandFault}
+use Rattle.hintcheck_explain.specs.declared.asked.Explained.{Explained}
 use Rattle.hintcheck_fonts.specs.BarePrograms.{bare_font, bare_subject}
-use Rattle.hintcheck.specs.Explanations.{HoldAcceptedProgram, HoldRefusedProgram}
+use Rattle.hintcheck.specs.Explanations.{HoldAcceptedProgram, HoldExplained, HoldRefusedProgram}
 use Rattle.hintcheck_fonts.specs.FontPrograms.{IsSafeFont, IsSafeGlyph}
+use Rattle.hintcheck.specs.KnownRefusals.{AreLines, IsKnown, counts}
 use Rattle.hintcheck.specs.Listing.{HoldUnlistedProgram}
 use Rattle.hintcheck_fonts.specs.Programs.{HasGoodFamily, IsRefusal}
 use Rattle.hintcheck.specs.RefusalClasses.{number_of_class}
-use Rattle.hintcheck.specs.SymbolicExplanations.{HoldSymbolicAcceptedProgram, HoldSymbolicRefusedProgram}
+use Rattle.hintcheck.specs.SymbolicExplanations.{HoldSymbolicAcceptedProgram, HoldSymbolicExplained, HoldSymbolicRefusedProgram}
 use Rattle.hintcheck.specs.SymbolicAnswers.{SpellGlyph, SpellSymbolicSafeGlyph, SpellSymbolicVerdict}
 use Rattle.hintcheck_fonts.specs.FontAnswers.{HoldRefusedFont, HoldSafeFont, HoldSymbolicRefusedFont, HoldSymbolicSafeFont, IsSymbolicVerdictOn, IsVerdictOn}
 use Rattle.hintcheck_fonts.specs.Verdicts.{Judgement}
+use Rattle.hintcheck_report.specs.declared.refused.Refused.{Refused}
 
 -- The words spell a `maxp` table and a glyph program, which is safe in a font of only this glyph.
 pub record SpellSafeGlyph (maxp : List ℕ) (cvt points contours : ℕ)
@@ -51,6 +54,12 @@ abbrev pub HoldAcceptedBy : Profile → List ℕ → List ℕ → Type 0
 HoldAcceptedBy Strict bytes word = HoldAcceptedProgram bytes word
 HoldAcceptedBy Symbolic bytes word = HoldSymbolicAcceptedProgram bytes word
 
+-- the bytes hold a font, and the word is the name of a program of it, of which this is answered by
+-- this profile
+abbrev pub HoldExplainedBy : Profile → List ℕ → List ℕ → Explained → Type 0
+HoldExplainedBy Strict bytes word e = HoldExplained bytes word e
+HoldExplainedBy Symbolic bytes word e = HoldSymbolicExplained bytes word e
+
 -- the verdict is that of this profile on the font that is in the bytes
 abbrev pub IsVerdictBy : Profile → List ℕ → Judgement → Type 0
 IsVerdictBy Strict bytes judgement = IsVerdictOn bytes judgement
@@ -69,20 +78,47 @@ abbrev pub HoldPassing : FailOn → Profile → List ℕ → Type 0
 HoldPassing Possible profile bytes = HoldNoPossibleFault profile bytes
 HoldPassing other profile bytes = HoldSafeBy profile bytes
 
+-- The verdict of this profile on the font in the bytes, whose file has this name, refuses no other
+-- programs than those that don't count, and known ones, which the lines name. This doesn't tell that
+-- they are safe.
+pub record HoldOnlyKnown (fail_on : FailOn) (profile : Profile) (lines : List (List ℕ))
+    (font bytes : List ℕ) : Type 0 where
+  pub judgement : Judgement
+  pub given : IsVerdictBy profile bytes judgement
+  pub known : All (λ r. counts fail_on r ≡ true → IsKnown lines font r) judgement.refused
+
+-- What status 0 of a scan with a file of known refusals tells of the font files with these names:
+-- some bytes have lines, those that the file holds or held, or that were written to it; and for each
+-- of the names some bytes hold a font of which only known programs are refused, of those that count.
+pub record HoldOnlyKnownFonts (options : ScanOptions) (fonts : List (List ℕ)) : Type 0 where
+  pub held : List ℕ
+  pub lines : List (List ℕ)
+  pub cut : AreLines held lines
+  pub only_known : All (λ font. (bytes : List ℕ)
+      × HoldOnlyKnown options.fail_on options.profile lines font bytes) fonts
+
+-- what status 0 of a scan tells, with a file of known refusals or without one
+abbrev pub IsSafeScan : ScanOptions → List (List ℕ) → Option (List ℕ) → Type 0
+IsSafeScan options fonts None =
+    All (λ font. (bytes : List ℕ) × HoldPassing options.fail_on options.profile bytes) fonts
+IsSafeScan options fonts (Some file) = HoldOnlyKnownFonts options fonts
+
 -- What is asked for is safe, where it names a profile by that one, and otherwise by the strict one:
 -- the glyph program of `bare`, which has no bytes where its word is left out. For `verdict`, `find`
 -- and `check`, some bytes hold a safe font: no contract of the runtime tells which bytes a file
 -- has, so that these can't be named here. For `scan` this holds for each of the names; where it
--- fails for possible faults alone, no more than that the verdict on each has none of them. For
--- `explain`, some bytes hold a font whose program of this name is accepted. A listing and an
--- upgrade tell nothing of safety.
+-- fails for possible faults alone, no more than that the verdict on each has none of them; where it
+-- names a file of known refusals, that the verdict on each refuses no others. For `explain`, some
+-- bytes hold a font whose program of this name is accepted; without a name, a safe font. A listing
+-- and an upgrade tell nothing of safety.
 abbrev pub IsSafeRequest : Request → Type 0
-IsSafeRequest (bare maxp cvt points contours program profile) =
+IsSafeRequest (bare maxp cvt points contours program budget profile) =
     SpellSafeBy profile maxp cvt points contours (unwrap_or program [])
 IsSafeRequest (verdict font budget profile) = (bytes : List ℕ) × HoldSafeBy profile bytes
-IsSafeRequest (scan fonts options) =
-    All (λ font. (bytes : List ℕ) × HoldPassing options.fail_on options.profile bytes) fonts
-IsSafeRequest (explain font program offset budget profile) =
+IsSafeRequest (scan fonts options expected) = IsSafeScan options fonts expected
+IsSafeRequest (explain font None offset budget profile format) =
+    (bytes : List ℕ) × HoldSafeBy profile bytes
+IsSafeRequest (explain font (Some program) offset budget profile format) =
     (bytes : List ℕ) × HoldAcceptedBy profile bytes program
 IsSafeRequest (find font certificate budget) = (bytes : List ℕ) × HoldSafeFont bytes
 IsSafeRequest (check font certificate budget) = (bytes : List ℕ) × HoldSafeFont bytes
@@ -177,7 +213,7 @@ pub record IsCheckOn (bytes : List ℕ) (judgement : Judgement) : Type 0 where
 -- The verdict is the one that is asked for: on the glyph program of `bare`; and for `verdict`,
 -- `find` and `check` on a font that some bytes hold. The others ask for no verdict of this kind.
 abbrev pub IsVerdictAsked : Request → Judgement → Type 0
-IsVerdictAsked (bare maxp cvt points contours program profile) judgement =
+IsVerdictAsked (bare maxp cvt points contours program budget profile) judgement =
     SpellVerdictBy profile maxp cvt points contours (unwrap_or program []) judgement
 IsVerdictAsked (verdict font budget profile) judgement =
     (bytes : List ℕ) × IsVerdictBy profile bytes judgement
@@ -185,23 +221,54 @@ IsVerdictAsked (find font certificate budget) judgement =
     (bytes : List ℕ) × IsVerdictOn bytes judgement
 IsVerdictAsked (check font certificate budget) judgement =
     (bytes : List ℕ) × IsCheckOn bytes judgement
-IsVerdictAsked (scan fonts options) judgement = ⊥
-IsVerdictAsked (explain font program offset budget profile) judgement = ⊥
+IsVerdictAsked (scan fonts options expected) judgement = ⊥
+IsVerdictAsked (explain font program offset budget profile format) judgement = ⊥
 IsVerdictAsked (list font program detail) judgement = ⊥
 IsVerdictAsked (upgrade old new) judgement = ⊥
 
+-- The verdict of this profile on the font in the bytes, whose file has this name, refuses a program
+-- that counts and isn't known: none of the lines names it.
+pub record HoldUnknown (fail_on : FailOn) (profile : Profile) (lines : List (List ℕ))
+    (font bytes : List ℕ) : Type 0 where
+  pub judgement : Judgement
+  pub given : IsVerdictBy profile bytes judgement
+  pub program : Refused
+  pub refused : Contains judgement.refused program
+  pub counted : counts fail_on program ≡ true
+  pub unknown : IsKnown lines font program → ⊥
+
+-- What status 1 of a scan with a file of known refusals tells of the font files with these names:
+-- some bytes have lines, those that the file holds, and for one of the names some bytes hold a font
+-- of which a program is refused that isn't known, of those that count.
+pub record HoldUnknownFont (options : ScanOptions) (fonts : List (List ℕ)) : Type 0 where
+  pub held : List ℕ
+  pub lines : List (List ℕ)
+  pub cut : AreLines held lines
+  pub font : List ℕ
+  pub named : Contains fonts font
+  pub bytes : List ℕ
+  pub unknown : HoldUnknown options.fail_on options.profile lines font bytes
+
+-- what status 1 of a scan tells, with a file of known refusals or without one
+abbrev pub IsRefusedScan : ScanOptions → List (List ℕ) → Option (List ℕ) → Type 0
+IsRefusedScan options fonts None =
+    (bytes : List ℕ) × HoldFailing options.fail_on options.profile bytes
+IsRefusedScan options fonts (Some file) = HoldUnknownFont options fonts
+
 -- What is asked for is refused: the glyph program of `bare`. For `verdict`, `find` and `scan`, some
--- bytes hold a font whose verdict names refused programs, for `scan` some for which it fails; for
+-- bytes hold a font whose verdict names refused programs, for `scan` some for which it fails, and
+-- which aren't known where it names a file of known refusals; for
 -- `check` this tells no more than that some bytes hold a font. For `explain`, some bytes hold a
 -- font whose program of this name is refused, or one before it. For `list`, some bytes hold a font
 -- whose program of this name can't be cut or isn't structured. An upgrade is never refused.
 abbrev pub IsRefusedRequest : Request → Type 0
-IsRefusedRequest (bare maxp cvt points contours program profile) =
+IsRefusedRequest (bare maxp cvt points contours program budget profile) =
     SpellRefusedBy profile maxp cvt points contours (unwrap_or program [])
 IsRefusedRequest (verdict font budget profile) = (bytes : List ℕ) × HoldRefusedBy profile bytes
-IsRefusedRequest (scan fonts options) =
-    (bytes : List ℕ) × HoldFailing options.fail_on options.profile bytes
-IsRefusedRequest (explain font program offset budget profile) =
+IsRefusedRequest (scan fonts options expected) = IsRefusedScan options fonts expected
+IsRefusedRequest (explain font None offset budget profile format) =
+    (bytes : List ℕ) × HoldRefusedBy profile bytes
+IsRefusedRequest (explain font (Some program) offset budget profile format) =
     (bytes : List ℕ) × HoldUnacceptedBy profile bytes program
 IsRefusedRequest (find font certificate budget) = (bytes : List ℕ) × HoldRefusedFont bytes
 IsRefusedRequest (check font certificate budget) = (bytes : List ℕ) × HoldFont bytes
@@ -223,6 +290,16 @@ pub record TellsFonts (options : ScanOptions) (fonts : List (List ℕ)) (status 
       → All (λ font. (bytes : List ℕ) × HoldPassing options.fail_on options.profile bytes) fonts
   pub refused : status ≡ 1
       → (bytes : List ℕ) × HoldFailing options.fail_on options.profile bytes
+  pub fault : 2 ≤ status
+      → (reported : CommandFault) × IsFaultOfFontFile reported × (status_of reported ≡ status)
+
+-- What the exit status of a scan with these options tells, with a file of known refusals or without
+-- one: as `TellsFonts` says, where only refused programs count that aren't known.
+pub record TellsScan (options : ScanOptions) (fonts : List (List ℕ))
+    (expected : Option (List ℕ)) (status : ℕ) : Type 0 where
+  pub few : status ≤ 3
+  pub safe : status ≡ 0 → IsSafeScan options fonts expected
+  pub refused : status ≡ 1 → IsRefusedScan options fonts expected
   pub fault : 2 ≤ status
       → (reported : CommandFault) × IsFaultOfFontFile reported × (status_of reported ≡ status)
 

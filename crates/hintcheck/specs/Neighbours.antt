@@ -58,7 +58,7 @@ pub record HoldNoSuchPlace (bytes word : List ℕ) (offset : Option ℕ)
   pub font : FontData
   pub reads : Reads bytes font
   pub program : List ℕ
-  pub named : Names word font program
+  pub named : Names bytes word font program
   pub lacks : LacksPlace program offset told
 
 -- why an offset can't be asked for in a program

@@ -1,26 +1,33 @@
 -- What is printed for what the words of a command line ask for.
-use Rattle.std.specs.Prelude.{◌≡◌, ◌≢◌, ℕ, List, [], Option, Some}
+use Rattle.std.specs.Prelude.{◌≡◌, ◌≢◌, ℕ, List, [], None, Option, Some}
 use Rattle.std.specs.Io.KnownBytes.{Appends}
 use Rattle.hintcheck_words.specs.Requests.{Request, bare, check, explain, find, list, meaning, scan, upgrade, verdict}
 use Rattle.hintcheck_words.specs.declared.words.Detail.{Detail}
+use Rattle.hintcheck_words.specs.declared.words.Format.{Format}
+use Rattle.hintcheck_words.specs.declared.words.Format.TheVariants.{Json}
 use Rattle.hintcheck_words.specs.declared.words.Profile.{Profile}
 use Rattle.hintcheck_words.specs.declared.words.Profile.TheVariants.{Strict}
+use Rattle.hintcheck.specs.CauseAnswers.{PrintsCauses}
 use Rattle.hintcheck.specs.Commands.{status_of}
-use Rattle.hintcheck.specs.CommandFaults.{IsFaultOfWords}
+use Rattle.hintcheck.specs.ExpectedScans.{PrintsScanning}
+use Rattle.hintcheck.specs.CommandFaults.{IsFaultOfWords, IsUnexplained}
+use Rattle.hintcheck.specs.Explanations.{status_of_explained}
+use Rattle.hintcheck.specs.JsonObjects.{explanation_object, unread_object}
 use Rattle.hintcheck.specs.Listing.{HoldListedProgram, HoldToldProgram}
-use Rattle.hintcheck.specs.MeansSafe.{IsVerdictAsked}
-use Rattle.hintcheck.specs.Scans.{IsOfScan, PrintsScan}
+use Rattle.hintcheck.specs.MeansSafe.{HoldExplainedBy, IsVerdictAsked}
+use Rattle.hintcheck.specs.Scans.{IsOfScan}
 use Rattle.hintcheck.specs.Texts.{upgraded_line, verdict_text}
+use Rattle.hintcheck_explain.specs.declared.asked.Explained.{Explained}
 use Rattle.hintcheck_fonts.specs.Upgrades.{IsNumberOfPrograms}
 use Rattle.hintcheck_fonts.specs.Verdicts.{Judgement}
 use Rattle.hintcheck.specs.declared.commands.faults.CommandFault.{CommandFault}
 
 -- the profile by which what is asked for is checked
 abbrev pub profile_of : Request → Profile
-profile_of (bare maxp cvt points contours program profile) = profile
+profile_of (bare maxp cvt points contours program budget profile) = profile
 profile_of (verdict font budget profile) = profile
-profile_of (scan fonts options) = options.profile
-profile_of (explain font program offset budget profile) = profile
+profile_of (scan fonts options expected) = options.profile
+profile_of (explain font program offset budget profile format) = profile
 profile_of other = Strict
 
 -- The lines of the verdict that is asked for were written, where the written bytes are known: of
@@ -45,14 +52,41 @@ abbrev pub PrintsUpgrade : Option (List ℕ) → Option (List ℕ) → Type 0
 PrintsUpgrade old new =
     (count : ℕ) × IsNumberOfPrograms count × Appends old new (upgraded_line count)
 
--- What was asked for is answered in these lines; those of `explain` are left unspecified.
+-- The object of an explanation was written, where the written bytes are known, which gives this
+-- status: some bytes hold a font, and the word is the name of a program of it, of which the object
+-- tells what is answered by this profile; or it tells why the font file's program isn't explained.
+-- The lines in it are left unspecified.
+pub data PrintsExplanation (font word : List ℕ) (offset budget : Option ℕ) (profile : Profile)
+    : ℕ → Option (List ℕ) → Option (List ℕ) → Type 0 where
+  explained : (bytes text : List ℕ) (e : Explained) (old new : Option (List ℕ))
+      → HoldExplainedBy profile bytes word e
+      → Appends old new (explanation_object font profile word e text)
+      → PrintsExplanation font word offset budget profile (status_of_explained e) old new
+  unexplained : (reported : CommandFault) (old new : Option (List ℕ))
+      → IsUnexplained word offset budget reported
+      → Appends old new (unread_object font profile reported)
+      → PrintsExplanation font word offset budget profile (status_of reported) old new
+
+-- an explanation in this form was written; lines are left unspecified
+abbrev pub PrintsExplanationAs : Format → List ℕ → List ℕ → Option ℕ → Option ℕ → Profile → ℕ
+    → Option (List ℕ) → Option (List ℕ) → Type 0
+PrintsExplanationAs Json font word offset budget profile status old new =
+    PrintsExplanation font word offset budget profile status old new
+PrintsExplanationAs other font word offset budget profile status old new = Unit {0}
+
+-- What was asked for is answered in these lines; those that explain one program are left
+-- unspecified, beside the object in which they may be.
 abbrev pub Prints : Request → ℕ → Option (List ℕ) → Option (List ℕ) → Type 0
-Prints (bare maxp cvt points contours program profile) status old new =
-    PrintsVerdict (bare maxp cvt points contours program profile) status old new
+Prints (bare maxp cvt points contours program budget profile) status old new =
+    PrintsVerdict (bare maxp cvt points contours program budget profile) status old new
 Prints (verdict font budget profile) status old new =
     PrintsVerdict (verdict font budget profile) status old new
-Prints (scan fonts options) status old new = PrintsScan options fonts status old new
-Prints (explain font program offset budget profile) status old new = Unit {0}
+Prints (scan fonts options expected) status old new =
+    PrintsScanning options fonts expected status old new
+Prints (explain font None offset budget profile format) status old new =
+    PrintsCauses profile status old new
+Prints (explain font (Some program) offset budget profile format) status old new =
+    PrintsExplanationAs format font program offset budget profile status old new
 Prints (find font certificate budget) status old new =
     PrintsVerdict (find font certificate budget) status old new
 Prints (check font certificate budget) status old new =
@@ -69,7 +103,8 @@ pub record MeansPrinted (words : List (List ℕ)) (status : ℕ)
   pub printed : Prints request status old new
 
 -- The words get no answer, for a fault that gives this status. Where that is a scan's, the scan's
--- lines were written all the same, and this is the greatest status of its fonts.
+-- lines were written all the same, and this is the greatest status of its fonts; where it is told in
+-- an explanation's object, that was written.
 pub record TellsScanned (words : List (List ℕ)) (status : ℕ)
     (old new : Option (List ℕ)) : Type 0 where
   pub reported : CommandFault

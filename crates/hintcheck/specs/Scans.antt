@@ -9,9 +9,10 @@ use Rattle.tt_cert.specs.declared.name.Name.{Name}
 use Rattle.tt_cert.specs.declared.name.Name.TheVariants as name
 use Rattle.hintcheck_words.specs.declared.words.FailOn.{FailOn}
 use Rattle.hintcheck_words.specs.declared.words.Format.{Format}
-use Rattle.hintcheck_words.specs.declared.words.Format.TheVariants.{Lines, Json}
+use Rattle.hintcheck_words.specs.declared.words.Format.TheVariants.{Lines, Json, Causes}
 use Rattle.hintcheck_words.specs.declared.words.Profile.{Profile}
 use Rattle.hintcheck_words.specs.declared.words.ScanOptions.{ScanOptions}
+use Rattle.hintcheck.specs.Causes.{AreCauses, cause_lines}
 use Rattle.hintcheck.specs.Commands.{status_of}
 use Rattle.hintcheck.specs.CommandFaults.{IsFaultOfFontFile, IsWithin}
 use Rattle.hintcheck.specs.FaultTexts.{command_fault_text}
@@ -83,34 +84,66 @@ answer_text profile (judged judgement) =
 answer_text profile (unread reported) =
     codes "fault: " ++ unwrap_or (command_fault_text reported) []
 
--- A font file that was scanned: its name, and what came of it.
-pub record Scanned : Type 0 where
-  pub name : List ℕ
-  pub answer : Answer
-
--- its line
-abbrev pub line_of : Profile → Scanned → List ℕ
-line_of profile s = s.name ++ (codes ": " ++ (answer_text profile s.answer ++ codes "\n"))
+-- the line of a font file with this name
+abbrev pub line_of : Profile → List ℕ → Answer → List ℕ
+line_of profile name answer = name ++ (codes ": " ++ (answer_text profile answer ++ codes "\n"))
 
 -- an answer as members of an object
 abbrev pub answer_members : Answer → List ℕ
 answer_members (judged judgement) = verdict_members judgement
 answer_members (unread reported) = fault_members reported
 
--- its object, in a line
-abbrev pub object_of : ScanOptions → Scanned → List ℕ
-object_of options s =
-    beginning s.name options.profile (status_of_answer options.fail_on s.answer)
-    ++ (answer_members s.answer ++ codes "}\n")
+-- the object of a font file with this name, in a line
+abbrev pub object_of : ScanOptions → List ℕ → Answer → List ℕ
+object_of options name answer =
+    beginning name options.profile (status_of_answer options.fail_on answer)
+    ++ (answer_members answer ++ codes "}\n")
 
--- the one of two texts that has this form
-abbrev pub in_format : Format → List ℕ → List ℕ → List ℕ
-in_format Lines line object = line
-in_format Json line object = object
+-- the refused programs of an answer
+abbrev pub refused_of : Answer → List Refused
+refused_of (judged judgement) = judgement.refused
+refused_of (unread reported) = []
+
+-- the line of a font file with this name and this verdict was printed, and the lines of the causes
+-- of its refusals
+pub record TellsLineAndCauses (profile : Profile) (name : List ℕ) (judgement : Judgement)
+    (old new : Option (List ℕ)) : Type 0 where
+  pub causes : List Refused
+  pub are : AreCauses judgement.refused causes
+  pub written : Appends old new
+      (line_of profile name (judged judgement) ++ cause_lines judgement.refused causes)
+
+-- A font file that was scanned: its name, what came of it, and the causes that are told of its
+-- refusals.
+pub record Scanned : Type 0 where
+  pub name : List ℕ
+  pub answer : Answer
+  pub causes : List Refused
+
+-- in the form Causes the causes are told, in other forms none
+abbrev pub HasCauses : Format → Answer → List Refused → Type 0
+HasCauses Causes answer causes = AreCauses (refused_of answer) causes
+HasCauses other answer causes = causes ≡ []
+
+-- what is printed of a font file in this form, where this is its line, where these are the lines of
+-- the causes and this is its object
+abbrev pub in_format : Format → List ℕ → List ℕ → List ℕ → List ℕ
+in_format Lines line causes object = line
+in_format Json line causes object = object
+in_format Causes line causes object = line ++ causes
 
 -- what is printed of it
 abbrev pub text_of : ScanOptions → Scanned → List ℕ
-text_of options s = in_format options.format (line_of options.profile s) (object_of options s)
+text_of options s = in_format options.format (line_of options.profile s.name s.answer)
+    (cause_lines (refused_of s.answer) s.causes) (object_of options s.name s.answer)
+
+-- what these options ask for was printed of a font file with this name
+pub record TellsFont (options : ScanOptions) (name : List ℕ) (answer : Answer)
+    (old new : Option (List ℕ)) : Type 0 where
+  pub causes : List Refused
+  pub are : HasCauses options.format answer causes
+  pub written : Appends old new
+      (text_of options (record { name = name; answer = answer; causes = causes }))
 
 -- the greatest exit status of font files, 0 of none
 abbrev pub greatest_status : FailOn → List Scanned → ℕ
@@ -120,16 +153,18 @@ greatest_status fail_on (s ∷ others) =
 
 -- The files with these names were scanned with these options, this is the greatest exit status of
 -- them, and their lines or objects were written in the order of the names, where the written bytes
--- are known.
+-- are known; in the form Causes the lines of its causes follow the line of each.
 pub record PrintsScan (options : ScanOptions) (names : List (List ℕ)) (status : ℕ)
     (old new : Option (List ℕ)) : Type 0 where
   pub scanned : List Scanned
   pub names_are : map (λ s. s.name) scanned ≡ names
   pub answers : All (λ s. IsAnswer options.profile options.budget s.answer) scanned
+  pub causes : All (λ s. HasCauses options.format s.answer s.causes) scanned
   pub greatest : status ≡ greatest_status options.fail_on scanned
   pub written : Appends old new (flat_map (text_of options) scanned)
 
--- the fault is a scan's, which comes after the last line
+-- the fault is told in what is printed: a scan's, which comes after the last line, or that of an
+-- explanation's object
 abbrev pub IsOfScan : CommandFault → Type 0
 IsOfScan fault.ScanFault = Unit {0}
 IsOfScan fault.ScanUnfinished = Unit {0}

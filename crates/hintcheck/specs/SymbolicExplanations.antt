@@ -1,8 +1,10 @@
 -- One program of a font as the symbolic profile's verdict on the font tells of it.
-use Rattle.std.specs.Prelude.{◌≡◌, ◌==◌, ℕ, Bool, true, false, List, Option, None, find, is_some}
+use Rattle.std.specs.Prelude.{◌≡◌, ◌==◌, ℕ, Bool, true, false, List, Option, None, Some, find}
 use Rattle.tt_cert.specs.declared.name.Name.{Name}
 use Rattle.tt_cert.specs.declared.name.Name.TheVariants as name
 use Rattle.tt_font.specs.Reading.{FontData, Reads}
+use Rattle.hintcheck_explain.specs.declared.asked.Explained.{Explained}
+use Rattle.hintcheck_explain.specs.declared.asked.Explained.TheVariants as explained
 use Rattle.hintcheck.specs.Listing.{Names}
 use Rattle.hintcheck_fonts.specs.SymbolicVerdicts.{IsSymbolicVerdict}
 use Rattle.hintcheck_fonts.specs.Verdicts.{Judgement}
@@ -24,31 +26,36 @@ keeps_from (name.Glyph id) (name.Glyph other) = id == other
 abbrev pub first_against : Name → List Refused → Option Refused
 first_against called refused = find (λ r. keeps_from r.program called) refused
 
--- what an exit status tells of the font's program of this name
-pub record TellsSymbolicProgram (d : FontData) (called : Name) (status : ℕ) : Type 0 where
+-- the refused program that is answered
+abbrev pub refused_of : Explained → Option Refused
+refused_of explained.Accepted = None
+refused_of (explained.Refused r) = Some r
+
+-- what is answered of the font's program of this name: a verdict by symbolic states on the font
+-- refuses neither this program nor one before it, or this is the first such one
+pub record TellsSymbolicProgram (d : FontData) (called : Name) (e : Explained) : Type 0 where
   pub judgement : Judgement
   pub given : IsSymbolicVerdict d judgement
-  pub accepted : status ≡ 0 → first_against called judgement.refused ≡ None
-  pub refused : status ≡ 1 → is_some (first_against called judgement.refused) ≡ true
+  pub against : first_against called judgement.refused ≡ refused_of e
 
--- The bytes hold a font, and the word is the name of a program of it; a verdict by symbolic states
--- on the font refuses neither this program nor one before it.
-pub record HoldSymbolicAcceptedProgram (bytes word : List ℕ) : Type 0 where
+-- The bytes hold a font, and the word is the name of a program of it, of which this is answered: a
+-- verdict by symbolic states on the font refuses neither this program nor one before it, or this is
+-- the first such one.
+pub record HoldSymbolicExplained (bytes word : List ℕ) (e : Explained) : Type 0 where
   pub font : FontData
   pub reads : Reads bytes font
   pub program : List ℕ
-  pub named : Names word font program
+  pub named : Names bytes word font program
   pub judgement : Judgement
   pub given : IsSymbolicVerdict font judgement
-  pub accepted : first_against named.name judgement.refused ≡ None
+  pub against : first_against named.name judgement.refused ≡ refused_of e
 
--- The bytes hold a font, and the word is the name of a program of it; a verdict by symbolic states
--- on the font refuses this program, or one before it.
-pub record HoldSymbolicRefusedProgram (bytes word : List ℕ) : Type 0 where
-  pub font : FontData
-  pub reads : Reads bytes font
-  pub program : List ℕ
-  pub named : Names word font program
-  pub judgement : Judgement
-  pub given : IsSymbolicVerdict font judgement
-  pub refused : is_some (first_against named.name judgement.refused) ≡ true
+-- the bytes hold a font, and the word is the name of a program of it; a verdict by symbolic states
+-- on the font refuses neither this program nor one before it
+abbrev pub HoldSymbolicAcceptedProgram : List ℕ → List ℕ → Type 0
+HoldSymbolicAcceptedProgram bytes word = HoldSymbolicExplained bytes word explained.Accepted
+
+-- the same where it refuses this program, or one before it
+abbrev pub HoldSymbolicRefusedProgram : List ℕ → List ℕ → Type 0
+HoldSymbolicRefusedProgram bytes word =
+    (r : Refused) × HoldSymbolicExplained bytes word (explained.Refused r)

@@ -1,8 +1,8 @@
 //! Does what the words of a command line ask for: gives an answer or a fault in lines for the user,
 //! and the exit status.
 
-ghost use Rattle.std.specs.Prelude.{◌≡◌, ◌≢◌, ◌+◌, ◌≤◌, ◌<◌, ◌⊎◌, IfErr, IfOk, List, Err, Ok, OnOk, [], map, true};
-ghost use Rattle.hintcheck_words.specs.Requests.{asked, is_taken};
+ghost use Rattle.std.specs.Prelude.{◌≡◌, ◌≢◌, ◌+◌, ◌≤◌, ◌<◌, ◌⊎◌, IfErr, IfOk, List, Err, Ok, OnOk, [], map, option_map, string_bytes, true};
+ghost use Rattle.hintcheck_words.specs.Requests.{asked, explain, is_taken};
 ghost use Rattle.hintcheck.specs.Commands.{IsForVerdict, IsNoWriteFault, TellsFailure, status_of};
 ghost use Rattle.hintcheck.specs.CommandFaults.{HasNoFault, IsFaultOfRequest, IsFaultOfTask, IsFaultOfWords, MeansNoFault, TellsFault};
 ghost use Rattle.hintcheck.specs.MeansSafe.{IsRefusedRequest, IsSafeRequest, IsVerdictAsked, MeansRefused, MeansSafe};
@@ -10,12 +10,18 @@ ghost use Rattle.hintcheck.specs.Printed.{MeansPrinted, Prints, TellsScanned, pr
 ghost use Rattle.hintcheck.specs.Scans.{IsOfScan};
 
 mod bare_task;
+mod cause_lines;
 mod check_task;
+mod expectation;
+mod explain_font;
+mod explain_lines;
+mod explain_object;
 mod explain_task;
 pub mod faults;
 mod files;
 mod find_task;
 mod json_objects;
+mod known_refusals;
 mod list_task;
 mod scan_summary;
 mod scan_task;
@@ -23,13 +29,14 @@ mod upgrade_task;
 mod verdict_lines;
 mod verdict_task;
 
-use bare_task::{bare_verdict, word_or_empty};
+use bare_task::{BareWords, bare_verdict, word_or_empty};
 use check_task::check_verdict;
+use explain_font::explain_of_font;
 use explain_task::explain_of_file;
 use faults::CommandFault;
 use find_task::find_verdict;
 use hintcheck_fonts::report::Verdict;
-use hintcheck_words::{Profile, Task, TaskFault, read_words};
+use hintcheck_words::{Format, Profile, Task, TaskFault, read_words};
 use list_task::list_of_file;
 use scan_task::scan_fonts;
 use std::alloc::AllocError;
@@ -80,16 +87,18 @@ fn verdict_on<R: Files + AllocGlobal>(rt: &R, task: &Task) -> Result<Verdict, Co
             points,
             contours,
             program,
+            budget,
             profile,
-        } => bare_verdict(
-            rt.alloc(),
-            maxp,
-            *cvt,
-            *points,
-            *contours,
-            word_or_empty(program),
-            *profile,
-        ),
+        } => {
+            let words = BareWords {
+                maxp,
+                cvt: *cvt,
+                points: *points,
+                contours: *contours,
+                program: word_or_empty(program),
+            };
+            bare_verdict(rt.alloc(), words, *budget, *profile)
+        }
         Task::Verdict {
             font,
             budget,
@@ -108,6 +117,41 @@ fn verdict_on<R: Files + AllocGlobal>(rt: &R, task: &Task) -> Result<Verdict, Co
         Task::Scan { .. } | Task::Explain { .. } | Task::List { .. } | Task::Upgrade { .. } => {
             unreachable!()
         }
+    }
+}
+
+/// Explains by a profile the program of the font file with the first name that the second one names,
+/// in this form, or without it why the font's programs are refused, and returns the exit status.
+fn tell_explanation<R: Files + AllocGlobal, O: Sink>(
+    rt: &R,
+    font: &str,
+    program: &Option<String>,
+    offset: Option<u32>,
+    budget: Option<u64>,
+    profile: Profile,
+    format: Format,
+    out: &mut O,
+) -> Result<u8, CommandFault>
+    ensures status { IfOk result (λ status. status ≤ 1) }
+    ensures safe { IfOk result (λ status. status ≡ 0 → IsSafeRequest (explain font.now
+        (option_map (λ s. string_bytes s) program.now) offset budget profile format)) }
+    ensures refused { IfOk result (λ status. status ≡ 1 → IsRefusedRequest (explain font.now
+        (option_map (λ s. string_bytes s) program.now) offset budget profile format)) }
+    ensures printed { IfOk result (λ status. Prints (explain font.now
+        (option_map (λ s. string_bytes s) program.now) offset budget profile format)
+        status (O.contents out.old) (O.contents out.new)) }
+    ensures scanned { IfErr result (λ fault. IsOfScan fault → Prints (explain font.now
+        (option_map (λ s. string_bytes s) program.now) offset budget profile format)
+        (status_of fault) (O.contents out.old) (O.contents out.new)) }
+    ensures failures { TellsFailure result (O.failures out.old) (O.failures out.new) }
+    ensures faults { IfErr result (IsFaultOfTask (explain font.now
+        (option_map (λ s. string_bytes s) program.now) offset budget profile format)) }
+    ensures none { OnOk result (HasNoFault (explain font.now
+        (option_map (λ s. string_bytes s) program.now) offset budget profile format)) }
+{
+    match program {
+        None => explain_of_font(rt, font, budget, profile, out),
+        Some(word) => explain_of_file(rt, font, word, offset, budget, profile, format, out),
     }
 }
 
@@ -132,14 +176,19 @@ fn do_task<R: Files + AllocGlobal, O: Sink, E: Sink>(
     ensures untold { E.failures err.old ≤ E.failures err.new }
 {
     match task {
-        Task::Scan { fonts, options } => scan_fonts(rt, fonts, *options, out, err),
+        Task::Scan {
+            fonts,
+            options,
+            expected,
+        } => scan_fonts(rt, fonts, *options, expected, out, err),
         Task::Explain {
             font,
             program,
             offset,
             budget,
             profile,
-        } => explain_of_file(rt, font, program, *offset, *budget, *profile, out),
+            format,
+        } => tell_explanation(rt, font, program, *offset, *budget, *profile, *format, out),
         Task::List {
             font,
             program,
@@ -160,8 +209,11 @@ fn do_task<R: Files + AllocGlobal, O: Sink, E: Sink>(
 /// take; `MaxpWord` and `ProgramWord` for a word that spells no bytes; `ProgramName` for one that
 /// names no program of the font; `OffsetWord` for an offset at which none of the program's
 /// instructions begins; `ClassWord` where a scan is to fail for reasons of a class that doesn't
-/// exist; `ScanFault` and `ScanUnfinished` where a font of a scan has a fault, which its line
-/// tells; `Budget` where more points were to be made than `--points` allows; `CertificateWord`
+/// exist; `ExpectedWord` and `FontWord` where a font can't be in a scan with its file of known
+/// refusals, and `KnownLine` for the first line of that file that names none; `ScanFault` and
+/// `ScanUnfinished` where a font of a scan has a fault, which its line tells, or one of which a
+/// program was to be explained, which the object tells; `Budget` where more points were to be made
+/// than `--points` allows; `CertificateWord`
 /// where a font's file is to be its certificate's; `NewWord` where an old certificate's file is to
 /// be the new one's; `Font` for the first fault of the font or of `bare`'s `maxp`, which may be
 /// that memory ran out; `Form`, `Read`, `File` and `OutOfMemory`.
@@ -177,13 +229,15 @@ pub fn try_command<R: Files + AllocGlobal, O: Sink, E: Sink>(
         → MeansSafe (map (λ w. w.now) words.entry.now)) }
     ensures refused { IfOk result
         (λ status. status ≡ 1 → MeansRefused (map (λ w. w.now) words.entry.now)) }
-    // What is printed is the answer: a verdict, a line for each font file of a scan, the lines of a
-    // program, or how many sections were upgraded. Those of an explanation are left unspecified.
+    // What is printed is the answer: a verdict, a line for each font file of a scan with those of the
+    // causes of its refusals where they are asked for, the lines of a program, how many sections
+    // were upgraded, or the object of an explanation. Lines that explain one program are left
+    // unspecified; where none is named, the causes come before them.
     ensures printed { IfOk result (λ status. is_taken (map (λ w. w.now) words.entry.now) ≡ true
         → MeansPrinted (map (λ w. w.now) words.entry.now) status
         (O.contents out.old) (O.contents out.new)) }
     // Where a font file of a scan has a fault, the lines of all its files are printed before the
-    // fault is returned.
+    // fault is returned; and the object that tells a fault in place of an explanation.
     ensures scanned { IfErr result (λ fault. IsOfScan fault
         → MeansPrinted (map (λ w. w.now) words.entry.now) (status_of fault)
         (O.contents out.old) (O.contents out.new)) }
@@ -221,7 +275,8 @@ pub fn command<R: Files + AllocGlobal, O: Sink, E: Sink>(
 ) -> u8
     ensures statuses { result ≤ 3 }
     // Where the command line takes the words and the status is 0, what they ask for is safe; where
-    // a scan is to fail for possible faults alone, no verdict of its fonts names one.
+    // a scan is to fail for possible faults alone, no verdict of its fonts names one; where it names
+    // a file of known refusals, its fonts have no others.
     ensures safe { result ≡ 0 → is_taken (map (λ w. w.now) words.entry.now) ≡ true
         → MeansSafe (map (λ w. w.now) words.entry.now) }
     // Where the status is 1, the words ask for something, which is refused.
@@ -233,7 +288,8 @@ pub fn command<R: Files + AllocGlobal, O: Sink, E: Sink>(
     // Where the status is 2 or 3, a fault of the words gives it; otherwise they have none where the
     // command line takes them.
     ensures told { 2 ≤ result → TellsFault (map (λ w. w.now) words.entry.now) result }
-    // If that is the fault of a font file of a scan, the lines of all its files are printed.
+    // If that is the fault of a font file of a scan, the lines of all its files are printed; and
+    // likewise the object that tells a fault in place of an explanation.
     ensures scanned { 2 ≤ result → TellsScanned (map (λ w. w.now) words.entry.now) result
         (O.contents out.old) (O.contents out.new) }
     ensures none { result ≤ 1 → is_taken (map (λ w. w.now) words.entry.now) ≡ true

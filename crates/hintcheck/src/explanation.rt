@@ -7,7 +7,7 @@ ghost use Rattle.tt_abs.specs.StateFlow.{FunctionsFit};
 ghost use Rattle.hintcheck_explain.specs.Faults.{AsksForInstruction};
 ghost use Rattle.hintcheck.specs.Commands.{TellsFailure};
 ghost use Rattle.hintcheck.specs.CommandFaults.{IsEndOfWork, IsFaultOfExplaining, IsFaultOfExplanation, IsFaultOfLines, IsWithin};
-ghost use Rattle.hintcheck.specs.Explanations.{HasPlace, HasPlaceIn, HoldAcceptedProgram, HoldPlace, HoldRefusedProgram, IsAnswered, IsRefusedIn, Refuses, TellsProgram};
+ghost use Rattle.hintcheck.specs.Explanations.{HasPlace, HasPlaceIn, HoldAcceptedProgram, HoldExplained, HoldPlace, HoldRefusedProgram, IsAnswered, IsRefusedIn, IsReportOf, TellsProgram, status_of_explained};
 ghost use Rattle.hintcheck_fonts.specs.FontPrograms.{IsFontInRange};
 ghost use Rattle.hintcheck.specs.Listing.{program_in};
 ghost use Rattle.hintcheck_fonts.specs.ProgramVerdicts.{IsSubjectOf};
@@ -44,7 +44,8 @@ fn explain_in<O: Sink>(
     requires ascends { Ascends setting.now.start.now }
     requires fits { FunctionsFit (setting_of setting.now) setting.now.start.now }
     requires place { AsksForInstruction setting.now asked }
-    ensures answered { (x : Subject) → IsSubjectOf x setting.now → IfOk result (IsAnswered x) }
+    ensures answered { (x : Subject) → IsSubjectOf x setting.now → x.name ≡ asked.program
+        → IfOk result (IsAnswered x) }
     ensures failures { TellsFailure result (O.failures out.old) (O.failures out.new) }
     ensures faults { IfErr result IsFaultOfExplanation }
 {
@@ -53,21 +54,27 @@ fn explain_in<O: Sink>(
     Ok(explained)
 }
 
-/// Explains why these bytes can't be cut or aren't structured, as the fault tells.
+/// Explains why these bytes can't be cut or aren't structured, as the fault tells, and returns what
+/// is reported of it.
 pub(crate) fn explain_uncut<O: Sink>(
     asked: Asked,
     bytes: &[u8],
     fault: Refusal,
     out: &mut O,
-) -> Result<(), CommandFault>
-    ensures refused { OnOk result (Refuses fault) }
+) -> Result<Refused, CommandFault>
+    ensures refused { IfOk result (IsReportOf asked.program fault) }
     ensures failures { TellsFailure result (O.failures out.old) (O.failures out.new) }
     ensures faults { IfErr result IsFaultOfLines }
 {
     match fault {
-        Refusal::Refused { offset, failed, .. } => {
-            explain_unread(asked, bytes, offset, failed.reason(), out)?;
-            Ok(())
+        Refusal::Refused {
+            spot,
+            offset,
+            failed,
+        } => {
+            let reason = failed.reason();
+            explain_unread(asked, bytes, offset, reason, out)?;
+            Ok(Refused::at(asked.program, spot, offset, reason))
         }
         Refusal::Exhausted(_) => Err(CommandFault::OutOfMemory),
     }
@@ -104,20 +111,20 @@ fn tell_next<O: Sink>(
             explain_in(alloc, &started, asked, budget, out)
         }
         Err(fault) => {
-            explain_uncut(asked, next.bytes, fault, out)?;
-            Ok(Explained::Refused)
+            let refused = explain_uncut(asked, next.bytes, fault, out)?;
+            Ok(Explained::Refused(refused))
         }
     }
 }
 
 /// Returns the exit status of a program that was explained.
 pub(crate) fn exit_status(explained: Explained) -> u8
-    ensures accepted { explained ≡ Explained.Accepted → result ≡ 0 }
-    ensures refused { explained ≡ Explained.Refused → result ≡ 1 }
+    ensures status { result ≡ status_of_explained explained }
+    ensures few { result ≤ 1 }
 {
     match explained {
         Explained::Accepted => 0,
-        Explained::Refused => 1,
+        Explained::Refused(_) => 1,
     }
 }
 
@@ -130,16 +137,18 @@ fn called(program: Name) -> &'static str {
     }
 }
 
-/// Prints that a program isn't checked, since this one before it is refused, and returns the exit
-/// status.
-pub(crate) fn tell_unchecked<O: Sink>(refused: Refused, out: &mut O) -> Result<u8, CommandFault>
-    ensures status { IfOk result (λ status. status ≡ 1) }
+/// Prints that a program isn't checked, since this one before it is refused.
+pub(crate) fn tell_unchecked<O: Sink>(
+    refused: Refused,
+    out: &mut O,
+) -> Result<Explained, CommandFault>
+    ensures refused { IfOk result (λ explained. explained ≡ Explained.Refused refused) }
     ensures failures { TellsFailure result (O.failures out.old) (O.failures out.new) }
     ensures faults { IfErr result IsFaultOfLines }
 {
     let program = called(refused.program);
     writeln!(out, "not checked: the {program} is refused\n{refused}")?;
-    Ok(exit_status(Explained::Refused))
+    Ok(Explained::Refused(refused))
 }
 
 /// Returns how an outcome refuses its program, if there is one and it does.
@@ -170,7 +179,7 @@ fn refused_before<'a>(
     requires there { is_some (program_in programs.old.font.now called) ≡ true }
     ensures font { programs.new.font ≡ programs.old.font }
     ensures refused { IfOk result
-        (λ refused. IfSome refused (λ _. IsRefusedIn programs.new.font.now called)) }
+        (λ refused. IfSome refused (IsRefusedIn programs.new.font.now called)) }
     ensures there { IfOk result (λ refused. refused ≡ None
         → IsAt programs.new.font.now called (stage_of programs.new)) }
     ensures faults { IfErr result IsEndOfWork }
@@ -185,7 +194,7 @@ fn refused_before<'a>(
     Ok(None)
 }
 
-/// Judges the programs up to the one of this name, explains it, and returns the exit status.
+/// Judges the programs up to the one of this name, explains it, and returns whether it is accepted.
 fn explain_judged<'a, O: Sink>(
     alloc: Global,
     programs: &mut FontPrograms<'a>,
@@ -194,12 +203,11 @@ fn explain_judged<'a, O: Sink>(
     offset: Option<u32>,
     budget: &mut Budget,
     out: &mut O,
-) -> Result<u8, CommandFault>
+) -> Result<Explained, CommandFault>
     requires range { IsFontInRange programs.old.font.now }
     requires start { stage_of programs.old ≡ at_start }
     requires there { is_some (program_in programs.old.font.now called) ≡ true }
     requires place { HasPlaceIn programs.old.font.now called offset }
-    ensures status { IfOk result (λ status. status ≤ 1) }
     ensures tells { IfOk result (TellsProgram programs.old.font.now called) }
     ensures failures { TellsFailure result (O.failures out.old) (O.failures out.new) }
     ensures faults { IfErr result IsFaultOfExplanation }
@@ -208,11 +216,10 @@ fn explain_judged<'a, O: Sink>(
         return tell_unchecked(refused, out);
     }
     let next = programs.next().unwrap();
-    let explained = tell_next(alloc, programs, next, offset, budget, out)?;
-    Ok(exit_status(explained))
+    tell_next(alloc, programs, next, offset, budget, out)
 }
 
-/// Explains the font's program of this name, and returns the exit status.
+/// Explains the font's program of this name, and returns whether it is accepted.
 fn explain_named<O: Sink>(
     alloc: Global,
     font: &Font<'_>,
@@ -220,11 +227,10 @@ fn explain_named<O: Sink>(
     offset: Option<u32>,
     budget: &mut Budget,
     out: &mut O,
-) -> Result<u8, CommandFault>
+) -> Result<Explained, CommandFault>
     requires range { IsFontInRange font.now }
     requires there { is_some (program_in font.now called) ≡ true }
     requires place { HasPlaceIn font.now called offset }
-    ensures status { IfOk result (λ status. status ≤ 1) }
     ensures tells { IfOk result (TellsProgram font.now called) }
     ensures failures { TellsFailure result (O.failures out.old) (O.failures out.new) }
     ensures faults { IfErr result IsFaultOfExplanation }
@@ -244,30 +250,56 @@ fn explain_named<O: Sink>(
 
 /// Explains one program of the font in these bytes, the one that the word names, as
 /// `explain_program` does, within a budget.
-fn explain_word<O: Sink>(
+pub(crate) fn explain_word<O: Sink>(
     alloc: Global,
     font: &[u8],
     word: &str,
     offset: Option<u32>,
     budget: &mut Budget,
     out: &mut O,
-) -> Result<u8, CommandFault>
-    ensures status { IfOk result (λ status. status ≤ 1) }
-    ensures accepted { IfOk result
-        (λ status. status ≡ 0 → HoldAcceptedProgram font.now word.now) }
-    ensures refused { IfOk result (λ status. status ≡ 1 → HoldRefusedProgram font.now word.now) }
+) -> Result<Explained, CommandFault>
+    ensures answered { IfOk result (HoldExplained font.now word.now) }
     ensures failures { TellsFailure result (O.failures out.old) (O.failures out.new) }
     ensures faults { IfErr result (IsFaultOfExplaining font.now word.now offset) }
     ensures none { OnOk result (HoldPlace font.now word.now offset) }
 {
     let read = font_in(alloc, font)?;
-    match named_program(&read, word) {
+    match named_program(alloc, font, &read, word)? {
         Some(named) => {
             check_offset(named.bytes, offset)?;
             explain_named(alloc, &read, named.name, offset, budget, out)
         }
         None => Err(CommandFault::ProgramName),
     }
+}
+
+/// Explains one program of the font in these bytes, the one that the word names, as
+/// `explain_program` does, and returns whether it is accepted.
+///
+/// # Errors
+/// As `explain_program`.
+pub(crate) fn explained_program<O: Sink>(
+    alloc: Global,
+    font: &[u8],
+    word: &str,
+    offset: Option<u32>,
+    budget: Option<u64>,
+    out: &mut O,
+) -> Result<Explained, CommandFault>
+    ensures answered { IfOk result (HoldExplained font.now word.now) }
+    ensures failures { TellsFailure result (O.failures out.old) (O.failures out.new) }
+    ensures faults { IfErr result
+        (λ fault. IsFaultOfExplaining font.now word.now offset fault × IsWithin budget fault) }
+    ensures none { OnOk result (HoldPlace font.now word.now offset) }
+{
+    let Some(most) = budget else {
+        return match explain_word(alloc, font, word, offset, &mut Budget::unlimited(), out) {
+            // No program has so many points.
+            Err(CommandFault::Budget) => Err(CommandFault::OutOfMemory),
+            explained => explained,
+        };
+    };
+    explain_word(alloc, font, word, offset, &mut Budget::of(most), out)
 }
 
 /// Explains one program of the font in these bytes, the one that the word names, and returns the
@@ -298,12 +330,6 @@ pub fn explain_program<O: Sink>(
         (λ fault. IsFaultOfExplaining font.now word.now offset fault × IsWithin budget fault) }
     ensures none { OnOk result (HoldPlace font.now word.now offset) }
 {
-    let Some(most) = budget else {
-        return match explain_word(alloc, font, word, offset, &mut Budget::unlimited(), out) {
-            // No program has so many points.
-            Err(CommandFault::Budget) => Err(CommandFault::OutOfMemory),
-            explained => explained,
-        };
-    };
-    explain_word(alloc, font, word, offset, &mut Budget::of(most), out)
+    let explained = explained_program(alloc, font, word, offset, budget, out)?;
+    Ok(exit_status(explained))
 }

@@ -4,15 +4,16 @@
 ghost use Rattle.std.specs.Prelude.{◌≡◌, IfErr, IfOk, None, OnOk};
 ghost use Rattle.tt_font.specs.FileFaults.{font_fault};
 ghost use Rattle.tt_font.specs.Reading.{Reads};
-ghost use Rattle.hintcheck.specs.CommandFaults.{IsFaultOfFont};
+ghost use Rattle.hintcheck.specs.CommandFaults.{IsFaultInBudget, IsFaultOfFont};
 ghost use Rattle.hintcheck_fonts.specs.FontAnswers.{IsSymbolicVerdictOn, IsVerdictOn};
 ghost use Rattle.hintcheck_fonts.specs.FontPrograms.{IsFontInRange};
 
-use crate::commands::faults::Numbered;
-use hintcheck_fonts::font::{self, read_font};
+use crate::commands::faults::{CommandFault, Numbered};
+use hintcheck_fonts::font::{self, VerdictFault, read_font, verdict_within};
 use hintcheck_fonts::report::Verdict;
 use hintcheck_fonts::symbolic_verdict::{verdict_symbolic, verdict_symbolic_within};
 use std::alloc::Global;
+use tt_family::Budget;
 use tt_font::Font;
 
 /// Reads a font, as `read_font` does.
@@ -42,6 +43,25 @@ pub(crate) fn verdict_in(alloc: Global, bytes: &[u8]) -> Result<Verdict, Numbere
     match font::verdict(alloc, bytes) {
         Ok(verdict) => Ok(verdict),
         Err(fault) => Err(Numbered::of(fault, bytes)),
+    }
+}
+
+/// Returns the verdict on a font, and makes at most as many points as the budget allows.
+///
+/// # Errors
+/// The faults of `Font::read`; `OutOfMemory`; `Budget`.
+pub(crate) fn verdict_in_budget(
+    alloc: Global,
+    bytes: &[u8],
+    budget: &mut Budget,
+) -> Result<Verdict, CommandFault>
+    ensures exact { IfOk result (IsVerdictOn bytes.now) }
+    ensures faults { IfErr result (IsFaultInBudget bytes.now) }
+{
+    match verdict_within(alloc, bytes, budget) {
+        Ok(verdict) => Ok(verdict),
+        Err(VerdictFault::Font(fault)) => Err(CommandFault::Font(Numbered::of(fault, bytes))),
+        Err(VerdictFault::Budget) => Err(CommandFault::Budget),
     }
 }
 

@@ -8,7 +8,7 @@ ghost use Rattle.tt_code.specs.Cut.{IsInstruction};
 ghost use Rattle.tt_stream.specs.Streams.{CountsPrintFailure};
 ghost use Rattle.hintcheck.specs.CommandFaults.{IsFaultOfLines, IsFaultOfListing};
 ghost use Rattle.hintcheck.specs.Commands.{TellsFailure};
-ghost use Rattle.hintcheck.specs.Listing.{CannotBeListed, HoldListedProgram, HoldNoSuchProgram, HoldToldProgram, HoldUnlistedProgram, IsListed, IsOf16Bits, IsPlain, Names, TellsUnlisted, last_line, line_of, lines_of, program_in, refused_in, shown_name};
+ghost use Rattle.hintcheck.specs.Listing.{Calls, CannotBeListed, HoldListedProgram, HoldNoSuchProgram, HoldToldProgram, HoldUnlistedProgram, IsListed, IsOf16Bits, IsPlain, Names, TellsUnlisted, last_line, line_of, lines_of, program_in, refused_in, shown_name};
 ghost use Rattle.tt_cert.specs.Names.{text_of};
 
 use crate::commands::faults::CommandFault;
@@ -22,6 +22,7 @@ use std::fmt;
 use tt_abs::Refusal;
 use tt_code::{Instr, Program, Reason, name};
 use tt_font::Font;
+use tt_names::GlyphNames;
 use tt_stream::{PrintFailed, Sink};
 
 /// The exit status where the program is listed.
@@ -43,8 +44,9 @@ fn is_plain(text: &[u8]) -> bool
 
 /// Returns the number of 16 bits that the text spells in decimal digits, with no sign and no
 /// needless zero in front, if it spells one.
-fn read_number(text: &str) -> Option<u16>
+pub(crate) fn read_number(text: &str) -> Option<u16>
     ensures read { IfSome result (λ number. text.now ≡ decimal number) }
+    ensures range { IfSome result (λ number. number < 2 ^ 16) }
     ensures each { (number : ℕ) → number < 2 ^ 16 → text.now ≡ decimal number
         → result ≡ Some number }
 {
@@ -55,8 +57,9 @@ fn read_number(text: &str) -> Option<u16>
 }
 
 /// Returns the program's name that the word spells, as names are printed, if it spells one.
-fn read_name(word: &str) -> Option<Name>
+pub(crate) fn read_name(word: &str) -> Option<Name>
     ensures read { IfSome result (λ name. word.now ≡ text_of name) }
+    ensures range { IfSome result IsOf16Bits }
     ensures each { (name : Name) → IsOf16Bits name → word.now ≡ text_of name → result ≡ Some name }
 {
     match word {
@@ -84,18 +87,52 @@ pub(crate) struct Named<'a> {
     pub(crate) bytes: &'a [u8],
 }
 
-/// Returns the font's program whose name the word is, if there is one.
-pub(crate) fn named_program<'a>(font: &Font<'a>, word: &str) -> Option<Named<'a>>
-    requires { length font.now.glyphs < 2 ^ 16 }
-    ensures there { IfSome result (λ named. Names word.now font.now named.bytes.now) }
-    ensures text { IfSome result (λ named. word.now ≡ text_of named.name) }
-    ensures program { IfSome result
-        (λ named. program_in font.now named.name ≡ Some named.bytes.now) }
-    ensures none { IfNone result ((program : List ℕ) → Names word.now font.now program → ⊥) }
+/// Returns the name of the program that the word means in the font in these bytes, if it means one:
+/// the one whose name it is, or else the first glyph's that has this name.
+fn meant_program(alloc: Global, bytes: &[u8], word: &str) -> Result<Option<Name>, AllocError>
+    ensures called { IfOk result (λ meant. IfSome meant (Calls bytes.now word.now)) }
+    ensures each { IfOk result (λ meant. (called : Name) → IsOf16Bits called
+        → Calls bytes.now word.now called → meant ≡ Some called) }
 {
-    let name = read_name(word)?;
-    let bytes = program_of(font, name)?;
-    Some(Named { name, bytes })
+    if let Some(name) = read_name(word) {
+        return Ok(Some(name));
+    }
+    let names = GlyphNames::of(alloc, bytes)?;
+    Ok(names.glyph_named(word).map(Name::Glyph))
+}
+
+/// Returns the program that the word calls, of the font that was read from these bytes, if there is
+/// one.
+///
+/// # Errors
+/// `OutOfMemory`.
+pub(crate) fn named_program<'a>(
+    alloc: Global,
+    bytes: &[u8],
+    font: &Font<'a>,
+    word: &str,
+) -> Result<Option<Named<'a>>, CommandFault>
+    requires { length font.now.glyphs < 2 ^ 16 }
+    ensures there { IfOk result (λ found. IfSome found
+        (λ named. Names bytes.now word.now font.now named.bytes.now)) }
+    ensures text { IfOk result (λ found. IfSome found
+        (λ named. Calls bytes.now word.now named.name)) }
+    ensures program { IfOk result (λ found. IfSome found
+        (λ named. program_in font.now named.name ≡ Some named.bytes.now)) }
+    ensures none { IfOk result (λ found. IfNone found
+        ((program : List ℕ) → Names bytes.now word.now font.now program → ⊥)) }
+    ensures faults { IfErr result (λ fault. fault ≡ CommandFault.OutOfMemory) }
+{
+    let Ok(meant) = meant_program(alloc, bytes, word) else {
+        return Err(CommandFault::OutOfMemory);
+    };
+    let Some(name) = meant else {
+        return Ok(None);
+    };
+    let Some(bytes) = program_of(font, name) else {
+        return Ok(None);
+    };
+    Ok(Some(Named { name, bytes }))
 }
 
 /// Bytes, two hexadecimal digits for each.
@@ -243,9 +280,9 @@ pub fn list_program<O: Sink>(
     ensures failures { TellsFailure result (O.failures out.old) (O.failures out.new) }
     ensures faults { IfErr result (IsFaultOfListing font.now word.now) }
 {
-    let font = font_in(alloc, font)?;
-    font.range_facts();
-    match named_program(&font, word) {
+    let read = font_in(alloc, font)?;
+    read.range_facts();
+    match named_program(alloc, font, &read, word)? {
         Some(named) => list_named(alloc, named, detail, out),
         None => Err(CommandFault::ProgramName),
     }

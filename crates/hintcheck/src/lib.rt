@@ -3,6 +3,7 @@
 #![tactic(auto)]
 
 mod asked_offset;
+mod causes;
 mod commands;
 mod explanation;
 mod font_file;
@@ -16,8 +17,9 @@ pub use commands::{command, try_command, verdict_of};
 pub use explanation::explain_program;
 pub use hintcheck_fonts::{
     CheckFontFault, FindFontFault, Name, Outcome, Place, Refused, Session, UpgradeFault, Verdict,
-    VerdictFault, bare, bare_symbolic, check_font, check_font_within, find_font, find_font_within,
-    read_font, upgrade, verdict, verdict_symbolic, verdict_symbolic_within, verdict_within,
+    VerdictFault, bare, bare_symbolic, bare_symbolic_within, bare_within, check_font,
+    check_font_within, find_font, find_font_within, read_font, upgrade, verdict, verdict_symbolic,
+    verdict_symbolic_within, verdict_within,
 };
 pub use hintcheck_words::{
     Detail, FailOn, Format, Profile, ScanOptions, Task, TaskFault, WordFault, read_words,

@@ -5,7 +5,7 @@ ghost use Rattle.hintcheck.specs.Commands.{TellsFailure};
 ghost use Rattle.hintcheck.specs.CommandFaults.{IsFaultOfExplaining, IsFaultOfExplanation, IsWithin};
 ghost use Rattle.hintcheck.specs.Explanations.{HoldPlace};
 ghost use Rattle.hintcheck_fonts.specs.FontPrograms.{IsFontInRange};
-ghost use Rattle.hintcheck.specs.SymbolicExplanations.{HoldSymbolicAcceptedProgram, HoldSymbolicRefusedProgram, TellsSymbolicProgram, first_against, keeps_from as keeps_from_it};
+ghost use Rattle.hintcheck.specs.SymbolicExplanations.{HoldSymbolicAcceptedProgram, HoldSymbolicExplained, HoldSymbolicRefusedProgram, TellsSymbolicProgram, first_against, keeps_from as keeps_from_it};
 
 use crate::asked_offset::check_offset;
 use crate::commands::faults::CommandFault;
@@ -125,7 +125,10 @@ fn tell_program<O: Sink>(
 {
     let main = match cut(alloc, named.bytes) {
         Ok(main) => main,
-        Err(fault) => return explain_uncut(asked, named.bytes, fault, out),
+        Err(fault) => {
+            explain_uncut(asked, named.bytes, fault, out)?;
+            return Ok(());
+        }
     };
     let fpgm = cut_before(alloc, font.fpgm())?;
     let prep = cut_before(alloc, font.prep())?;
@@ -141,7 +144,7 @@ fn tell_program<O: Sink>(
     explain_in(alloc, &setting, asked, refused, insight, out)
 }
 
-/// Explains the font's program of this name, and returns the exit status.
+/// Explains the font's program of this name, and returns whether it is accepted.
 fn explain_named<O: Sink>(
     alloc: Global,
     font: &Font<'_>,
@@ -149,10 +152,9 @@ fn explain_named<O: Sink>(
     offset: Option<u32>,
     steps: u64,
     out: &mut O,
-) -> Result<u8, CommandFault>
+) -> Result<Explained, CommandFault>
     requires range { IsFontInRange font.now }
     requires few { length named.bytes.now < 2 ^ 31 }
-    ensures status { IfOk result (λ status. status ≤ 1) }
     ensures tells { IfOk result (TellsSymbolicProgram font.now named.entry.name) }
     ensures failures { TellsFailure result (O.failures out.old) (O.failures out.new) }
     ensures faults { IfErr result IsFaultOfExplanation }
@@ -169,13 +171,13 @@ fn explain_named<O: Sink>(
     let insight = judge.take_insight();
     let Some(one) = refused_against(&refused, named.name) else {
         tell_program(alloc, font, named, asked, None, insight.as_ref(), out)?;
-        return Ok(exit_status(Explained::Accepted));
+        return Ok(Explained::Accepted);
     };
     if one.program != named.name {
         return tell_unchecked(one, out);
     }
     tell_program(alloc, font, named, asked, Some(one), insight.as_ref(), out)?;
-    Ok(exit_status(Explained::Refused))
+    Ok(Explained::Refused(one))
 }
 
 /// Explains one program of the font in these bytes, the one that the word names, as
@@ -187,23 +189,45 @@ fn explain_word<O: Sink>(
     offset: Option<u32>,
     steps: u64,
     out: &mut O,
-) -> Result<u8, CommandFault>
-    ensures status { IfOk result (λ status. status ≤ 1) }
-    ensures accepted { IfOk result
-        (λ status. status ≡ 0 → HoldSymbolicAcceptedProgram font.now word.now) }
-    ensures refused { IfOk result
-        (λ status. status ≡ 1 → HoldSymbolicRefusedProgram font.now word.now) }
+) -> Result<Explained, CommandFault>
+    ensures answered { IfOk result (HoldSymbolicExplained font.now word.now) }
     ensures failures { TellsFailure result (O.failures out.old) (O.failures out.new) }
     ensures faults { IfErr result (IsFaultOfExplaining font.now word.now offset) }
     ensures none { OnOk result (HoldPlace font.now word.now offset) }
 {
     let read = font_in(alloc, font)?;
-    match named_program(&read, word) {
+    match named_program(alloc, font, &read, word)? {
         Some(named) => {
             check_offset(named.bytes, offset)?;
             explain_named(alloc, &read, named, offset, steps, out)
         }
         None => Err(CommandFault::ProgramName),
+    }
+}
+
+/// Explains one program of the font in these bytes, the one that the word names, as
+/// `explain_program_symbolic` does, and returns whether it is accepted.
+///
+/// # Errors
+/// As `explain_program`, but never `Budget`.
+pub(crate) fn explained_program_symbolic<O: Sink>(
+    alloc: Global,
+    font: &[u8],
+    word: &str,
+    offset: Option<u32>,
+    steps: Option<u64>,
+    out: &mut O,
+) -> Result<Explained, CommandFault>
+    ensures answered { IfOk result (HoldSymbolicExplained font.now word.now) }
+    ensures failures { TellsFailure result (O.failures out.old) (O.failures out.new) }
+    ensures faults { IfErr result
+        (λ fault. IsFaultOfExplaining font.now word.now offset fault × IsWithin None fault) }
+    ensures none { OnOk result (HoldPlace font.now word.now offset) }
+{
+    match explain_word(alloc, font, word, offset, steps.unwrap_or(USUAL_STEPS), out) {
+        // A search by steps makes no points.
+        Err(CommandFault::Budget) => Err(CommandFault::OutOfMemory),
+        explained => explained,
     }
 }
 
@@ -234,9 +258,6 @@ pub fn explain_program_symbolic<O: Sink>(
         (λ fault. IsFaultOfExplaining font.now word.now offset fault × IsWithin None fault) }
     ensures none { OnOk result (HoldPlace font.now word.now offset) }
 {
-    match explain_word(alloc, font, word, offset, steps.unwrap_or(USUAL_STEPS), out) {
-        // A search by steps makes no points.
-        Err(CommandFault::Budget) => Err(CommandFault::OutOfMemory),
-        explained => explained,
-    }
+    let explained = explained_program_symbolic(alloc, font, word, offset, steps, out)?;
+    Ok(exit_status(explained))
 }

@@ -3,13 +3,19 @@
 use Rattle.std.specs.Prelude.{◌≡◌, ◌≢◌, ℕ, IfSome, None, Result, Ok, Err}
 use Rattle.tt_abs.specs.declared.setting.Setting.{Setting as Subject}
 use Rattle.tt_code.specs.Cut.{instruction_at}
+use Rattle.tt_abs.specs.Failures.{reason_of}
 use Rattle.tt_abs.specs.declared.failed.Failed.{Failed}
 use Rattle.tt_abs.specs.declared.spot.Spot.{Spot}
 use Rattle.tt_abs.specs.declared.refusal.Refusal.TheVariants as program
 use Rattle.tt_find.specs.FoundSubjects.{IsJustifiedFor, IsLeastFor, TellsNoneIsGood}
 use Rattle.tt_find.specs.declared.finder.Found.{Found}
+use Rattle.tt_cert.specs.declared.name.Name.{Name}
 use Rattle.tt_stream.specs.Streams.{CountsPrintFailure}
+use Rattle.hintcheck_report.specs.Places.{reported_at}
+use Rattle.hintcheck_report.specs.declared.refused.Refused.{Refused}
 use Rattle.hintcheck_explain.specs.declared.asked.Asked.{Asked}
+use Rattle.hintcheck_explain.specs.declared.asked.Explained.{Explained}
+use Rattle.hintcheck_explain.specs.declared.asked.Explained.TheVariants as explained
 use Rattle.hintcheck_explain.specs.declared.asked.ExplainFault.{ExplainFault}
 use Rattle.hintcheck_explain.specs.declared.asked.ExplainFault.TheVariants as fault
 
@@ -23,15 +29,21 @@ TellsFailure (Err other) old new = new ≡ old
 abbrev pub HasLeast : Subject → Type 0
 HasLeast x = (found : Found) × IsLeastFor x found
 
--- a place, by spot and offset, at which it is right to refuse the program, and the test that fails,
--- which gives the reason: no family
--- is good for it, unless its end alone isn't reached
-pub record HasRefusal (x : Subject) : Type 0 where
+-- A place, by spot and offset, at which it is right to refuse the program of this name, and the test
+-- that fails, which gives the reason: no family is good for it, unless its end alone isn't reached.
+-- This is what is reported of it.
+pub record HasRefusal (x : Subject) (called : Name) (r : Refused) : Type 0 where
   pub spot : Spot
   pub offset : ℕ
   pub failed : Failed
   pub justified : IsJustifiedFor x (program.Refused spot offset failed)
   pub none_good : TellsNoneIsGood x (program.Refused spot offset failed)
+  pub reported : r ≡ reported_at called spot offset (reason_of failed)
+
+-- what is answered of the program of this name: it is accepted, or refused so
+abbrev pub IsAnsweredFor : Subject → Name → Explained → Type 0
+IsAnsweredFor x called explained.Accepted = HasLeast x
+IsAnsweredFor x called (explained.Refused r) = HasRefusal x called r
 
 -- where an offset is asked for, an instruction of the program begins there
 abbrev pub AsksForInstruction : Subject → Asked → Type 0

@@ -1,5 +1,6 @@
 //! What is asked for, and what comes of it.
 
+use hintcheck_report::Refused;
 use std::alloc::AllocError;
 use thiserror::Error;
 use tt_abs::Exhausted;
@@ -18,7 +19,8 @@ pub struct Asked {
 #[derive(Clone, Copy, Debug, PartialEq, Eq)]
 pub enum Explained {
     Accepted,
-    Refused,
+    /// It is refused so; or one before it is, so that it isn't checked.
+    Refused(Refused),
 }
 
 /// Why there is no explanation.

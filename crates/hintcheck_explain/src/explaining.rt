@@ -1,10 +1,10 @@
 //! Explains a program that could be cut and is structured.
 
-ghost use Rattle.std.specs.Prelude.{◌≡◌, Ok};
+ghost use Rattle.std.specs.Prelude.{IfOk};
 ghost use Rattle.tt_abs.specs.Entries.{Ascends};
 ghost use Rattle.tt_abs.specs.Settings.{setting_of};
 ghost use Rattle.tt_abs.specs.StateFlow.{FunctionsFit};
-ghost use Rattle.hintcheck_explain.specs.Faults.{AsksForInstruction, HasLeast, HasRefusal, TellsFailure};
+ghost use Rattle.hintcheck_explain.specs.Faults.{AsksForInstruction, IsAnsweredFor, TellsFailure};
 
 use crate::accepted::tell_accepted;
 use crate::asked::{Asked, ExplainFault, Explained};
@@ -56,7 +56,7 @@ fn explain_accepted<O: Sink>(
     }
 }
 
-/// Explains a refused program.
+/// Explains a program that is refused, after the line that tells so.
 fn explain_refused<O: Sink>(
     alloc: Global,
     subject: &ExploredProgram<'_>,
@@ -68,8 +68,6 @@ fn explain_refused<O: Sink>(
 ) -> Result<(), ExplainFault>
     ensures failures { TellsFailure result (O.failures out.old) (O.failures out.new) }
 {
-    let refused = Refused::at(subject.name, spot, offset, failed.reason());
-    writeln!(out, "{refused}")?;
     match asked.offset {
         Some(offset) => tell_place(alloc, subject, offset, out),
         None => tell_refusal(alloc, subject, spot, offset, failed, out),
@@ -93,8 +91,7 @@ pub fn explain<O: Sink>(
     requires ascends { Ascends setting.now.start.now }
     requires fits { FunctionsFit (setting_of setting.now) setting.now.start.now }
     requires place { AsksForInstruction setting.now asked }
-    ensures accepted { result ≡ Ok Explained.Accepted → HasLeast setting.now }
-    ensures refused { result ≡ Ok Explained.Refused → HasRefusal setting.now }
+    ensures answered { IfOk result (IsAnsweredFor setting.now asked.program) }
     ensures failures { TellsFailure result (O.failures out.old) (O.failures out.new) }
 {
     let explored = explore(alloc, setting, budget)?;
@@ -115,9 +112,11 @@ pub fn explain<O: Sink>(
                 failed,
             },
         ) => {
+            let refused = Refused::at(asked.program, spot, offset, failed.reason());
+            writeln!(out, "{refused}")?;
             explain_refused(alloc, &subject, asked, spot, offset, failed, out)?;
             tell_needs(alloc, setting, asked, failed.reason(), budget, out)?;
-            Ok(Explained::Refused)
+            Ok(Explained::Refused(refused))
         }
         Some(Refusal::Exhausted(by)) => Err(ExplainFault::from(by)),
     }

@@ -4,8 +4,9 @@ use crate::faults::{Fault, fault_text};
 use crate::sessions::refused_in_session;
 use anyhow::{Result, bail, ensure};
 use hintcheck_fonts::{
-    Budget, CheckFontFault, Refused, UpgradeFault, Verdict, bare, check_font, check_font_within,
-    find_font, find_font_within, read_font, upgrade, verdict, verdict_symbolic, verdict_within,
+    Budget, CheckFontFault, Refused, UpgradeFault, Verdict, bare, bare_within, check_font,
+    check_font_within, find_font, find_font_within, read_font, upgrade, verdict, verdict_symbolic,
+    verdict_within,
 };
 use std::alloc::Global;
 use std::fmt::Write;
@@ -61,6 +62,18 @@ pub(crate) fn judge_bare(context: &Context<'_>, words: &mut Words<'_>) -> Result
     ensure!(program.len() <= 65_535, "a glyph's program is too long");
     let (cvt, points, contours) = (context.cvt, context.points, context.contours);
     told_of(alloc, bare(alloc, &table, cvt, points, contours, &program))
+}
+
+/// Returns what the verdict on one glyph program within a budget tells, whose bytes are the word, by
+/// the context's limits.
+fn told_of_glyph(context: &Context<'_>, digits: &str, budget: &mut Budget) -> Result<String> {
+    let alloc = context.rt.alloc();
+    let table = maxp(context, 1)?;
+    let program = bytes_of(alloc, digits)?;
+    ensure!(program.len() <= 65_535, "a glyph's program is too long");
+    let (cvt, points, contours) = (context.cvt, context.points, context.contours);
+    let answer = bare_within(alloc, &table, cvt, points, contours, &program, budget);
+    told_of(alloc, answer)
 }
 
 /// `profiles f=FONT p=CVT g=GLYPH..`: the verdict on a font of these programs, and the one by the
@@ -230,7 +243,7 @@ fn told_of_session(alloc: Global, file: &[u8], certificate: Steps<'_>) -> Result
 
 /// Calls the library with files: `verdict FONT`, `check_font FONT CERT`, `session FONT CERT`,
 /// `find_font FONT WANT` and `upgrade OLD WANT`, with the certificate that is to be written, where a
-/// reader and a writer have so much room.
+/// reader and a writer have so much room; or with a program, `bare PROGRAM`.
 pub(crate) fn call(
     context: &Context<'_>,
     kind: &str,
@@ -242,6 +255,9 @@ pub(crate) fn call(
     let [first, others @ ..] = names else {
         bail!("no call of no file");
     };
+    if kind == "bare" {
+        return told_of_glyph(context, first, budget);
+    }
     let first = held(context, first)?;
     let [other] = others else {
         ensure!(

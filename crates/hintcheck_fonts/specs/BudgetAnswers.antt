@@ -1,11 +1,12 @@
 -- What an answer within a budget tells of the budget, and of the font's first fault. (own)
-use Rattle.std.specs.Prelude.{◌≡◌, ◌≢◌, Some, None, alloc_error, Result, Ok, Err}
+use Rattle.std.specs.Prelude.{◌≡◌, ◌≢◌, ◌⊎◌, Some, None, alloc_error, Result, Ok, Err}
 use Rattle.tt_abs.specs.declared.exhausted.Exhausted.{Exhausted}
 use Rattle.tt_abs.specs.declared.exhausted.Exhausted.TheVariants as exhausted
 use Rattle.tt_family.specs.Budgets.{AreAlike, IsExceeded}
 use Rattle.tt_family.specs.declared.budget.Budget.{Budget}
 use Rattle.tt_font.specs.Conditions.{Condition}
 use Rattle.tt_font.specs.declared.fault.FontFault.TheVariants.{OutOfMemory}
+use Rattle.hintcheck_fonts.specs.BarePrograms.{IsMemory}
 use Rattle.hintcheck_fonts.specs.declared.certificate.FindFontFault.{FindFontFault}
 use Rattle.hintcheck_fonts.specs.declared.certificate.FindFontFault.TheVariants as find
 use Rattle.hintcheck_fonts.specs.declared.font.VerdictFault.{VerdictFault}
@@ -107,6 +108,15 @@ VerdictTellsFontFault condition (Ok done) = condition ≡ None
 VerdictTellsFontFault condition (Err (verdict.Font font)) =
     font ≢ OutOfMemory alloc_error → condition ≡ Some font
 VerdictTellsFontFault condition (Err verdict.Budget) = Unit {0}
+
+-- The same of one glyph program: its fault is that of the `maxp` table, or that memory ran out
+-- where the table has none. The table is read first, unless the budget was exceeded before.
+abbrev pub BareTellsTableFault : {T : Type 0}
+    → Budget → Condition → Result T VerdictFault → Type 0
+BareTellsTableFault old condition (Ok done) = condition ≡ None
+BareTellsTableFault old condition (Err (verdict.Font font)) =
+    (condition ≡ Some font) ⊎ (IsMemory font × (condition ≡ None))
+BareTellsTableFault old condition (Err verdict.Budget) = IsNotExceeded old → condition ≡ None
 
 -- The same of the check by a certificate, which reads the font first.
 abbrev pub CheckWithinTellsFontFault : {T : Type 0} → Condition → Result T CheckFontFault → Type 0

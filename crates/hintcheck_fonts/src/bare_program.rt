@@ -1,6 +1,7 @@
 //! The verdict on one program.
 
 ghost use Rattle.std.specs.Prelude.{◌≡◌, ◌≤◌, ◌<◌, ◌^◌, ◌⊎◌, ◌↔◌, [], All, IfErr, IfOk, None, OnOk, length};
+ghost use Rattle.hintcheck_fonts.specs.BudgetAnswers.{BareTellsTableFault, VerdictTellsBudget};
 ghost use Rattle.hintcheck_fonts.specs.FontPrograms.{IsSafeGlyph, glyph_subject};
 ghost use Rattle.hintcheck_fonts.specs.BarePrograms.{IsJudged, IsMemory, bare_font, bare_subject, font_around, glyph_with};
 ghost use Rattle.hintcheck_fonts.specs.ProgramVerdicts.{IfRefused};
@@ -8,11 +9,12 @@ ghost use Rattle.hintcheck_fonts.specs.Programs.{HasGoodFamily, HasLeastFamily, 
 ghost use Rattle.hintcheck_fonts.specs.Representation.Judges.{IsRefusedFor};
 ghost use Rattle.tt_cert.specs.declared.name.Name.TheVariants as name;
 ghost use Rattle.tt_code.specs.Faults.{IsMemory as IsMemoryAlone};
+ghost use Rattle.tt_family.specs.Budgets.{EndTellsBudget, Spends, TellsBudget};
 ghost use Rattle.tt_font.specs.Reading.{GlyphData, glyph_data};
 ghost use Rattle.tt_font.specs.Conditions.{maxp_fault};
 
 use crate::finding::Finding;
-use crate::font::list_outcome;
+use crate::font::{VerdictFault, list_outcome};
 use crate::judge::Judge;
 use crate::program::{Search, cut};
 use crate::programs::refused as refused_outcome;
@@ -50,12 +52,20 @@ pub fn empty_program(alloc: Global) -> Result<Program<'static>, AllocError>
 ///
 /// # Errors
 /// `Refused`; `Exhausted`.
-fn judge_bare(alloc: Global, limits: Limits, cvt: u16, glyph: &GlyphPart<'_>) -> Result<(), Refusal>
+fn judge_bare(
+    alloc: Global,
+    limits: Limits,
+    cvt: u16,
+    glyph: &GlyphPart<'_>,
+    budget: &mut Budget,
+) -> Result<(), Refusal>
     requires { length glyph.now.program.now < 2 ^ 31 }
     ensures least { IfOk result (λ _. HasLeastFamily
         (glyph_subject (font_around limits cvt) [] 0 (glyph_data glyph.now))) }
     ensures refused { IfErr result (λ fault. IfRefused (name.Glyph 0) fault (IsRefusedFor
         (glyph_subject (font_around limits cvt) [] 0 (glyph_data glyph.now)))) }
+    ensures spends { Spends budget.old budget.new }
+    ensures budget { TellsBudget budget.old budget.new result }
 {
     let empty = empty_program(alloc)?;
     let program = cut(alloc, glyph.program)?;
@@ -72,13 +82,7 @@ fn judge_bare(alloc: Global, limits: Limits, cvt: u16, glyph: &GlyphPart<'_>) ->
         start: &[],
     };
     let mut judge = Finding::new(alloc, Search::Verdict);
-    judge.judge(
-        alloc,
-        Name::Glyph(0),
-        &setting,
-        &[],
-        &mut Budget::unlimited(),
-    )
+    judge.judge(alloc, Name::Glyph(0), &setting, &[], budget)
 }
 
 /// Returns the only program, `g0`, if it is refused: that of the glyph of a font whose font program
@@ -88,12 +92,15 @@ fn refused_programs(
     limits: Limits,
     cvt: u16,
     glyph: &GlyphPart<'_>,
+    budget: &mut Budget,
 ) -> Result<Vec<Refused>, Exhausted>
     requires { length glyph.now.program.now < 2 ^ 31 }
-    ensures { IfOk result (λ refused. IsJudged
+    ensures judged { IfOk result (λ refused. IsJudged
         (glyph_subject (font_around limits cvt) [] 0 (glyph_data glyph.now)) refused.items) }
+    ensures spends { Spends budget.old budget.new }
+    ensures budget { EndTellsBudget budget.old budget.new result }
 {
-    match judge_bare(alloc, limits, cvt, glyph) {
+    match judge_bare(alloc, limits, cvt, glyph, budget) {
         Ok(()) => Ok(Vec::new(alloc)),
         Err(fault) => {
             let outcome = refused_outcome(Name::Glyph(0), fault)?;
@@ -130,14 +137,53 @@ pub fn bare(
     ensures faults { IfErr result
         (λ e. (maxp_fault maxp.now ≡ Some e) ⊎ (IsMemory e × (maxp_fault maxp.now ≡ None))) }
 {
+    let mut budget = Budget::unlimited();
+    match bare_within(alloc, maxp, cvt, points, contours, program, &mut budget) {
+        Ok(verdict) => Ok(verdict),
+        Err(VerdictFault::Font(fault)) => Err(fault),
+        // No program has so many points.
+        Err(VerdictFault::Budget) => Err(FontFault::OutOfMemory(AllocError)),
+    }
+}
+
+/// Returns the verdict on one glyph program, as `bare` does, and makes at most as many points as
+/// the budget allows, as `verdict_within` does.
+///
+/// # Errors
+/// As `bare`; `Budget` exactly where more points were to be made than the budget allows, in this
+/// call or in an earlier one.
+pub fn bare_within(
+    alloc: Global,
+    maxp: &[u8],
+    cvt: u16,
+    points: u16,
+    contours: u16,
+    program: &[u8],
+    budget: &mut Budget,
+) -> Result<Verdict, VerdictFault>
+    requires { length program.now ≤ 65535 }
+    ensures accepted { let glyph : GlyphData = glyph_with points contours program.now in
+        IfOk result (λ v. v.refused ≡ [] → IsSafeGlyph (bare_font maxp.now cvt glyph) glyph) }
+    ensures exact { let glyph : GlyphData = glyph_with points contours program.now in
+        IfOk result (λ v. v.refused ≡ [] ↔ HasGoodFamily (bare_subject maxp.now cvt glyph)) }
+    ensures refused { let glyph : GlyphData = glyph_with points contours program.now in
+        IfOk result (λ v. All (IsRefusal (bare_subject maxp.now cvt glyph)) v.refused) }
+    ensures one { IfOk result (λ v. (v.programs ≡ 1) × (length v.refused ≤ 1)) }
+    ensures faults { BareTellsTableFault budget.old (maxp_fault maxp.now) result }
+    // What it costs: at most as many points as the budget has left. A verdict or out of memory
+    // comes only where that was enough, `Budget` only where it wasn't.
+    ensures spends { Spends budget.old budget.new }
+    ensures budget { VerdictTellsBudget budget.new result }
+{
+    if budget.is_exceeded() {
+        return Err(VerdictFault::Budget);
+    }
     let limits = read_maxp(maxp)?;
     let glyph = GlyphPart {
         points,
         contours,
         program,
     };
-    match refused_programs(alloc, limits, cvt, &glyph) {
-        Ok(refused) => Ok(Verdict::new(1, refused)),
-        Err(_) => Err(FontFault::OutOfMemory(AllocError)),
-    }
+    let refused = refused_programs(alloc, limits, cvt, &glyph, budget)?;
+    Ok(Verdict::new(1, refused))
 }

@@ -19,14 +19,14 @@ pub mod symbolic_bare;
 pub mod symbolic_check;
 pub mod symbolic_verdict;
 
-pub use bare_program::bare;
+pub use bare_program::{bare, bare_within};
 pub use certificate::{FindFontFault, find_font, find_font_within};
 pub use certificate_upgrade::{UpgradeFault, upgrade};
 pub use font::{VerdictFault, read_font, verdict, verdict_within};
 pub use font_check::{CheckFontFault, check_font, check_font_within};
 pub use report::{Name, Place, Refused, Verdict};
 pub use session::{Outcome, Session};
-pub use symbolic_bare::bare_symbolic;
+pub use symbolic_bare::{bare_symbolic, bare_symbolic_within};
 pub use symbolic_verdict::{verdict_symbolic, verdict_symbolic_within};
 pub use tt_family::Budget;
 pub use tt_font::FontFault;

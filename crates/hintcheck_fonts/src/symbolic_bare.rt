@@ -12,17 +12,24 @@ use crate::program::cut;
 use crate::programs::refused as refused_outcome;
 use crate::report::{Name, Refused, Verdict};
 use crate::symbolic_check::{check_in_turn, refusal_of};
+use crate::symbolic_verdict::USUAL_STEPS;
 use std::alloc::{AllocError, Global};
 use tt_abs::{Exhausted, Kind, Refusal, Setting};
 use tt_code::Limits;
 use tt_font::{FontFault, GlyphPart, read_maxp};
 
 /// Judges a program, which is that of a glyph of a font whose font program and CVT program are
-/// empty.
+/// empty, in so many steps at most.
 ///
 /// # Errors
 /// `Refused`; `Exhausted`.
-fn judge_bare(alloc: Global, limits: Limits, cvt: u16, glyph: &GlyphPart<'_>) -> Result<(), Refusal>
+fn judge_bare(
+    alloc: Global,
+    limits: Limits,
+    cvt: u16,
+    glyph: &GlyphPart<'_>,
+    steps: u64,
+) -> Result<(), Refusal>
     requires { length glyph.now.program.now < 2 ^ 31 }
     ensures { OnOk result (IsSafeAlone (font_around limits cvt) (glyph_data glyph.now)) }
 {
@@ -49,7 +56,7 @@ fn judge_bare(alloc: Global, limits: Limits, cvt: u16, glyph: &GlyphPart<'_>) ->
         main: &program,
         ..for_font
     };
-    match check_in_turn(alloc, &for_font, &for_cvt, &setting) {
+    match check_in_turn(alloc, steps, &for_font, &for_cvt, &setting) {
         Ok(()) => Ok(()),
         Err(refusal) => Err(refusal_of(refusal)),
     }
@@ -62,13 +69,14 @@ fn refused_programs(
     limits: Limits,
     cvt: u16,
     glyph: &GlyphPart<'_>,
+    steps: u64,
 ) -> Result<Vec<Refused>, Exhausted>
     requires { length glyph.now.program.now < 2 ^ 31 }
     ensures safe { IfOk result (λ refused. refused.items ≡ []
         → IsSafeAlone (font_around limits cvt) (glyph_data glyph.now)) }
     ensures one { IfOk result (λ refused. length refused.items ≤ 1) }
 {
-    match judge_bare(alloc, limits, cvt, glyph) {
+    match judge_bare(alloc, limits, cvt, glyph, steps) {
         Ok(()) => Ok(Vec::new(alloc)),
         Err(fault) => {
             let outcome = refused_outcome(Name::Glyph(0), fault)?;
@@ -102,13 +110,39 @@ pub fn bare_symbolic(
     ensures faults { IfErr result
         (λ e. (maxp_fault maxp.now ≡ Some e) ⊎ (IsMemory e × (maxp_fault maxp.now ≡ None))) }
 {
+    bare_symbolic_within(alloc, maxp, cvt, points, contours, program, USUAL_STEPS)
+}
+
+/// Returns the verdict on one glyph program as `bare_symbolic` does, where the search makes at most
+/// so many steps, as `verdict_symbolic_within` does. Where they are too few the program is refused as
+/// `TooManySteps`.
+///
+/// # Errors
+/// As `bare_symbolic`.
+pub fn bare_symbolic_within(
+    alloc: Global,
+    maxp: &[u8],
+    cvt: u16,
+    points: u16,
+    contours: u16,
+    program: &[u8],
+    steps: u64,
+) -> Result<Verdict, FontFault>
+    requires { length program.now ≤ 65535 }
+    ensures accepted { let glyph : GlyphData = glyph_with points contours program.now in
+        IfOk result (λ v. v.refused ≡ [] → IsSafeAlone (bare_font maxp.now cvt glyph) glyph) }
+    ensures one { IfOk result (λ v. (v.programs ≡ 1) × (length v.refused ≤ 1)) }
+    ensures fields { OnOk result (maxp_fault maxp.now ≡ None) }
+    ensures faults { IfErr result
+        (λ e. (maxp_fault maxp.now ≡ Some e) ⊎ (IsMemory e × (maxp_fault maxp.now ≡ None))) }
+{
     let limits = read_maxp(maxp)?;
     let glyph = GlyphPart {
         points,
         contours,
         program,
     };
-    match refused_programs(alloc, limits, cvt, &glyph) {
+    match refused_programs(alloc, limits, cvt, &glyph, steps) {
         Ok(refused) => Ok(Verdict::new(1, refused)),
         Err(_) => Err(FontFault::OutOfMemory(AllocError)),
     }

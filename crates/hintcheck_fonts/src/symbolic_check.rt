@@ -148,13 +148,15 @@ fn starts_after(alloc: Global, search: &mut Search, ends: &Ends) -> Result<Glyph
     }
 }
 
-/// Checks the programs of a font of one glyph by what the search finds for each.
+/// Checks the programs of a font of one glyph by what the search finds for each, in so many steps
+/// for all of them together.
 ///
 /// # Errors
 /// Those of `Search::find`, of `check_before_glyphs` and of `check_glyph_program`.
 fn check_found(
     alloc: Global,
     search: &mut Search,
+    most_steps: u64,
     font: &Setting<'_>,
     cvt: &Setting<'_>,
     glyph: &Setting<'_>,
@@ -162,19 +164,24 @@ fn check_found(
     ensures { OnOk result (AreCheckedInTurn (setting_of font.now) (setting_of cvt.now)
         (setting_of glyph.now)) }
 {
-    let first = check_to_end(alloc, search, USUAL_SEARCH, font, &[])?;
+    let effort = effort_left(search, most_steps);
+    let first = check_to_end(alloc, search, effort, font, &[])?;
     let functions = first.functions.as_slice();
-    let second = check_to_end(alloc, search, USUAL_SEARCH, cvt, functions)?;
+    let effort = effort_left(search, most_steps);
+    let second = check_to_end(alloc, search, effort, cvt, functions)?;
     let starts = starts_after(alloc, search, &second)?;
-    check_glyph(alloc, search, USUAL_SEARCH, glyph, &starts)
+    let effort = effort_left(search, most_steps);
+    check_glyph(alloc, search, effort, glyph, &starts)
 }
 
-/// Searches and checks the programs of a font of one glyph.
+/// Searches and checks the programs of a font of one glyph, in so many steps for all of them
+/// together.
 ///
 /// # Errors
 /// Those of `Search::find`, of `check_before_glyphs` and of `check_glyph_program`.
 pub(crate) fn check_in_turn(
     alloc: Global,
+    most_steps: u64,
     font: &Setting<'_>,
     cvt: &Setting<'_>,
     glyph: &Setting<'_>,
@@ -183,7 +190,7 @@ pub(crate) fn check_in_turn(
         (setting_of glyph.now)) }
 {
     let mut search = Search::new(alloc);
-    check_found(alloc, &mut search, font, cvt, glyph)
+    check_found(alloc, &mut search, most_steps, font, cvt, glyph)
 }
 
 /// Returns the fault of a program that is refused so. Too many steps are told at the program's start.

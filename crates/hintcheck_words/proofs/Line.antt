@@ -78,81 +78,93 @@ line = record {
 unfoldable rule_at : Shape → Text → Rule
 rule_at s id = unwrap_or (arg_by_id s.rules id) (new_rule id)
 
-cvt_rule : IsNumberRule bare_built.rules 65535 (codes "CVT") (rule_at bare_built (codes "CVT"))
+bare_cvt : IsNumberRule bare_built.rules 65535 (codes "CVT") (rule_at bare_built (codes "CVT"))
 unfolding hintcheck bare_built rule_at clap_on_literals
-cvt_rule = record { found = refl; named = refl; parser = refl }
+bare_cvt = record { found = refl; named = refl; parser = refl }
 
-cvt_required : (rule_at bare_built (codes "CVT")).required ≡ true
+bare_cvt_required : (rule_at bare_built (codes "CVT")).required ≡ true
 unfolding hintcheck bare_built rule_at clap_on_literals
-cvt_required = refl
+bare_cvt_required = refl
 
-points_rule : IsNumberRule bare_built.rules 65535 (codes "POINTS") (rule_at bare_built (codes "POINTS"))
+bare_points : IsNumberRule bare_built.rules 65535 (codes "POINTS") (rule_at bare_built (codes "POINTS"))
 unfolding hintcheck bare_built rule_at clap_on_literals
-points_rule = record { found = refl; named = refl; parser = refl }
+bare_points = record { found = refl; named = refl; parser = refl }
 
-points_required : (rule_at bare_built (codes "POINTS")).required ≡ true
+bare_points_required : (rule_at bare_built (codes "POINTS")).required ≡ true
 unfolding hintcheck bare_built rule_at clap_on_literals
-points_required = refl
+bare_points_required = refl
 
-contours_rule : IsNumberRule bare_built.rules 65535 (codes "CONTOURS") (rule_at bare_built (codes "CONTOURS"))
+bare_contours : IsNumberRule bare_built.rules 65535 (codes "CONTOURS") (rule_at bare_built (codes "CONTOURS"))
 unfolding hintcheck bare_built rule_at clap_on_literals
-contours_rule = record { found = refl; named = refl; parser = refl }
+bare_contours = record { found = refl; named = refl; parser = refl }
 
-contours_required : (rule_at bare_built (codes "CONTOURS")).required ≡ true
+bare_contours_required : (rule_at bare_built (codes "CONTOURS")).required ≡ true
 unfolding hintcheck bare_built rule_at clap_on_literals
-contours_required = refl
+bare_contours_required = refl
 
-bare_symbolic_rule : IsFlagRule bare_built.rules (codes "SYMBOLIC") (rule_at bare_built (codes "SYMBOLIC"))
+bare_limit : IsLongNumberRule bare_built.rules (codes "LIMIT") (rule_at bare_built (codes "LIMIT"))
 unfolding hintcheck bare_built rule_at clap_on_literals
-bare_symbolic_rule = record { found = refl; named = refl; parser = refl }
+bare_limit = record { found = refl; named = refl; parser = refl }
 
-verdict_symbolic_rule : IsFlagRule verdict_built.rules (codes "SYMBOLIC") (rule_at verdict_built (codes "SYMBOLIC"))
+bare_symbolic : IsFlagRule bare_built.rules (codes "SYMBOLIC") (rule_at bare_built (codes "SYMBOLIC"))
+unfolding hintcheck bare_built rule_at clap_on_literals
+bare_symbolic = record { found = refl; named = refl; parser = refl }
+
+verdict_points : IsLongNumberRule verdict_built.rules (codes "POINTS") (rule_at verdict_built (codes "POINTS"))
 unfolding hintcheck verdict_built rule_at clap_on_literals
-verdict_symbolic_rule = record { found = refl; named = refl; parser = refl }
+verdict_points = record { found = refl; named = refl; parser = refl }
 
-scan_symbolic_rule : IsFlagRule scan_built.rules (codes "SYMBOLIC") (rule_at scan_built (codes "SYMBOLIC"))
-unfolding hintcheck scan_built rule_at clap_on_literals
-scan_symbolic_rule = record { found = refl; named = refl; parser = refl }
-
-verdict_json_rule : IsFlagRule verdict_built.rules (codes "JSON") (rule_at verdict_built (codes "JSON"))
+verdict_symbolic : IsFlagRule verdict_built.rules (codes "SYMBOLIC") (rule_at verdict_built (codes "SYMBOLIC"))
 unfolding hintcheck verdict_built rule_at clap_on_literals
-verdict_json_rule = record { found = refl; named = refl; parser = refl }
+verdict_symbolic = record { found = refl; named = refl; parser = refl }
 
-scan_json_rule : IsFlagRule scan_built.rules (codes "JSON") (rule_at scan_built (codes "JSON"))
-unfolding hintcheck scan_built rule_at clap_on_literals
-scan_json_rule = record { found = refl; named = refl; parser = refl }
-
-list_numbers_rule : IsFlagRule list_built.rules (codes "NUMBERS") (rule_at list_built (codes "NUMBERS"))
-unfolding hintcheck list_built rule_at clap_on_literals
-list_numbers_rule = record { found = refl; named = refl; parser = refl }
-
-explain_symbolic_rule : IsFlagRule explain_built.rules (codes "SYMBOLIC") (rule_at explain_built (codes "SYMBOLIC"))
-unfolding hintcheck explain_built rule_at clap_on_literals
-explain_symbolic_rule = record { found = refl; named = refl; parser = refl }
-
-offset_rule : IsNumberRule explain_built.rules 4294967295 (codes "OFFSET") (rule_at explain_built (codes "OFFSET"))
-unfolding hintcheck explain_built rule_at clap_on_literals
-offset_rule = record { found = refl; named = refl; parser = refl }
-
-verdict_rule : IsLongNumberRule verdict_built.rules (codes "POINTS") (rule_at verdict_built (codes "POINTS"))
+verdict_json : IsFlagRule verdict_built.rules (codes "JSON") (rule_at verdict_built (codes "JSON"))
 unfolding hintcheck verdict_built rule_at clap_on_literals
-verdict_rule = record { found = refl; named = refl; parser = refl }
+verdict_json = record { found = refl; named = refl; parser = refl }
 
-scan_rule : IsLongNumberRule scan_built.rules (codes "POINTS") (rule_at scan_built (codes "POINTS"))
+scan_points : IsLongNumberRule scan_built.rules (codes "POINTS") (rule_at scan_built (codes "POINTS"))
 unfolding hintcheck scan_built rule_at clap_on_literals
-scan_rule = record { found = refl; named = refl; parser = refl }
+scan_points = record { found = refl; named = refl; parser = refl }
 
-explain_rule : IsLongNumberRule explain_built.rules (codes "POINTS") (rule_at explain_built (codes "POINTS"))
+scan_symbolic : IsFlagRule scan_built.rules (codes "SYMBOLIC") (rule_at scan_built (codes "SYMBOLIC"))
+unfolding hintcheck scan_built rule_at clap_on_literals
+scan_symbolic = record { found = refl; named = refl; parser = refl }
+
+scan_json : IsFlagRule scan_built.rules (codes "JSON") (rule_at scan_built (codes "JSON"))
+unfolding hintcheck scan_built rule_at clap_on_literals
+scan_json = record { found = refl; named = refl; parser = refl }
+
+scan_causes : IsFlagRule scan_built.rules (codes "CAUSES") (rule_at scan_built (codes "CAUSES"))
+unfolding hintcheck scan_built rule_at clap_on_literals
+scan_causes = record { found = refl; named = refl; parser = refl }
+
+explain_offset : IsNumberRule explain_built.rules 4294967295 (codes "OFFSET") (rule_at explain_built (codes "OFFSET"))
 unfolding hintcheck explain_built rule_at clap_on_literals
-explain_rule = record { found = refl; named = refl; parser = refl }
+explain_offset = record { found = refl; named = refl; parser = refl }
 
-find_rule : IsLongNumberRule find_built.rules (codes "POINTS") (rule_at find_built (codes "POINTS"))
+explain_points : IsLongNumberRule explain_built.rules (codes "POINTS") (rule_at explain_built (codes "POINTS"))
+unfolding hintcheck explain_built rule_at clap_on_literals
+explain_points = record { found = refl; named = refl; parser = refl }
+
+explain_symbolic : IsFlagRule explain_built.rules (codes "SYMBOLIC") (rule_at explain_built (codes "SYMBOLIC"))
+unfolding hintcheck explain_built rule_at clap_on_literals
+explain_symbolic = record { found = refl; named = refl; parser = refl }
+
+explain_json : IsFlagRule explain_built.rules (codes "JSON") (rule_at explain_built (codes "JSON"))
+unfolding hintcheck explain_built rule_at clap_on_literals
+explain_json = record { found = refl; named = refl; parser = refl }
+
+find_points : IsLongNumberRule find_built.rules (codes "POINTS") (rule_at find_built (codes "POINTS"))
 unfolding hintcheck find_built rule_at clap_on_literals
-find_rule = record { found = refl; named = refl; parser = refl }
+find_points = record { found = refl; named = refl; parser = refl }
 
-check_rule : IsLongNumberRule check_built.rules (codes "POINTS") (rule_at check_built (codes "POINTS"))
+check_points : IsLongNumberRule check_built.rules (codes "POINTS") (rule_at check_built (codes "POINTS"))
 unfolding hintcheck check_built rule_at clap_on_literals
-check_rule = record { found = refl; named = refl; parser = refl }
+check_points = record { found = refl; named = refl; parser = refl }
+
+list_numbers : IsFlagRule list_built.rules (codes "NUMBERS") (rule_at list_built (codes "NUMBERS"))
+unfolding hintcheck list_built rule_at clap_on_literals
+list_numbers = record { found = refl; named = refl; parser = refl }
 
 simple_and_free : is_simple_and_free hintcheck ≡ true
 unfolding hintcheck clap_on_literals
@@ -165,52 +177,47 @@ meets_one words name rows e found =
     let named = line_names (built hintcheck) line (argument_words hintcheck words) name rows e found in
     record {
       known = named.known;
-      numbers = λ bare.
+      of_bare = λ bare.
           let at_bare = level_at (built hintcheck) name (codes "bare") rows bare_built named bare bare_found in
           record {
-            cvt = number_among bare_built rows 65535 (codes "CVT") (rule_at bare_built (codes "CVT")) at_bare cvt_rule cvt_required;
-            points = number_among bare_built rows 65535 (codes "POINTS") (rule_at bare_built (codes "POINTS")) at_bare points_rule points_required;
-            contours = number_among bare_built rows 65535 (codes "CONTOURS") (rule_at bare_built (codes "CONTOURS")) at_bare contours_rule contours_required;
+            cvt = number_among bare_built rows 65535 (codes "CVT") (rule_at bare_built (codes "CVT")) at_bare bare_cvt bare_cvt_required;
+            points = number_among bare_built rows 65535 (codes "POINTS") (rule_at bare_built (codes "POINTS")) at_bare bare_points bare_points_required;
+            contours = number_among bare_built rows 65535 (codes "CONTOURS") (rule_at bare_built (codes "CONTOURS")) at_bare bare_contours bare_contours_required;
+            limit = long_number_if_any bare_built rows (codes "LIMIT") (rule_at bare_built (codes "LIMIT")) at_bare bare_limit;
+            symbolic = flag_among bare_built rows (codes "SYMBOLIC") (rule_at bare_built (codes "SYMBOLIC")) at_bare bare_symbolic;
           };
-      offset = λ explain.
-          let at_explain = level_at (built hintcheck) name (codes "explain") rows explain_built named explain explain_found in
-          number_if_any explain_built rows 4294967295 (codes "OFFSET") (rule_at explain_built (codes "OFFSET")) at_explain offset_rule;
       of_verdict = λ verdict.
           let at_verdict = level_at (built hintcheck) name (codes "verdict") rows verdict_built named verdict verdict_found in
-          long_number_if_any verdict_built rows (codes "POINTS") (rule_at verdict_built (codes "POINTS")) at_verdict verdict_rule;
+          record {
+            points = long_number_if_any verdict_built rows (codes "POINTS") (rule_at verdict_built (codes "POINTS")) at_verdict verdict_points;
+            symbolic = flag_among verdict_built rows (codes "SYMBOLIC") (rule_at verdict_built (codes "SYMBOLIC")) at_verdict verdict_symbolic;
+            json = flag_among verdict_built rows (codes "JSON") (rule_at verdict_built (codes "JSON")) at_verdict verdict_json;
+          };
       of_scan = λ scan.
           let at_scan = level_at (built hintcheck) name (codes "scan") rows scan_built named scan scan_found in
-          long_number_if_any scan_built rows (codes "POINTS") (rule_at scan_built (codes "POINTS")) at_scan scan_rule;
+          record {
+            points = long_number_if_any scan_built rows (codes "POINTS") (rule_at scan_built (codes "POINTS")) at_scan scan_points;
+            symbolic = flag_among scan_built rows (codes "SYMBOLIC") (rule_at scan_built (codes "SYMBOLIC")) at_scan scan_symbolic;
+            json = flag_among scan_built rows (codes "JSON") (rule_at scan_built (codes "JSON")) at_scan scan_json;
+            causes = flag_among scan_built rows (codes "CAUSES") (rule_at scan_built (codes "CAUSES")) at_scan scan_causes;
+          };
       of_explain = λ explain.
           let at_explain = level_at (built hintcheck) name (codes "explain") rows explain_built named explain explain_found in
-          long_number_if_any explain_built rows (codes "POINTS") (rule_at explain_built (codes "POINTS")) at_explain explain_rule;
+          record {
+            offset = number_if_any explain_built rows 4294967295 (codes "OFFSET") (rule_at explain_built (codes "OFFSET")) at_explain explain_offset;
+            points = long_number_if_any explain_built rows (codes "POINTS") (rule_at explain_built (codes "POINTS")) at_explain explain_points;
+            symbolic = flag_among explain_built rows (codes "SYMBOLIC") (rule_at explain_built (codes "SYMBOLIC")) at_explain explain_symbolic;
+            json = flag_among explain_built rows (codes "JSON") (rule_at explain_built (codes "JSON")) at_explain explain_json;
+          };
       of_find = λ find.
           let at_find = level_at (built hintcheck) name (codes "find") rows find_built named find find_found in
-          long_number_if_any find_built rows (codes "POINTS") (rule_at find_built (codes "POINTS")) at_find find_rule;
+          long_number_if_any find_built rows (codes "POINTS") (rule_at find_built (codes "POINTS")) at_find find_points;
       of_check = λ check.
           let at_check = level_at (built hintcheck) name (codes "check") rows check_built named check check_found in
-          long_number_if_any check_built rows (codes "POINTS") (rule_at check_built (codes "POINTS")) at_check check_rule;
-      profile_of_bare = λ bare.
-          let at_bare = level_at (built hintcheck) name (codes "bare") rows bare_built named bare bare_found in
-          flag_among bare_built rows (codes "SYMBOLIC") (rule_at bare_built (codes "SYMBOLIC")) at_bare bare_symbolic_rule;
-      profile_of_verdict = λ verdict.
-          let at_verdict = level_at (built hintcheck) name (codes "verdict") rows verdict_built named verdict verdict_found in
-          flag_among verdict_built rows (codes "SYMBOLIC") (rule_at verdict_built (codes "SYMBOLIC")) at_verdict verdict_symbolic_rule;
-      profile_of_scan = λ scan.
-          let at_scan = level_at (built hintcheck) name (codes "scan") rows scan_built named scan scan_found in
-          flag_among scan_built rows (codes "SYMBOLIC") (rule_at scan_built (codes "SYMBOLIC")) at_scan scan_symbolic_rule;
-      profile_of_explain = λ explain.
-          let at_explain = level_at (built hintcheck) name (codes "explain") rows explain_built named explain explain_found in
-          flag_among explain_built rows (codes "SYMBOLIC") (rule_at explain_built (codes "SYMBOLIC")) at_explain explain_symbolic_rule;
-      format_of_verdict = λ verdict.
-          let at_verdict = level_at (built hintcheck) name (codes "verdict") rows verdict_built named verdict verdict_found in
-          flag_among verdict_built rows (codes "JSON") (rule_at verdict_built (codes "JSON")) at_verdict verdict_json_rule;
-      format_of_scan = λ scan.
-          let at_scan = level_at (built hintcheck) name (codes "scan") rows scan_built named scan scan_found in
-          flag_among scan_built rows (codes "JSON") (rule_at scan_built (codes "JSON")) at_scan scan_json_rule;
-      detail_of_list = λ list.
+          long_number_if_any check_built rows (codes "POINTS") (rule_at check_built (codes "POINTS")) at_check check_points;
+      of_list = λ list.
           let at_list = level_at (built hintcheck) name (codes "list") rows list_built named list list_found in
-          flag_among list_built rows (codes "NUMBERS") (rule_at list_built (codes "NUMBERS")) at_list list_numbers_rule;
+          flag_among list_built rows (codes "NUMBERS") (rule_at list_built (codes "NUMBERS")) at_list list_numbers;
     }
 
 pub fault_is : (a : App) (words : List Text) → a ≡ hintcheck → (is_simple_and_free a ≡ true → fault_of a words ≡ []) → fault_of hintcheck words ≡ []

@@ -1,8 +1,9 @@
 -- The command line, in the terms of clap's definitions:
---     hintcheck bare [--symbolic] MAXP CVT POINTS CONTOURS [PROGRAM]
+--     hintcheck bare [--symbolic] [--points LIMIT] MAXP CVT POINTS CONTOURS [PROGRAM]
 --     hintcheck verdict [--symbolic] [--points POINTS] [--json] FONT
---     hintcheck scan [--symbolic] [--points POINTS] [--fail-on CLASS] [--json] FONT..
---     hintcheck explain [--symbolic] [--points POINTS] FONT PROGRAM [OFFSET]
+--     hintcheck scan [--symbolic] [--points POINTS] [--fail-on CLASS] [--expect FILE] [--json]
+--         [--causes] FONT..
+--     hintcheck explain [--symbolic] [--points POINTS] [--json] FONT [PROGRAM] [OFFSET]
 --     hintcheck find [--points POINTS] FONT CERT
 --     hintcheck check [--points POINTS] FONT CERT
 --     hintcheck list [--numbers] FONT PROGRAM
@@ -57,14 +58,14 @@ abbrev pub of_texts : Text → List Text → App
 of_texts name ids = fold (λ a id. with_rule a (needed id)) (new_app name) ids
 
 -- the option `--points`, which limits how many points may be made
-abbrev pub points : Rule
-points = number_option (codes "POINTS") (codes "points")
+abbrev pub points : Text → Rule
+points id = number_option id (codes "points")
 
 -- the option `--symbolic`, which asks for the symbolic profile
 abbrev pub symbolic : Rule
 symbolic = flag (codes "SYMBOLIC") (codes "symbolic")
 
--- the option `--json`, which asks for an object of JSON for each font
+-- the option `--json`, which asks for objects of JSON
 abbrev pub json : Rule
 json = flag (codes "JSON") (codes "json")
 
@@ -76,15 +77,24 @@ numbers = flag (codes "NUMBERS") (codes "numbers")
 abbrev pub fail_on : Rule
 fail_on = text_option (codes "CLASS") (codes "fail-on")
 
+-- the option `--expect`, which names the file that lists the known refusals
+abbrev pub expect : Rule
+expect = text_option (codes "FILE") (codes "expect")
+
+-- the option `--causes`, which asks for the causes of the refusals
+abbrev pub causes : Rule
+causes = flag (codes "CAUSES") (codes "causes")
+
 -- a subcommand whose arguments are texts that must be given, and the option `--points`
 abbrev pub of_texts_and_points : Text → List Text → App
-of_texts_and_points name ids = with_rule (of_texts name ids) points
+of_texts_and_points name ids = with_rule (of_texts name ids) (points (codes "POINTS"))
 
 -- the subcommand `bare`, which checks one glyph program
 abbrev pub bare : App
-bare = with_rule (with_rule (with_rule (with_rule (with_rule (with_rule (new_app (codes "bare"))
-    (needed (codes "MAXP"))) (needed_number (codes "CVT"))) (needed_number (codes "POINTS")))
-    (needed_number (codes "CONTOURS"))) (optional (codes "PROGRAM"))) symbolic
+bare = with_rule (with_rule (with_rule (with_rule (with_rule (with_rule (with_rule
+    (new_app (codes "bare")) (needed (codes "MAXP"))) (needed_number (codes "CVT")))
+    (needed_number (codes "POINTS"))) (needed_number (codes "CONTOURS")))
+    (optional (codes "PROGRAM"))) symbolic) (points (codes "LIMIT"))
 
 -- the subcommand `verdict`, which checks all programs of a font file
 abbrev pub verdict : App
@@ -93,14 +103,15 @@ verdict = with_rule (with_rule (of_texts_and_points (codes "verdict") (codes "FO
 
 -- the subcommand `scan`, which checks all programs of each of several font files
 abbrev pub scan : App
-scan = with_rule (with_rule (with_rule (with_rule (with_rule (new_app (codes "scan"))
-    (needed_list (codes "FONT"))) points) symbolic) fail_on) json
+scan = with_rule (with_rule (with_rule (with_rule (with_rule (with_rule (with_rule
+    (new_app (codes "scan")) (needed_list (codes "FONT"))) (points (codes "POINTS"))) symbolic)
+    fail_on) expect) json) causes
 
--- the subcommand `explain`, which tells how one program is checked
+-- the subcommand `explain`, which tells how one program is checked, or why programs are refused
 abbrev pub explain : App
-explain = with_rule (with_rule (with_rule (with_rule (with_rule (new_app (codes "explain"))
-    (needed (codes "FONT"))) (needed (codes "PROGRAM"))) (optional_number (codes "OFFSET"))) points)
-    symbolic
+explain = with_rule (with_rule (with_rule (with_rule (with_rule (with_rule
+    (new_app (codes "explain")) (needed (codes "FONT"))) (optional (codes "PROGRAM")))
+    (optional_number (codes "OFFSET"))) (points (codes "POINTS"))) symbolic) json
 
 -- the subcommand `find`, which writes the certificate of a font file
 abbrev pub find : App

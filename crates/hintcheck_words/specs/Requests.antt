@@ -1,5 +1,5 @@
 -- What the words of a command line ask for, by what clap says that a simple command's words mean.
-use Rattle.std.specs.Prelude.{◌≡◌, ◌⊎◌, ℕ, Bool, true, false, if◌then◌else◌, codes, List, [], ◌∷◌, find as first_where, map, Option, Some, None, IfSome, IsSomeAnd, is_some, unwrap_or, option_map, option_and_then, pos, string_bytes, Result, Ok, Err}
+use Rattle.std.specs.Prelude.{◌≡◌, ◌⊎◌, ◌&&◌, not, ℕ, Bool, true, false, if◌then◌else◌, codes, List, [], ◌∷◌, find as first_where, map, Option, Some, None, IfSome, IsSomeAnd, is_some, unwrap_or, option_map, option_and_then, pos, string_bytes, Result, Ok, Err}
 use Rattle.std.specs.Option.{option_map_or}
 use denote.Ref.{Bor}
 use Rattle.std.specs.Str.{bytes_eq}
@@ -32,10 +32,10 @@ rows_in values = rows_of (found_of values)
 
 -- a subcommand and its values
 pub data Request : Type 0 where
-  bare : Text → ℕ → ℕ → ℕ → Option Text → Profile → Request
+  bare : Text → ℕ → ℕ → ℕ → Option Text → Option ℕ → Profile → Request
   verdict : Text → Option ℕ → Profile → Request
-  scan : List Text → ScanOptions → Request
-  explain : Text → Text → Option ℕ → Option ℕ → Profile → Request
+  scan : List Text → ScanOptions → Option Text → Request
+  explain : Text → Option Text → Option ℕ → Option ℕ → Profile → Format → Request
   find : Text → Text → Option ℕ → Request
   check : Text → Text → Option ℕ → Request
   list : Text → Text → Detail → Request
@@ -90,7 +90,7 @@ HasLongNumberIfAny rows id = (one_of id rows ≡ None) ⊎ HasLongNumber rows id
 abbrev pub HasFlag : List Row → Text → Type 0
 HasFlag rows id = IfSome (one_of id rows) (λ t. (t ≡ codes "true") ⊎ (t ≡ codes "false"))
 
--- how many points may be made at most, if that is limited
+-- how many points may be made at most, if that is limited; `bare` has it under another id
 abbrev pub points_in : List Row → Option ℕ
 points_in rows = optional_number_in rows (codes "POINTS")
 
@@ -98,9 +98,14 @@ points_in rows = optional_number_in rows (codes "POINTS")
 abbrev pub profile_in : List Row → Profile
 profile_in rows = if flag_in rows (codes "SYMBOLIC") then profile.Symbolic else profile.Strict
 
--- the form in which the answers are printed
+-- the form in which an explanation is printed
 abbrev pub format_in : List Row → Format
 format_in rows = if flag_in rows (codes "JSON") then format.Json else format.Lines
+
+-- the form in which the answers of a scan are printed: objects of JSON hold what causes are made of
+abbrev pub scan_format_in : List Row → Format
+scan_format_in rows = if flag_in rows (codes "JSON") then format.Json
+    else (if flag_in rows (codes "CAUSES") then format.Causes else format.Lines)
 
 -- what is listed of an instruction
 abbrev pub detail_in : List Row → Detail
@@ -120,12 +125,8 @@ unfoldable pub bare_request : List Row → Request
 bare_request rows =
     bare (text_in rows (codes "MAXP")) (number_in rows (codes "CVT"))
     (number_in rows (codes "POINTS")) (number_in rows (codes "CONTOURS"))
-    (optional_in rows (codes "PROGRAM")) (profile_in rows)
-
--- what `explain` asks for, by what its arguments got
-unfoldable pub explain_request : List Row → Request
-explain_request rows = explain (text_in rows (codes "FONT")) (text_in rows (codes "PROGRAM"))
-    (optional_number_in rows (codes "OFFSET")) (points_in rows) (profile_in rows)
+    (optional_in rows (codes "PROGRAM")) (optional_number_in rows (codes "LIMIT"))
+    (profile_in rows)
 
 -- the verdict on one font as an object of JSON, which is a scan of that font
 abbrev pub json_request : List Row → Request
@@ -134,7 +135,16 @@ json_request rows = scan (text_in rows (codes "FONT") ∷ []) (record {
   profile = profile_in rows;
   fail_on = fail_on.Refused;
   format = format.Json;
-})
+}) None
+
+-- what `explain` asks for, by what its arguments got: in an object a font without a program of it is
+-- told as `verdict` tells it
+unfoldable pub explain_request : List Row → Request
+explain_request rows =
+    if flag_in rows (codes "JSON") && not (is_some (optional_in rows (codes "PROGRAM")))
+    then json_request rows
+    else explain (text_in rows (codes "FONT")) (optional_in rows (codes "PROGRAM"))
+    (optional_number_in rows (codes "OFFSET")) (points_in rows) (profile_in rows) (format_in rows)
 
 -- what `verdict` asks for, by what its arguments got
 unfoldable pub verdict_request : List Row → Request
@@ -147,8 +157,8 @@ scan_request rows = scan (texts_in rows (codes "FONT")) (record {
   budget = points_in rows;
   profile = profile_in rows;
   fail_on = fail_on_in rows;
-  format = format_in rows;
-})
+  format = scan_format_in rows;
+}) (optional_in rows (codes "FILE"))
 
 -- what `find` asks for, by what its arguments got
 unfoldable pub find_request : List Row → Request
@@ -197,65 +207,65 @@ is_taken words = takes hintcheck words
 unfoldable pub faults_in : List Text → Kinds
 faults_in words = fault_of hintcheck words
 
--- the numbers of `bare` are there
-pub record HasNumbers (rows : List Row) : Type 0 where
-  pub cvt : HasNumber 65535 rows (codes "CVT")
-  pub points : HasNumber 65535 rows (codes "POINTS")
-  pub contours : HasNumber 65535 rows (codes "CONTOURS")
-
--- the offset of `explain` is a number, where it is given
-abbrev pub HasOffset : List Row → Type 0
-HasOffset rows = HasNumberIfAny 4294967295 rows (codes "OFFSET")
-
 -- the limit of the points is a number of 64 bits, where it is given
 abbrev pub HasPoints : List Row → Type 0
 HasPoints rows = HasLongNumberIfAny rows (codes "POINTS")
 
--- the flag that tells the profile can be read
-abbrev pub HasProfile : List Row → Type 0
-HasProfile rows = HasFlag rows (codes "SYMBOLIC")
+-- the numbers of `bare` are there, and its options can be read
+pub record IsReadableBare (rows : List Row) : Type 0 where
+  pub cvt : HasNumber 65535 rows (codes "CVT")
+  pub points : HasNumber 65535 rows (codes "POINTS")
+  pub contours : HasNumber 65535 rows (codes "CONTOURS")
+  pub limit : HasLongNumberIfAny rows (codes "LIMIT")
+  pub symbolic : HasFlag rows (codes "SYMBOLIC")
 
--- the flag that tells the form of the answers can be read
-abbrev pub HasFormat : List Row → Type 0
-HasFormat rows = HasFlag rows (codes "JSON")
+-- the options of `verdict` can be read
+pub record IsReadableVerdict (rows : List Row) : Type 0 where
+  pub points : HasPoints rows
+  pub symbolic : HasFlag rows (codes "SYMBOLIC")
+  pub json : HasFlag rows (codes "JSON")
 
--- the flag that tells what is listed of an instruction can be read
-abbrev pub HasDetail : List Row → Type 0
-HasDetail rows = HasFlag rows (codes "NUMBERS")
+-- the options of `scan` can be read
+pub record IsReadableScan (rows : List Row) : Type 0 where
+  pub points : HasPoints rows
+  pub symbolic : HasFlag rows (codes "SYMBOLIC")
+  pub json : HasFlag rows (codes "JSON")
+  pub causes : HasFlag rows (codes "CAUSES")
 
--- a subcommand that asks for something, whose numbers are there if it is `bare`, whose offset is a
--- number if it is `explain`, whose limit of the points is one if it has that option, and whose
--- profile, form of the answers and detail of a listing can be read if it has them
+-- the offset of `explain` is a number, where it is given, and its options can be read
+pub record IsReadableExplain (rows : List Row) : Type 0 where
+  pub offset : HasNumberIfAny 4294967295 rows (codes "OFFSET")
+  pub points : HasPoints rows
+  pub symbolic : HasFlag rows (codes "SYMBOLIC")
+  pub json : HasFlag rows (codes "JSON")
+
+-- a subcommand that asks for something, whose numbers and options can be read
 pub record IsReadable (found : Text × List Row) : Type 0 where
   pub known : is_some (request_of found) ≡ true
-  pub numbers : found.0 ≡ codes "bare" → HasNumbers found.1
-  pub offset : found.0 ≡ codes "explain" → HasOffset found.1
-  pub of_verdict : found.0 ≡ codes "verdict" → HasPoints found.1
-  pub of_scan : found.0 ≡ codes "scan" → HasPoints found.1
-  pub of_explain : found.0 ≡ codes "explain" → HasPoints found.1
+  pub of_bare : found.0 ≡ codes "bare" → IsReadableBare found.1
+  pub of_verdict : found.0 ≡ codes "verdict" → IsReadableVerdict found.1
+  pub of_scan : found.0 ≡ codes "scan" → IsReadableScan found.1
+  pub of_explain : found.0 ≡ codes "explain" → IsReadableExplain found.1
   pub of_find : found.0 ≡ codes "find" → HasPoints found.1
   pub of_check : found.0 ≡ codes "check" → HasPoints found.1
-  pub profile_of_bare : found.0 ≡ codes "bare" → HasProfile found.1
-  pub profile_of_verdict : found.0 ≡ codes "verdict" → HasProfile found.1
-  pub profile_of_scan : found.0 ≡ codes "scan" → HasProfile found.1
-  pub profile_of_explain : found.0 ≡ codes "explain" → HasProfile found.1
-  pub format_of_verdict : found.0 ≡ codes "verdict" → HasFormat found.1
-  pub format_of_scan : found.0 ≡ codes "scan" → HasFormat found.1
-  pub detail_of_list : found.0 ≡ codes "list" → HasDetail found.1
+  pub of_list : found.0 ≡ codes "list" → HasFlag found.1 (codes "NUMBERS")
 
--- there is a subcommand, it asks for something, and its numbers and its profile can be read
+-- there is a subcommand, it asks for something, and its numbers and options can be read
 abbrev pub MeetsSubcommand : Option (Text × List Row) → Type 0
 MeetsSubcommand found = IsSomeAnd found IsReadable
 
 -- what a task asks for, wherever its texts lie in memory
 unfoldable pub asked : Task → Request
-asked (task.Bare maxp cvt points contours program profile) =
-    bare (string_bytes maxp) cvt points contours (option_map (λ s. string_bytes s) program) profile
+asked (task.Bare maxp cvt points contours program budget profile) =
+    bare (string_bytes maxp) cvt points contours (option_map (λ s. string_bytes s) program) budget
+    profile
 asked (task.Verdict font budget profile) = verdict (string_bytes font) budget profile
-asked (task.Scan fonts options) =
+asked (task.Scan fonts options expected) =
     scan (map (λ s. string_bytes s) fonts.items) options
-asked (task.Explain font program offset budget profile) =
-    explain (string_bytes font) (string_bytes program) offset budget profile
+    (option_map (λ s. string_bytes s) expected)
+asked (task.Explain font program offset budget profile format) =
+    explain (string_bytes font) (option_map (λ s. string_bytes s) program) offset budget profile
+    format
 asked (task.Find font certificate budget) =
     find (string_bytes font) (string_bytes certificate) budget
 asked (task.Check font certificate budget) =

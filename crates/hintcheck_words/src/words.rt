@@ -1,9 +1,9 @@
 //! What the words of a command line ask for.
 
-ghost use Rattle.std.specs.Prelude.{◌≡◌, ◌∷◌, [], IfErr, IfOk, Some, codes, false, map, option_map, string_bytes};
+ghost use Rattle.std.specs.Prelude.{◌≡◌, ◌∷◌, [], IfErr, IfOk, Some, codes, is_some, false, map, option_map, string_bytes};
 ghost use Rattle.clap.specs.Words.{app_of, new_app, rule_of, subcommand_rows_of};
-ghost use Rattle.hintcheck_words.specs.CommandLine.{bare, explain, fail_on as fail_on_rule, flag, hintcheck, json as json_rule, list, needed as needed_rule, needed_number as number_rule, numbers as numbers_rule, of_texts, of_texts_and_points, optional_number as optional_rule, points as points_rule, scan, symbolic as symbolic_rule, verdict};
-ghost use Rattle.hintcheck_words.specs.Requests.{HasDetail, HasFormat, HasNumber, HasNumberIfAny, HasNumbers, HasOffset, HasPoints, HasProfile, IsReadable, IsMemoryIfTaken, MeetsSubcommand, TellsFault, asked, bare_request, check_request, detail_in, explain_request, fail_on_in, fail_on_named, faults_in, find_request, flag_in, format_in, json_request, list_request, meaning, met, number_in, optional_in, optional_number_in, points_in, profile_in, request_of, rows_in, scan_request, text_in, texts_in, texts_of, verdict_request};
+ghost use Rattle.hintcheck_words.specs.CommandLine.{bare, causes as causes_rule, expect as expect_rule, explain, fail_on as fail_on_rule, flag, hintcheck, json as json_rule, list, needed as needed_rule, needed_number as number_rule, numbers as numbers_rule, of_texts, of_texts_and_points, optional_number as optional_rule, points as points_rule, scan, symbolic as symbolic_rule, verdict};
+ghost use Rattle.hintcheck_words.specs.Requests.{HasFlag, HasLongNumberIfAny, HasNumber, HasNumberIfAny, HasPoints, IsMemoryIfTaken, IsReadable, IsReadableBare, IsReadableExplain, IsReadableScan, IsReadableVerdict, MeetsSubcommand, TellsFault, asked, bare_request, check_request, detail_in, explain_request, fail_on_in, fail_on_named, faults_in, find_request, flag_in, format_in, json_request, list_request, meaning, met, number_in, optional_in, optional_number_in, profile_in, request_of, rows_in, scan_format_in, scan_request, text_in, texts_in, texts_of, verdict_request};
 
 use clap::error::ErrorKind;
 use clap::{Arg, ArgAction, ArgMatches, Command, value_parser};
@@ -30,13 +30,16 @@ pub enum FailOn {
     Unknown,
 }
 
-/// The form in which the answers of a scan are printed.
+/// The form in which answers are printed.
 #[derive(Clone, Copy, Debug, PartialEq, Eq)]
 pub enum Format {
-    /// A line for each font.
+    /// Lines of text; for a scan a line for each font.
     Lines,
-    /// An object of JSON for each font, in a line.
+    /// An object of JSON, in a line; for a scan one for each font.
     Json,
+    /// For a scan a line for each font, and after it the causes of its refusals. Nothing else is
+    /// asked for in this form.
+    Causes,
 }
 
 /// What is listed of an instruction.
@@ -76,6 +79,8 @@ pub enum Task {
         contours: u16,
         /// The word of the program; None where it is left out.
         program: Option<String>,
+        /// How many points may be made; None where that isn't limited.
+        budget: Option<u64>,
         /// By which profile it is checked.
         profile: Profile,
     },
@@ -94,19 +99,23 @@ pub enum Task {
         fonts: Vec<String>,
         /// How they are checked, and what is printed.
         options: ScanOptions,
+        /// The name of the file that lists the known refusals; None where it is left out.
+        expected: Option<String>,
     },
-    /// Tells how one program of a font file is checked.
+    /// Tells how one program of a font file is checked, or why programs of it are refused.
     Explain {
         /// The name of the font file.
         font: String,
-        /// Which program it is.
-        program: String,
-        /// At which of its offsets; None where it is left out.
+        /// Which program it is; None where it is left out.
+        program: Option<String>,
+        /// At which of its offsets; None where it is left out, as it is without a program.
         offset: Option<u32>,
         /// How many points may be made; None where that isn't limited.
         budget: Option<u64>,
         /// By which profile it is checked.
         profile: Profile,
+        /// The form in which the explanation is printed: lines or an object of JSON.
+        format: Format,
     },
     /// Writes the certificate of a font file to another file.
     Find {
@@ -219,7 +228,7 @@ const SCAN: Subcommand<'static> = Subcommand {
 /// The subcommand `explain`.
 const EXPLAIN: Subcommand<'static> = Subcommand {
     name: "explain",
-    about: "Tells how one program is checked",
+    about: "Tells how one program is checked, or why programs of a font are refused",
     example: "Example: hintcheck explain DejaVuSans.ttf g350",
 };
 
@@ -258,7 +267,10 @@ const FONT: (&str, &str) = ("FONT", "The name of the font file");
 const CERTIFICATE: (&str, &str) = ("CERT", "The name of the certificate's file");
 
 /// The argument that names a program of a font, with its help.
-const PROGRAM: (&str, &str) = ("PROGRAM", "The program: f, p, or g and a number");
+const PROGRAM: (&str, &str) = (
+    "PROGRAM",
+    "The program: f, p, g and a number, or a glyph's name",
+);
 
 /// The argument that names an old certificate's file, with its help.
 const OLD: (&str, &str) = ("OLD", "The name of the old certificate's file");
@@ -299,6 +311,17 @@ fn symbolic_option<'a>(alloc: Global) -> Arg<'a>
     )
 }
 
+/// Makes the option `--points`, which has this id in its subcommand.
+fn points_option<'a>(alloc: Global, id: &'a str, help: &'a str) -> Arg<'a>
+    ensures rule { rule_of result ≡ points_rule id.entry.now }
+    ensures local { result.global ≡ false }
+{
+    Arg::new(alloc, id)
+        .long("points")
+        .value_parser(value_parser!(u64))
+        .help(help)
+}
+
 /// Makes the subcommand `bare`.
 ///
 /// # Errors
@@ -312,7 +335,12 @@ fn bare_command<'a>(alloc: Global) -> Result<Command<'a>, AllocError>
         .arg(needed_number(alloc, "POINTS", "How many points the glyph has"))?
         .arg(needed_number(alloc, "CONTOURS", "How many contours the glyph has"))?
         .arg(Arg::new(alloc, "PROGRAM").help("The program, in hexadecimal digits"))?
-        .arg(symbolic_option(alloc))
+        .arg(symbolic_option(alloc))?
+        .arg(points_option(
+            alloc,
+            "LIMIT",
+            "How many points may be made; without it, as many as it takes",
+        ))
 }
 
 /// Makes a subcommand whose arguments are texts that must be given.
@@ -334,17 +362,6 @@ fn texts_command<'a>(
     Ok(with_texts)
 }
 
-/// Makes the option `--points`.
-fn points_option<'a>(alloc: Global, help: &'a str) -> Arg<'a>
-    ensures rule { rule_of result ≡ points_rule }
-    ensures local { result.global ≡ false }
-{
-    Arg::new(alloc, "POINTS")
-        .long("points")
-        .value_parser(value_parser!(u64))
-        .help(help)
-}
-
 /// Makes a subcommand whose arguments are texts that must be given, and the option `--points`.
 ///
 /// # Errors
@@ -359,6 +376,7 @@ fn limited_command<'a>(
 {
     texts_command(alloc, command, texts)?.arg(points_option(
         alloc,
+        "POINTS",
         "How many points may be made; without it, as many as the font asks for",
     ))
 }
@@ -394,6 +412,30 @@ fn fail_on_option<'a>(alloc: Global) -> Arg<'a>
     )
 }
 
+/// Makes the option `--expect`.
+fn expect_option<'a>(alloc: Global) -> Arg<'a>
+    ensures rule { rule_of result ≡ expect_rule }
+    ensures local { result.global ≡ false }
+{
+    Arg::new(alloc, "FILE").long("expect").help(
+        "The name of a file that lists known refusals: only others count",
+    )
+}
+
+/// Makes the option `--causes`.
+fn causes_option<'a>(alloc: Global) -> Arg<'a>
+    ensures rule { rule_of result ≡ causes_rule }
+    ensures local { result.global ≡ false }
+{
+    flag_option(
+        alloc,
+        "CAUSES",
+        "causes",
+        "Prints the causes of the refusals after each font's line; with `--json` it changes \
+        nothing, since an object holds what they are made of",
+    )
+}
+
 /// Makes the subcommand `scan`.
 ///
 /// # Errors
@@ -405,11 +447,14 @@ fn scan_command<'a>(alloc: Global) -> Result<Command<'a>, AllocError>
         .arg(needed(alloc, "FONT", "The names of the font files").num_args(1..))?
         .arg(points_option(
             alloc,
+            "POINTS",
             "How many points may be made per font; without it, as many as the font asks for",
         ))?
         .arg(symbolic_option(alloc))?
         .arg(fail_on_option(alloc))?
-        .arg(json_option(alloc, "Prints an object of JSON for each font, in a line"))
+        .arg(expect_option(alloc))?
+        .arg(json_option(alloc, "Prints an object of JSON for each font, in a line"))?
+        .arg(causes_option(alloc))
 }
 
 /// Makes the argument that is an offset, which may be left out.
@@ -430,16 +475,19 @@ fn explain_command<'a>(alloc: Global) -> Result<Command<'a>, AllocError>
     ensures { IfOk result (λ c. app_of c ≡ explain) }
 {
     let (font, font_help) = FONT;
-    let (program, program_help) = PROGRAM;
     plain_command(alloc, EXPLAIN)
         .arg(needed(alloc, font, font_help))?
-        .arg(needed(alloc, program, program_help))?
+        .arg(Arg::new(alloc, "PROGRAM").help(
+            "The program: f, p, g12 or a glyph's name; without it, causes of the font's refusals",
+        ))?
         .arg(offset_argument(alloc))?
         .arg(points_option(
             alloc,
+            "POINTS",
             "How many points may be made; without it, as many as it takes",
         ))?
-        .arg(symbolic_option(alloc))
+        .arg(symbolic_option(alloc))?
+        .arg(json_option(alloc, "Prints an object of JSON"))
 }
 
 /// Makes the option `--numbers`.
@@ -546,41 +594,56 @@ fn optional_number(values: &ArgMatches<'_>, id: &str) -> Option<u32>
     values.get_one::<u32>(id)
 }
 
-/// Returns the limit of the points that the words give, if they give one.
-fn points(values: &ArgMatches<'_>) -> Option<u64>
-    requires { HasPoints (rows_in values.now) }
-    ensures { result ≡ points_in (rows_in values.now) }
+/// Returns the limit of the points that the words give the option, if they give one.
+fn points(values: &ArgMatches<'_>, id: &str) -> Option<u64>
+    requires { HasLongNumberIfAny (rows_in values.now) id.now }
+    ensures { result ≡ optional_number_in (rows_in values.now) id.now }
 {
-    values.get_one::<u64>("POINTS")
+    values.get_one::<u64>(id)
+}
+
+/// Whether the words give the option, which takes no value.
+fn is_given(values: &ArgMatches<'_>, id: &str) -> bool
+    requires { HasFlag (rows_in values.now) id.now }
+    ensures { result ≡ flag_in (rows_in values.now) id.now }
+{
+    values.get_flag(id)
 }
 
 /// Returns the profile that the words ask for.
 fn asked_profile(values: &ArgMatches<'_>) -> Profile
-    requires { HasProfile (rows_in values.now) }
+    requires { HasFlag (rows_in values.now) (codes "SYMBOLIC") }
     ensures { result ≡ profile_in (rows_in values.now) }
 {
-    if values.get_flag("SYMBOLIC") {
+    if is_given(values, "SYMBOLIC") {
         Profile::Symbolic
     } else {
         Profile::Strict
     }
 }
 
-/// Whether the words ask for objects of JSON.
-fn is_json_asked(values: &ArgMatches<'_>) -> bool
-    requires { HasFormat (rows_in values.now) }
-    ensures { result ≡ flag_in (rows_in values.now) (codes "JSON") }
-{
-    values.get_flag("JSON")
-}
-
-/// Returns the form in which the words ask for the answers.
+/// Returns the form in which the words ask for an explanation.
 fn asked_format(values: &ArgMatches<'_>) -> Format
-    requires { HasFormat (rows_in values.now) }
+    requires { HasFlag (rows_in values.now) (codes "JSON") }
     ensures { result ≡ format_in (rows_in values.now) }
 {
-    if is_json_asked(values) {
+    if is_given(values, "JSON") {
         Format::Json
+    } else {
+        Format::Lines
+    }
+}
+
+/// Returns the form in which the words ask for the answers of a scan.
+fn asked_scan_format(values: &ArgMatches<'_>) -> Format
+    requires json { HasFlag (rows_in values.now) (codes "JSON") }
+    requires causes { HasFlag (rows_in values.now) (codes "CAUSES") }
+    ensures { result ≡ scan_format_in (rows_in values.now) }
+{
+    if is_given(values, "JSON") {
+        Format::Json
+    } else if is_given(values, "CAUSES") {
+        Format::Causes
     } else {
         Format::Lines
     }
@@ -588,10 +651,10 @@ fn asked_format(values: &ArgMatches<'_>) -> Format
 
 /// Returns what the words ask to be listed of an instruction.
 fn asked_detail(values: &ArgMatches<'_>) -> Detail
-    requires { HasDetail (rows_in values.now) }
+    requires { HasFlag (rows_in values.now) (codes "NUMBERS") }
     ensures { result ≡ detail_in (rows_in values.now) }
 {
-    if values.get_flag("NUMBERS") {
+    if is_given(values, "NUMBERS") {
         Detail::Numbers
     } else {
         Detail::Names
@@ -624,8 +687,7 @@ fn asked_class(values: &ArgMatches<'_>) -> FailOn
 /// # Errors
 /// If memory runs out.
 fn bare_task(alloc: Global, values: &ArgMatches<'_>) -> Result<Task, AllocError>
-    requires numbers { HasNumbers (rows_in values.now) }
-    requires profile { HasProfile (rows_in values.now) }
+    requires { IsReadableBare (rows_in values.now) }
     ensures { IfOk result (λ t. asked t ≡ bare_request (rows_in values.now)) }
 {
     Ok(Task::Bare {
@@ -634,25 +696,7 @@ fn bare_task(alloc: Global, values: &ArgMatches<'_>) -> Result<Task, AllocError>
         points: number(values, "POINTS"),
         contours: number(values, "CONTOURS"),
         program: optional_text(alloc, values, "PROGRAM")?,
-        profile: asked_profile(values),
-    })
-}
-
-/// Returns the task of the subcommand `explain`.
-///
-/// # Errors
-/// If memory runs out.
-fn explain_task(alloc: Global, values: &ArgMatches<'_>) -> Result<Task, AllocError>
-    requires offset { HasOffset (rows_in values.now) }
-    requires points { HasPoints (rows_in values.now) }
-    requires profile { HasProfile (rows_in values.now) }
-    ensures { IfOk result (λ t. asked t ≡ explain_request (rows_in values.now)) }
-{
-    Ok(Task::Explain {
-        font: text(alloc, values, "FONT")?,
-        program: text(alloc, values, "PROGRAM")?,
-        offset: optional_number(values, "OFFSET"),
-        budget: points(values),
+        budget: points(values, "LIMIT"),
         profile: asked_profile(values),
     })
 }
@@ -669,24 +713,53 @@ fn one_text(alloc: Global, text: String) -> Result<Vec<String>, AllocError>
     Ok(texts)
 }
 
-/// Returns the task of the subcommand `verdict` with the option `--json`.
+/// Returns the task of telling the verdict on a font in an object.
 ///
 /// # Errors
 /// If memory runs out.
 fn json_task(alloc: Global, values: &ArgMatches<'_>) -> Result<Task, AllocError>
-    requires points { HasPoints (rows_in values.now) }
-    requires profile { HasProfile (rows_in values.now) }
+    requires { IsReadableVerdict (rows_in values.now) }
     ensures { IfOk result (λ t. asked t ≡ json_request (rows_in values.now)) }
 {
     let font = text(alloc, values, "FONT")?;
     Ok(Task::Scan {
         fonts: one_text(alloc, font)?,
         options: ScanOptions {
-            budget: points(values),
+            budget: points(values, "POINTS"),
             profile: asked_profile(values),
             fail_on: FailOn::Refused,
             format: Format::Json,
         },
+        expected: None,
+    })
+}
+
+/// Whether the words name a program.
+fn names_program(values: &ArgMatches<'_>) -> bool
+    ensures { result ≡ is_some (optional_in (rows_in values.now) (codes "PROGRAM")) }
+{
+    values.get_str("PROGRAM").is_some()
+}
+
+/// Returns the task of the subcommand `explain`. A font without a program of it is told in an object
+/// as `verdict` tells it.
+///
+/// # Errors
+/// If memory runs out.
+fn explain_task(alloc: Global, values: &ArgMatches<'_>) -> Result<Task, AllocError>
+    requires { IsReadableExplain (rows_in values.now) }
+    ensures { IfOk result (λ t. asked t ≡ explain_request (rows_in values.now)) }
+{
+    if is_given(values, "JSON") && !names_program(values) {
+        return json_task(alloc, values);
+    }
+    Ok(Task::Explain {
+        font: text(alloc, values, "FONT")?,
+        program: optional_text(alloc, values, "PROGRAM")?,
+        offset: optional_number(values, "OFFSET"),
+        budget: points(values, "POINTS"),
+        profile: asked_profile(values),
+        format: asked_format(values),
     })
 }
 
@@ -695,17 +768,15 @@ fn json_task(alloc: Global, values: &ArgMatches<'_>) -> Result<Task, AllocError>
 /// # Errors
 /// If memory runs out.
 fn verdict_task(alloc: Global, values: &ArgMatches<'_>) -> Result<Task, AllocError>
-    requires points { HasPoints (rows_in values.now) }
-    requires profile { HasProfile (rows_in values.now) }
-    requires format { HasFormat (rows_in values.now) }
+    requires { IsReadableVerdict (rows_in values.now) }
     ensures { IfOk result (λ t. asked t ≡ verdict_request (rows_in values.now)) }
 {
-    if is_json_asked(values) {
+    if is_given(values, "JSON") {
         return json_task(alloc, values);
     }
     Ok(Task::Verdict {
         font: text(alloc, values, "FONT")?,
-        budget: points(values),
+        budget: points(values, "POINTS"),
         profile: asked_profile(values),
     })
 }
@@ -715,19 +786,18 @@ fn verdict_task(alloc: Global, values: &ArgMatches<'_>) -> Result<Task, AllocErr
 /// # Errors
 /// If memory runs out.
 fn scan_task(alloc: Global, values: &ArgMatches<'_>) -> Result<Task, AllocError>
-    requires points { HasPoints (rows_in values.now) }
-    requires profile { HasProfile (rows_in values.now) }
-    requires format { HasFormat (rows_in values.now) }
+    requires { IsReadableScan (rows_in values.now) }
     ensures { IfOk result (λ t. asked t ≡ scan_request (rows_in values.now)) }
 {
     Ok(Task::Scan {
         fonts: all_texts(alloc, values, "FONT")?,
         options: ScanOptions {
-            budget: points(values),
+            budget: points(values, "POINTS"),
             profile: asked_profile(values),
             fail_on: asked_class(values),
-            format: asked_format(values),
+            format: asked_scan_format(values),
         },
+        expected: optional_text(alloc, values, "FILE")?,
     })
 }
 
@@ -742,7 +812,7 @@ fn find_task(alloc: Global, values: &ArgMatches<'_>) -> Result<Task, AllocError>
     Ok(Task::Find {
         font: text(alloc, values, "FONT")?,
         certificate: text(alloc, values, "CERT")?,
-        budget: points(values),
+        budget: points(values, "POINTS"),
     })
 }
 
@@ -757,7 +827,7 @@ fn check_task(alloc: Global, values: &ArgMatches<'_>) -> Result<Task, AllocError
     Ok(Task::Check {
         font: text(alloc, values, "FONT")?,
         certificate: text(alloc, values, "CERT")?,
-        budget: points(values),
+        budget: points(values, "POINTS"),
     })
 }
 
@@ -766,7 +836,7 @@ fn check_task(alloc: Global, values: &ArgMatches<'_>) -> Result<Task, AllocError
 /// # Errors
 /// If memory runs out.
 fn list_task(alloc: Global, values: &ArgMatches<'_>) -> Result<Task, AllocError>
-    requires { HasDetail (rows_in values.now) }
+    requires { HasFlag (rows_in values.now) (codes "NUMBERS") }
     ensures { IfOk result (λ t. asked t ≡ list_request (rows_in values.now)) }
 {
     Ok(Task::List {

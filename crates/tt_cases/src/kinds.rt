@@ -4,7 +4,7 @@ use crate::context::Context;
 use crate::lengths::lengths;
 use crate::words::Words;
 use crate::{
-    builders, families, files, fonts, orders, programs, sections, stacks, steps, symbolic,
+    builders, families, files, fonts, names, orders, programs, sections, stacks, steps, symbolic,
 };
 use anyhow::{Result, ensure};
 
@@ -57,6 +57,8 @@ fn answer_of_kind<K: Kinds>(
         "head" => sections::head(context, words),
         "read" => fonts::read(context, words),
         "limits_of" => fonts::limits_of(context, words),
+        "name" => names::name(context, words),
+        "named" => names::named(context, words),
         "compare" => files::compare(context, words),
         "size" => files::size(context, words),
         _ => answer_on_programs(kinds, context, kind, words),

@@ -3,48 +3,75 @@
 
 ghost use Rattle.std.specs.Prelude.{◌≡◌, ◌≢◌, ◌<◌, IfErr, IfOk, None, Ok, OnOk, option_map, string_bytes, unwrap_or, []};
 ghost use Rattle.hintcheck.specs.Commands.{IsNoWriteFault};
-ghost use Rattle.hintcheck.specs.CommandFaults.{IsFaultOfGlyph, SpellNoFault};
+ghost use Rattle.hintcheck.specs.CommandFaults.{IsFaultOfGlyph, IsWithin, SpellNoFault};
 ghost use Rattle.hintcheck.specs.MeansSafe.{SpellRefusedBy, SpellSafeBy, SpellVerdictBy};
 
 use super::faults::CommandFault;
-use hintcheck_fonts::bare_program::bare;
+use hintcheck_fonts::bare_program::{bare, bare_within};
 use hintcheck_fonts::report::Verdict;
-use hintcheck_fonts::symbolic_bare::bare_symbolic;
+use hintcheck_fonts::symbolic_bare::bare_symbolic_within;
+use hintcheck_fonts::symbolic_verdict::USUAL_STEPS;
 use hintcheck_words::{Profile, word_bytes};
 use std::alloc::Global;
+use tt_family::Budget;
 
-/// Returns the verdict of a profile on one glyph program against the limits of a `maxp` table: both
-/// are words of hexadecimal digits.
+/// What `bare` is given: a `maxp` table and a glyph program in words of hexadecimal digits, and how
+/// many control values, points and contours there are.
+#[derive(Clone, Copy)]
+pub(super) struct BareWords<'a> {
+    pub maxp: &'a str,
+    pub cvt: u16,
+    pub points: u16,
+    pub contours: u16,
+    pub program: &'a str,
+}
+
+/// Returns the verdict of a profile on one glyph program against the limits of a `maxp` table. The
+/// strict one makes at most this many points, and the search of the symbolic one this many steps,
+/// where they are bounded.
 pub(super) fn bare_verdict(
     alloc: Global,
-    maxp: &str,
-    cvt: u16,
-    points: u16,
-    contours: u16,
-    program: &str,
+    words: BareWords<'_>,
+    budget: Option<u64>,
     profile: Profile,
 ) -> Result<Verdict, CommandFault>
     ensures safe { IfOk result (λ verdict. verdict.refused ≡ []
-        → SpellSafeBy profile maxp.now cvt points contours program.now) }
+        → SpellSafeBy profile words.entry.maxp.now words.entry.cvt words.entry.points
+        words.entry.contours words.entry.program.now) }
     ensures refused { IfOk result (λ verdict. verdict.refused ≢ []
-        → SpellRefusedBy profile maxp.now cvt points contours program.now) }
-    ensures given { IfOk result
-        (SpellVerdictBy profile maxp.now cvt points contours program.now) }
+        → SpellRefusedBy profile words.entry.maxp.now words.entry.cvt words.entry.points
+        words.entry.contours words.entry.program.now) }
+    ensures given { IfOk result (SpellVerdictBy profile words.entry.maxp.now words.entry.cvt
+        words.entry.points words.entry.contours words.entry.program.now) }
     ensures fault { IfErr result IsNoWriteFault }
-    ensures faults { IfErr result (IsFaultOfGlyph maxp.now program.now) }
-    ensures none { OnOk result (SpellNoFault maxp.now program.now) }
+    ensures faults { IfErr result (λ fault. IsFaultOfGlyph
+        words.entry.maxp.now words.entry.program.now fault × IsWithin budget fault) }
+    ensures none { OnOk result (SpellNoFault words.entry.maxp.now words.entry.program.now) }
 {
-    let maxp = word_bytes(alloc, maxp).map_err(|fault| CommandFault::of_word(
+    let maxp = word_bytes(alloc, words.maxp).map_err(|fault| CommandFault::of_word(
         fault,
         CommandFault::MaxpWord,
     ))?;
-    let program = word_bytes(alloc, program).map_err(|fault| CommandFault::of_word(
+    let program = word_bytes(alloc, words.program).map_err(|fault| CommandFault::of_word(
         fault,
         CommandFault::ProgramWord,
     ))?;
-    match profile {
-        Profile::Strict => Ok(bare(alloc, &maxp, cvt, points, contours, &program)?),
-        Profile::Symbolic => Ok(bare_symbolic(alloc, &maxp, cvt, points, contours, &program)?),
+    let BareWords {
+        cvt,
+        points,
+        contours,
+        ..
+    } = words;
+    match (profile, budget) {
+        (Profile::Strict, None) => Ok(bare(alloc, &maxp, cvt, points, contours, &program)?),
+        (Profile::Strict, Some(most)) => {
+            let mut budget = Budget::of(most);
+            Ok(bare_within(alloc, &maxp, cvt, points, contours, &program, &mut budget)?)
+        }
+        (Profile::Symbolic, budget) => {
+            let steps = budget.unwrap_or(USUAL_STEPS);
+            Ok(bare_symbolic_within(alloc, &maxp, cvt, points, contours, &program, steps)?)
+        }
     }
 }
 

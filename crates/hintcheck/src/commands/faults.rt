@@ -3,6 +3,8 @@
 ghost use Rattle.std.specs.Prelude.{◌≡◌, ◌≤◌};
 ghost use Rattle.hintcheck.specs.Commands.{IsNoWriteFault, fault_of_word, status_of};
 ghost use Rattle.hintcheck.specs.Containers.{container_beside, container_of};
+ghost use Rattle.hintcheck.specs.Representation.ToldFaults.{is_of_font_file};
+ghost use Rattle.hintcheck.specs.Scans.{IsOfScan};
 
 use crate::neighbours::Neighbours;
 use hintcheck_explain::ExplainFault;
@@ -164,6 +166,13 @@ pub enum CommandFault {
     OffsetWord(Neighbours),
     /// The word for which programs a scan is to fail names no class of reasons.
     ClassWord,
+    /// The file of known refusals of a scan is one of its fonts.
+    ExpectedWord,
+    /// A font of a scan has a line feed in its name, so that no line of a file of known refusals
+    /// can name it.
+    FontWord,
+    /// The first line of the file of known refusals that names none: its number, counted from 1.
+    KnownLine(u64),
     /// The font's file is to be its certificate's.
     CertificateWord,
     /// The old certificate's file is to be the new one's.
@@ -208,10 +217,21 @@ impl fmt::Display for CommandFault {
             CommandFault::MaxpWord => write!(f, "words: MAXP"),
             CommandFault::ProgramWord => write!(f, "words: PROGRAM"),
             CommandFault::ProgramName => {
-                write!(f, "words: PROGRAM: f, p, or g and the number of a glyph")
+                write!(
+                    f,
+                    "words: PROGRAM: f, p, g and the number of a glyph, or its name"
+                )
             }
             CommandFault::OffsetWord(told) => write!(f, "words: OFFSET{told}"),
             CommandFault::ClassWord => write!(f, "words: CLASS"),
+            CommandFault::ExpectedWord => write!(f, "words: FILE: a font of the scan"),
+            CommandFault::FontWord => write!(f, "words: FONT: a line feed in the name"),
+            CommandFault::KnownLine(number) => {
+                write!(
+                    f,
+                    "44 FILE line {number}: not a number, a program and a font"
+                )
+            }
             CommandFault::CertificateWord => {
                 write!(f, "words: CERT: the font would be written over")
             }
@@ -377,6 +397,32 @@ impl CommandFault {
         match fault {
             WordFault::BadWord => bad,
             WordFault::OutOfMemory(AllocError) => CommandFault::OutOfMemory,
+        }
+    }
+
+    /// Whether the fault is of a kind that a font file has.
+    pub(super) fn is_of_font_file(&self) -> bool
+        ensures { result ≡ is_of_font_file self.now }
+    {
+        matches!(
+            self,
+            CommandFault::Font(_)
+                | CommandFault::Unopened(_)
+                | CommandFault::Read
+                | CommandFault::OutOfMemory
+                | CommandFault::Budget
+        )
+    }
+
+    /// Returns the fault that stands for this one once it is told in what is printed: its exit
+    /// status is the same.
+    pub(super) fn told(&self) -> CommandFault
+        ensures of_scan { IsOfScan result }
+        ensures status { status_of result ≡ status_of self.now }
+    {
+        match self.status() {
+            UNREADABLE => CommandFault::ScanFault,
+            _ => CommandFault::ScanUnfinished,
         }
     }
 

@@ -69,7 +69,7 @@ pub(super) fn of_certificate<R: Files>(rt: &R, name: &str, fault: CommandFault) 
 }
 
 /// Returns the bytes that are left in the file.
-fn read_file<F: Read + Drop>(alloc: Global, file: F) -> Result<Vec<u8>, CommandFault>
+pub(super) fn read_file<F: Read + Drop>(alloc: Global, file: F) -> Result<Vec<u8>, CommandFault>
     ensures read { IfOk result (λ bytes. HasAll (F.remaining file) bytes.items) }
     ensures fault { IfErr result IsNoWriteFault }
     ensures faults { IfErr result IsFaultOfReading }

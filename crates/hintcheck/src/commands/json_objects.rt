@@ -1,15 +1,18 @@
-//! The answers of a scan as objects of JSON (RFC 8259), one in a line.
+//! The answers of a scan, and explanations, as objects of JSON (RFC 8259), one in a line.
 
-ghost use Rattle.std.specs.Prelude.{◌≡◌, ◌++◌, codes, flat_map, IfErr, IfOk, OnOk, string_bytes};
+ghost use Rattle.std.specs.Prelude.{◌≡◌, ◌++◌, codes, flat_map, map, IfErr, IfOk, OnOk, string_bytes};
+ghost use Rattle.std.specs.Str.Lines.{lines};
 ghost use Rattle.std.specs.Io.KnownBytes.{Appends};
 ghost use Rattle.json.specs.Print.{quoted};
 ghost use Rattle.tt_stream.specs.Streams.{CountsPrintFailure};
-ghost use Rattle.hintcheck.specs.Commands.{TellsFailure, status_of};
+ghost use Rattle.hintcheck.specs.Commands.{TellsFailure};
 ghost use Rattle.hintcheck.specs.CommandFaults.{IsFaultOfFontFile, IsFaultOfLines};
-ghost use Rattle.hintcheck.specs.JsonObjects.{beginning, fault_members, fault_object, next_object, profile_name, refused_object, refused_objects, verdict_members};
+ghost use Rattle.hintcheck.specs.JsonObjects.{beginning, explanation_object, fault_object, lines_member, next_object, next_string, profile_name, program_member, refusal_member, refused_object, refused_objects, strings, unread_object, verdict_members};
 
 use super::faults::{CommandFault, Numbered};
 use super::scan_task::text_of_class;
+use crate::explanation::exit_status;
+use hintcheck_explain::Explained;
 use hintcheck_fonts::report::{Refused, Verdict};
 use hintcheck_words::Profile;
 use serde_json::Value;
@@ -182,8 +185,7 @@ pub(super) fn print_fault_object<O: Sink>(
 ) -> Result<(), CommandFault>
     requires { IsFaultOfFontFile fault.now }
     ensures written { OnOk result (Appends (O.contents out.old) (O.contents out.new)
-        (beginning name.now profile (status_of fault.now)
-        ++ (fault_members fault.now ++ codes "}\n"))) }
+        (unread_object name.now profile fault.now)) }
     ensures failures { TellsFailure result (O.failures out.old) (O.failures out.new) }
     ensures faults { IfErr result IsFaultOfLines }
 {
@@ -192,4 +194,133 @@ pub(super) fn print_fault_object<O: Sink>(
     print_fault(out, fault)?;
     writeln!(out, "}}")?;
     Ok(())
+}
+
+/// Prints a text as a string.
+fn print_string<O: Sink>(alloc: Global, out: &mut O, text: &str) -> Result<(), CommandFault>
+    ensures written { OnOk result
+        (Appends (O.contents out.old) (O.contents out.new) (quoted text.now)) }
+    ensures failures { TellsFailure result (O.failures out.old) (O.failures out.new) }
+    ensures faults { IfErr result IsFaultOfLines }
+{
+    let Ok(string) = quoted_text(alloc, text) else {
+        return Err(CommandFault::OutOfMemory);
+    };
+    write!(out, "{string}")?;
+    Ok(())
+}
+
+/// Prints a text as a string that comes after another.
+#[tactic(auto, unfolding(crate::specs::JsonObjects::next_string))]
+fn print_next_string<O: Sink>(alloc: Global, out: &mut O, text: &str) -> Result<(), CommandFault>
+    ensures written { OnOk result
+        (Appends (O.contents out.old) (O.contents out.new) (next_string text.now)) }
+    ensures failures { TellsFailure result (O.failures out.old) (O.failures out.new) }
+    ensures faults { IfErr result IsFaultOfLines }
+{
+    write!(out, ",")?;
+    print_string(alloc, out, text)
+}
+
+/// Prints the texts that come after the first one, as strings.
+fn print_other_strings<O: Sink>(
+    alloc: Global,
+    out: &mut O,
+    others: &[&str],
+) -> Result<(), CommandFault>
+    ensures written { OnOk result (Appends (O.contents out.old) (O.contents out.new)
+        (flat_map (λ text. next_string text.now) others.now)) }
+    ensures failures { TellsFailure result (O.failures out.old) (O.failures out.new) }
+    ensures faults { IfErr result IsFaultOfLines }
+{
+    for text in others {
+        print_next_string(alloc, out, text)?;
+    }
+    Ok(())
+}
+
+/// Prints texts as strings, with commas between them.
+fn print_strings<O: Sink>(alloc: Global, out: &mut O, texts: &[&str]) -> Result<(), CommandFault>
+    ensures written { OnOk result (Appends (O.contents out.old) (O.contents out.new)
+        (strings (map (λ text. text.now) texts.now))) }
+    ensures failures { TellsFailure result (O.failures out.old) (O.failures out.new) }
+    ensures faults { IfErr result IsFaultOfLines }
+{
+    let Some((first, others)) = texts.split_first() else {
+        return Ok(());
+    };
+    print_string(alloc, out, first)?;
+    print_other_strings(alloc, out, others)
+}
+
+/// Returns the lines of a text.
+fn lines_of(alloc: Global, text: &str) -> Result<Vec<&str>, AllocError>
+    ensures { IfOk result (λ found. map (λ line. line.now) found.items ≡ lines text.now) }
+{
+    text.lines().collect(alloc)
+}
+
+/// Prints which program is explained.
+fn print_program<O: Sink>(alloc: Global, out: &mut O, word: &str) -> Result<(), CommandFault>
+    ensures written { OnOk result
+        (Appends (O.contents out.old) (O.contents out.new) (program_member word.now)) }
+    ensures failures { TellsFailure result (O.failures out.old) (O.failures out.new) }
+    ensures faults { IfErr result IsFaultOfLines }
+{
+    write!(out, "\"program\":")?;
+    print_string(alloc, out, word)?;
+    write!(out, ",")?;
+    Ok(())
+}
+
+/// Prints how a program is refused, if it is.
+fn print_refusal<O: Sink>(out: &mut O, explained: Explained) -> Result<(), PrintFailed>
+    ensures written { OnOk result
+        (Appends (O.contents out.old) (O.contents out.new) (refusal_member explained)) }
+    ensures failures { CountsPrintFailure result (O.failures out.old) (O.failures out.new) }
+{
+    let Explained::Refused(refused) = explained else {
+        return Ok(());
+    };
+    write!(out, "\"refused\":")?;
+    print_refused(out, &refused)?;
+    write!(out, ",")
+}
+
+/// Prints the lines of an explanation, and the object's end.
+fn print_lines<O: Sink>(alloc: Global, out: &mut O, text: &str) -> Result<(), CommandFault>
+    ensures written { OnOk result
+        (Appends (O.contents out.old) (O.contents out.new) (lines_member (lines text.now))) }
+    ensures failures { TellsFailure result (O.failures out.old) (O.failures out.new) }
+    ensures faults { IfErr result IsFaultOfLines }
+{
+    let Ok(texts) = lines_of(alloc, text) else {
+        return Err(CommandFault::OutOfMemory);
+    };
+    write!(out, "\"lines\":[")?;
+    print_strings(alloc, out, texts.as_slice())?;
+    writeln!(out, "]}}")?;
+    Ok(())
+}
+
+/// Prints the object of an explanation with this text: of the program that the word names in the
+/// font file with this name.
+pub(super) fn print_explanation_object<O: Sink>(
+    alloc: Global,
+    out: &mut O,
+    name: &str,
+    profile: Profile,
+    word: &str,
+    explained: Explained,
+    text: &str,
+) -> Result<(), CommandFault>
+    ensures written { OnOk result (Appends (O.contents out.old) (O.contents out.new)
+        (explanation_object name.now profile word.now explained text.now)) }
+    ensures failures { TellsFailure result (O.failures out.old) (O.failures out.new) }
+    ensures faults { IfErr result IsFaultOfLines }
+{
+    print_beginning(alloc, out, name, profile, exit_status(explained))?;
+    print_program(alloc, out, word)?;
+    print_refusal(out, explained)?;
+    print_lines(alloc, out, text)
 }

@@ -1,16 +1,20 @@
 //! The subcommand `scan`: the verdicts on font files, a line or an object for each.
 
-ghost use Rattle.std.specs.Prelude.{◌≡◌, ◌≢◌, ◌⊎◌, ◌+◌, ◌≤◌, ◌<◌, All, codes, IfErr, IfOk, List, [], ◌∷◌, ◌++◌, OnOk, map, string_bytes, ℕ};
+ghost use Rattle.std.specs.Prelude.{◌≡◌, ◌≢◌, ◌⊎◌, ◌+◌, ◌≤◌, ◌<◌, codes, IfErr, IfOk, [], ◌∷◌, ◌++◌, OnOk, map, option_map, string_bytes};
 ghost use Rattle.std.specs.Io.KnownBytes.{Appends};
 ghost use Rattle.tt_code.specs.Refusals.{class_of};
 ghost use Rattle.tt_stream.specs.Streams.{CountsPrintFailure};
 ghost use Rattle.hintcheck.specs.Commands.{TellsFailure, status_of};
-ghost use Rattle.hintcheck.specs.CommandFaults.{IsFaultOfFontFile, IsFaultOfPrinting, IsFaultOfScan, IsFaultOfTelling};
-ghost use Rattle.hintcheck.specs.MeansSafe.{HoldFailing, HoldPassing, TellsFonts};
+ghost use Rattle.hintcheck.specs.CommandFaults.{HasNoFaultOfScan, IsFaultOfFontFile, IsFaultOfLines, IsFaultOfPrinting, IsFaultOfScanning, IsFaultOfTelling};
+ghost use Rattle.hintcheck.specs.ExpectedScans.{PrintsScanning};
+ghost use Rattle.hintcheck.specs.MeansSafe.{IsRefusedScan, IsSafeScan, TellsFonts, TellsScan};
 ghost use Rattle.hintcheck.specs.RefusalClasses.{class_text, number_failing, number_of_class};
-ghost use Rattle.hintcheck.specs.Scans.{IsOfScan, PrintsScan, counts_text, judged, left_out_text, line_of, status_of_answer, status_of_failing, text_of, unread};
+ghost use Rattle.hintcheck.specs.Representation.Expectations.{IsFaultOfNoting, NotesScan, expected as expected_by};
+ghost use Rattle.hintcheck.specs.Scans.{IsOfScan, TellsFont, TellsLineAndCauses, counts_text, judged, left_out_text, line_of, status_of_answer, status_of_failing, unread};
 ghost use Rattle.hintcheck.specs.Texts.{profile_text};
 
+use super::cause_lines::print_causes;
+use super::expectation::Expectation;
 use super::faults::CommandFault;
 use super::json_objects::{print_fault_object, print_verdict_object};
 use super::scan_summary::{Tally, tell_summary};
@@ -94,7 +98,7 @@ fn print_line<O: Sink>(
     profile: Profile,
 ) -> Result<(), PrintFailed>
     ensures written { OnOk result (Appends (O.contents out.old) (O.contents out.new)
-        (line_of profile (record { name = name.now; answer = judged verdict.now }))) }
+        (line_of profile name.now (judged verdict.now))) }
     ensures failures { CountsPrintFailure result (O.failures out.old) (O.failures out.new) }
 {
     let programs = verdict.programs();
@@ -132,6 +136,25 @@ fn verdict_status(verdict: &Verdict, fail_on: FailOn) -> u8
     }
 }
 
+/// Prints the line of a font, whose verdict is one of this profile, and a line for each cause for
+/// which its programs are refused.
+fn print_with_causes<O: Sink>(
+    alloc: Global,
+    out: &mut O,
+    name: &str,
+    verdict: &Verdict,
+    profile: Profile,
+) -> Result<(), CommandFault>
+    ensures written { OnOk result (TellsLineAndCauses profile name.now verdict.now
+        (O.contents out.old) (O.contents out.new)) }
+    ensures failures { TellsFailure result (O.failures out.old) (O.failures out.new) }
+    ensures faults { IfErr result IsFaultOfLines }
+{
+    print_line(out, name, verdict, profile)?;
+    print_causes(alloc, out, verdict.refused())?;
+    Ok(())
+}
+
 /// Prints what these options ask for of the font file with this name and this verdict, which gives
 /// the exit status.
 fn tell_judged<O: Sink>(
@@ -143,13 +166,14 @@ fn tell_judged<O: Sink>(
     status: u8,
 ) -> Result<(), CommandFault>
     requires { status ≡ status_of_answer options.fail_on (judged verdict.now) }
-    ensures written { OnOk result (Appends (O.contents out.old) (O.contents out.new)
-        (text_of options (record { name = name.now; answer = judged verdict.now }))) }
+    ensures written { OnOk result (TellsFont options name.now (judged verdict.now)
+        (O.contents out.old) (O.contents out.new)) }
     ensures failures { TellsFailure result (O.failures out.old) (O.failures out.new) }
     ensures faults { IfErr result (IsFaultOfTelling options) }
 {
     match options.format {
         Format::Lines => Ok(print_line(out, name, verdict, options.profile)?),
+        Format::Causes => print_with_causes(alloc, out, name, verdict, options.profile),
         Format::Json => print_verdict_object(alloc, out, name, verdict, options.profile, status),
     }
 }
@@ -163,36 +187,39 @@ fn tell_unread<O: Sink>(
     options: ScanOptions,
 ) -> Result<(), CommandFault>
     requires { IsFaultOfFontFile fault.now }
-    ensures written { OnOk result (Appends (O.contents out.old) (O.contents out.new)
-        (text_of options (record { name = name.now; answer = unread fault.now }))) }
+    ensures written { OnOk result (TellsFont options name.now (unread fault.now)
+        (O.contents out.old) (O.contents out.new)) }
     ensures failures { TellsFailure result (O.failures out.old) (O.failures out.new) }
     ensures faults { IfErr result (IsFaultOfTelling options) }
 {
     match options.format {
-        Format::Lines => Ok(writeln!(out, "{name}: fault: {fault}")?),
+        Format::Lines | Format::Causes => Ok(writeln!(out, "{name}: fault: {fault}")?),
         Format::Json => print_fault_object(alloc, out, name, fault, options.profile),
     }
 }
 
-/// Prints what is told of the font file with this name, counts it, and returns its exit status: that
-/// of its verdict, or of the fault.
+/// Prints what is told of the font file with this name, counts it, notes its refused programs, and
+/// returns its exit status: that of its verdict, or of the fault.
 fn scan_font<R: Files + AllocGlobal, O: Sink>(
     rt: &R,
     name: &str,
     options: ScanOptions,
+    expectation: &mut Expectation<'_>,
     tally: &mut Tally,
     out: &mut O,
 ) -> Result<u8, CommandFault>
     ensures tells { IfOk result (TellsFonts options (name.now ∷ [])) }
-    ensures printed { IfOk result (λ status. PrintsScan options (name.now ∷ [])
-        status (O.contents out.old) (O.contents out.new)) }
+    ensures printed { IfOk result (λ status. NotesScan options (name.now ∷ [])
+        status (O.contents out.old) (O.contents out.new)
+        (expected_by expectation.old) (expected_by expectation.new)) }
     ensures failures { TellsFailure result (O.failures out.old) (O.failures out.new) }
-    ensures faults { IfErr result (IsFaultOfTelling options) }
+    ensures faults { IfErr result (IsFaultOfNoting options (expected_by expectation.old)) }
 {
     match file_verdict(rt, name, options.budget, options.profile) {
         Ok(verdict) => {
             let status = verdict_status(&verdict, options.fail_on);
             tell_judged(rt.alloc(), out, name, &verdict, options, status)?;
+            expectation.note(rt.alloc(), name, verdict.refused(), options.fail_on)?;
             tally.count_verdict(verdict.accepted());
             Ok(status)
         }
@@ -205,71 +232,129 @@ fn scan_font<R: Files + AllocGlobal, O: Sink>(
 }
 
 /// Prints what is told of each of the font files with these names, and then to `err` how many came to
-/// which end; returns the greatest exit status of them: 0 where the scan fails for no program, 1
-/// where it fails for one.
+/// which end; notes their refused programs, and returns the greatest exit status of them: 0 where the
+/// scan fails for no program, known or not, 1 where it fails for one.
 fn scan_all<R: Files + AllocGlobal, O: Sink, E: Sink>(
     rt: &R,
     fonts: &[String],
     options: ScanOptions,
+    expectation: &mut Expectation<'_>,
     out: &mut O,
     err: &mut E,
 ) -> Result<u8, CommandFault>
     ensures tells { IfOk result (TellsFonts options (map (λ s. string_bytes s) fonts.now)) }
     ensures printed { IfOk result (λ status.
-        PrintsScan options (map (λ s. string_bytes s) fonts.now)
-        status (O.contents out.old) (O.contents out.new)) }
+        NotesScan options (map (λ s. string_bytes s) fonts.now)
+        status (O.contents out.old) (O.contents out.new)
+        (expected_by expectation.old) (expected_by expectation.new)) }
     ensures failures { TellsFailure result (O.failures out.old) (O.failures out.new) }
-    ensures faults { IfErr result (IsFaultOfTelling options) }
+    ensures faults { IfErr result (IsFaultOfNoting options (expected_by expectation.old)) }
     ensures untold { E.failures err.old ≤ E.failures err.new }
 {
     let mut tally = Tally::default();
     let mut greatest = ACCEPTED;
     for font in fonts {
-        let status = scan_font(rt, font, options, &mut tally, out)?;
+        let status = scan_font(rt, font, options, expectation, &mut tally, out)?;
         greatest = greatest.max(status);
     }
-    tell_summary(err, fonts.len(), tally, options.format);
+    tell_summary(err, fonts.len(), tally, expectation.known(), options.format);
     Ok(greatest)
 }
 
-/// Prints a line or an object for each of the font files with these names, and to `err` a line that
-/// counts them, except in the form JSON; returns the greatest exit status of them: 0 where the scan
-/// fails for no program, 1 where it fails for one. That the counts can't be printed is not told.
+/// Scans the font files with these names, where the refused programs that the file with the second
+/// name holds are known, if one is named. That file is read before them; where it doesn't exist, it
+/// is written after them. Returns the greatest exit status: 0 where the scan fails for no program
+/// that isn't known, 1 where it fails for one.
+fn scan_expecting<R: Files + AllocGlobal, O: Sink, E: Sink>(
+    rt: &R,
+    fonts: &[String],
+    options: ScanOptions,
+    expected: Option<&str>,
+    out: &mut O,
+    err: &mut E,
+) -> Result<u8, CommandFault>
+    requires { options.fail_on ≢ FailOn.Unknown }
+    ensures tells { IfOk result (TellsScan options (map (λ s. string_bytes s) fonts.now)
+        (option_map (λ name. name.now) expected.entry)) }
+    ensures printed { IfOk result (λ status.
+        PrintsScanning options (map (λ s. string_bytes s) fonts.now)
+        (option_map (λ name. name.now) expected.entry)
+        status (O.contents out.old) (O.contents out.new)) }
+    ensures failures { TellsFailure result (O.failures out.old) (O.failures out.new) }
+    ensures faults { IfErr result (λ fault. IsFaultOfScanning options
+        (option_map (λ name. name.now) expected.entry) fault
+        ⊎ (HasNoFaultOfScan options (map (λ s. string_bytes s) fonts.now)
+        (option_map (λ name. name.now) expected.entry) × IsFaultOfPrinting fault)) }
+    ensures none { OnOk result (HasNoFaultOfScan options (map (λ s. string_bytes s) fonts.now)
+        (option_map (λ name. name.now) expected.entry)) }
+    ensures unscanned { IfErr result (λ fault. IsOfScan fault → ⊥) }
+    ensures untold { E.failures err.old ≤ E.failures err.new }
+{
+    let mut expectation = Expectation::of(rt, fonts, expected)?;
+    let greatest = scan_all(rt, fonts, options, &mut expectation, out, err)?;
+    expectation.settle(rt, greatest)
+}
+
+/// Returns the name of the file of known refusals, if one is named.
+fn name_in(expected: &Option<String>) -> Option<&str>
+    ensures { option_map (λ name. name.now) result
+        ≡ option_map (λ s. string_bytes s) expected.now }
+{
+    match expected {
+        Some(name) => Some(name.as_str()),
+        None => None,
+    }
+}
+
+/// Prints a line or an object for each of the font files with these names, in the form Causes with
+/// the lines of its causes, and to `err` a line that counts them, except in the form JSON; returns
+/// the greatest exit status of them: 0 where the scan fails for no program, 1 where it fails for
+/// one. It doesn't fail for the refused programs that the file of known refusals holds, if one is
+/// named; where that file doesn't exist, it is written with all for which the scan would fail. That
+/// the counts can't be printed is not told.
 ///
 /// # Errors
 /// `ClassWord` where the word for which programs the scan is to fail names none, and nothing is
-/// printed then; `Write` exactly where a write to `out` failed; `OutOfMemory` where memory ran out
-/// at an object; after the last line, `ScanFault` where the greatest status is 2, and
-/// `ScanUnfinished` where it is 3.
+/// printed then, nor for the faults of `Expectation::of`; `Write` exactly where a write to `out`
+/// failed; `OutOfMemory` where memory ran out at an object, at causes or at the line of a refused
+/// program; after the last line, `File` where the file of known refusals can't be written,
+/// `ScanFault` where the greatest status is 2, and `ScanUnfinished` where it is 3.
 pub(super) fn scan_fonts<R: Files + AllocGlobal, O: Sink, E: Sink>(
     rt: &R,
     fonts: &[String],
     options: ScanOptions,
+    expected: &Option<String>,
     out: &mut O,
     err: &mut E,
 ) -> Result<u8, CommandFault>
     ensures status { IfOk result (λ status. status ≤ 1) }
-    ensures safe { IfOk result (λ status. status ≡ 0 → All
-        (λ font. (bytes : List ℕ) × HoldPassing options.fail_on options.profile bytes)
-        (map (λ s. string_bytes s) fonts.now)) }
+    ensures safe { IfOk result (λ status. status ≡ 0
+        → IsSafeScan options (map (λ s. string_bytes s) fonts.now)
+        (option_map (λ s. string_bytes s) expected.now)) }
     ensures refused { IfOk result (λ status. status ≡ 1
-        → (bytes : List ℕ) × HoldFailing options.fail_on options.profile bytes) }
+        → IsRefusedScan options (map (λ s. string_bytes s) fonts.now)
+        (option_map (λ s. string_bytes s) expected.now)) }
     ensures printed { IfOk result (λ status.
-        PrintsScan options (map (λ s. string_bytes s) fonts.now)
+        PrintsScanning options (map (λ s. string_bytes s) fonts.now)
+        (option_map (λ s. string_bytes s) expected.now)
         status (O.contents out.old) (O.contents out.new)) }
     ensures scanned { IfErr result (λ fault. IsOfScan fault
-        → PrintsScan options (map (λ s. string_bytes s) fonts.now) (status_of fault)
+        → PrintsScanning options (map (λ s. string_bytes s) fonts.now)
+        (option_map (λ s. string_bytes s) expected.now) (status_of fault)
         (O.contents out.old) (O.contents out.new)) }
     ensures failures { TellsFailure result (O.failures out.old) (O.failures out.new) }
-    ensures faults { IfErr result (λ fault. IsFaultOfScan options fault
-        ⊎ (options.fail_on ≢ FailOn.Unknown × IsFaultOfPrinting fault)) }
-    ensures none { OnOk result (options.fail_on ≢ FailOn.Unknown) }
+    ensures faults { IfErr result (λ fault. IsFaultOfScanning options
+        (option_map (λ s. string_bytes s) expected.now) fault
+        ⊎ (HasNoFaultOfScan options (map (λ s. string_bytes s) fonts.now)
+        (option_map (λ s. string_bytes s) expected.now) × IsFaultOfPrinting fault)) }
+    ensures none { OnOk result (HasNoFaultOfScan options (map (λ s. string_bytes s) fonts.now)
+        (option_map (λ s. string_bytes s) expected.now)) }
     ensures untold { E.failures err.old ≤ E.failures err.new }
 {
     if let FailOn::Unknown = options.fail_on {
         return Err(CommandFault::ClassWord);
     }
-    match scan_all(rt, fonts, options, out, err)? {
+    match scan_expecting(rt, fonts, options, name_in(expected), out, err)? {
         0 => Ok(ACCEPTED),
         1 => Ok(REFUSED),
         2 => Err(CommandFault::ScanFault),

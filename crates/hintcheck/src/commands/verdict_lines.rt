@@ -40,7 +40,7 @@ fn print_verdict<O: Sink>(
 }
 
 /// Prints the last line of the verdict of a profile.
-fn print_last_line<O: Sink>(
+pub(super) fn print_last_line<O: Sink>(
     out: &mut O,
     verdict: &Verdict,
     profile: Profile,

@@ -6,10 +6,9 @@ ghost use Rattle.hintcheck.specs.CommandFaults.{IsFaultOfFontFile, IsFaultOfSour
 ghost use Rattle.hintcheck.specs.MeansSafe.{HoldRefusedBy, HoldSafeBy, IsVerdictBy};
 ghost use Rattle.hintcheck_fonts.specs.FontAnswers.{IsSymbolicVerdictOn, IsVerdictOn};
 
-use super::faults::{CommandFault, Numbered};
+use super::faults::CommandFault;
 use super::files::opened;
-use crate::font_file::{symbolic_verdict_in, verdict_in};
-use hintcheck_fonts::font::{VerdictFault, verdict_within};
+use crate::font_file::{symbolic_verdict_in, verdict_in, verdict_in_budget};
 use hintcheck_fonts::report::Verdict;
 use hintcheck_words::Profile;
 use std::alloc::Global;
@@ -57,11 +56,7 @@ fn verdict_within_points<S: Source>(
         return verdict_of(alloc, source);
     };
     let bytes = read_all(alloc, source)?;
-    match verdict_within(alloc, &bytes, &mut Budget::of(most)) {
-        Ok(verdict) => Ok(verdict),
-        Err(VerdictFault::Font(fault)) => Err(CommandFault::Font(Numbered::of(fault, &bytes))),
-        Err(VerdictFault::Budget) => Err(CommandFault::Budget),
-    }
+    verdict_in_budget(alloc, &bytes, &mut Budget::of(most))
 }
 
 /// Returns the verdict by symbolic states on all programs of the font whose bytes are all that is

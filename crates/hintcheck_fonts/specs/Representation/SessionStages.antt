@@ -19,7 +19,6 @@ use Rattle.hintcheck_fonts.specs.Representation.ReadProgress.{input_from}
 use Rattle.hintcheck_fonts.specs.Sessions.{AnswersAt, IsFaultAt, Stage, Standing, after_font, at_glyph, at_start, over, standing_at}
 use Rattle.hintcheck_fonts.specs.declared.programs.Programs.{Programs}
 use Rattle.hintcheck_fonts.specs.declared.font_check.CheckFontFault.{CheckFontFault}
-use Rattle.hintcheck_fonts.specs.declared.font_check.CheckFontFault.TheVariants as fault
 use Rattle.hintcheck_fonts.specs.declared.sections.Progress.{Progress}
 use Rattle.hintcheck_report.specs.declared.refused.Refused.{Refused}
 use Rattle.hintcheck_fonts.specs.declared.session.Outcome.{Outcome}

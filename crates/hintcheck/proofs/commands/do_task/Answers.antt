@@ -4,6 +4,7 @@ use Rattle.std.specs.Io.KnownBytes.{Appends}
 use Rattle.std.proofs.lemmas.Result.{IfErr-weaker, IfOk-weaker, on_ok_weaker}
 use Rattle.hintcheck_words.specs.Requests.{asked}
 use Rattle.hintcheck_words.specs.declared.words.Detail.{Detail}
+use Rattle.hintcheck_words.specs.declared.words.Format.{Format}
 use Rattle.hintcheck_words.specs.declared.words.Profile.{Profile}
 use Rattle.hintcheck_words.specs.declared.words.ScanOptions.{ScanOptions}
 use Rattle.hintcheck_words.specs.declared.words.Task.{Task}
@@ -15,13 +16,13 @@ use Rattle.hintcheck.proofs.PrintedLemmas.{prints_for_verdict, prints_upgrade, p
 use Rattle.hintcheck.proofs.ScanFaults.{passed_no_scan, printing_no_scan, task_no_scan, verdict_no_scan}
 use Rattle.hintcheck.proofs.commands.do_task.Goals as goal
 
-for_verdict : (t : Task) → ((fonts : Vec (String Global) Global) (options : ScanOptions) → t ≡ task.Scan fonts options → ⊥) → ((font program : String Global) (offset budget : Option ℕ) (profile : Profile) → t ≡ task.Explain font program offset budget profile → ⊥)
+for_verdict : (t : Task) → ((fonts : Vec (String Global) Global) (options : ScanOptions) (expected : Option (String Global)) → t ≡ task.Scan fonts options expected → ⊥) → ((font : String Global) (program : Option (String Global)) (offset budget : Option ℕ) (profile : Profile) (format : Format) → t ≡ task.Explain font program offset budget profile format → ⊥)
     → ((font program : String Global) (detail : Detail) → t ≡ task.List font program detail → ⊥) → ((old new : String Global) → t ≡ task.Upgrade old new → ⊥) → IsForVerdict (asked t)
 unfolding asked
-for_verdict (task.Bare maxp cvt points contours program profile) scan explain other another = tt
+for_verdict (task.Bare maxp cvt points contours program budget profile) scan explain other another = tt
 for_verdict (task.Verdict font budget profile) scan explain other another = tt
-for_verdict (task.Scan fonts options) scan explain other another = absurd (scan fonts options refl)
-for_verdict (task.Explain font program offset budget profile) scan explain other another = absurd (explain font program offset budget profile refl)
+for_verdict (task.Scan fonts options expected) scan explain other another = absurd (scan fonts options expected refl)
+for_verdict (task.Explain font program offset budget profile format) scan explain other another = absurd (explain font program offset budget profile format refl)
 for_verdict (task.Find font certificate budget) scan explain other another = tt
 for_verdict (task.Check font certificate budget) scan explain other another = tt
 for_verdict (task.List font program detail) scan explain other another = absurd (other font program detail refl)
@@ -36,7 +37,7 @@ returns-in-Scan-clause-safe g c = IfOk-weaker c.scan_fonts.result _ _ (λ status
 
 pub returns-in-Scan-clause-refused : goal.returns-in-Scan-clause-refused
 unfolding asked
-returns-in-Scan-clause-refused g c = IfOk-weaker c.scan_fonts.result _ _ (λ status refused one. rw c.in-Scan.is (refused one)) c.scan_fonts.ensures.refused
+returns-in-Scan-clause-refused g c = IfOk-weaker c.scan_fonts.result _ _ (λ status refused one. rw c.in-Scan.is (rw (← c.deref.ensures.value) (refused one))) c.scan_fonts.ensures.refused
 
 pub returns-in-Scan-clause-printed : goal.returns-in-Scan-clause-printed
 unfolding asked
@@ -49,40 +50,38 @@ returns-in-Scan-clause-scanned g c = IfErr-weaker c.scan_fonts.result _ _ (λ to
 pub returns-in-Scan-clause-faults : goal.returns-in-Scan-clause-faults
 unfolding asked
 returns-in-Scan-clause-faults g c =
-    IfErr-weaker c.scan_fonts.result _ _ (λ told is. rw c.in-Scan.is is) c.scan_fonts.ensures.faults
+    IfErr-weaker c.scan_fonts.result _ _ (λ told is. rw c.in-Scan.is (rw (← c.deref.ensures.value) is)) c.scan_fonts.ensures.faults
 
 pub returns-in-Scan-clause-none : goal.returns-in-Scan-clause-none
 unfolding asked
-returns-in-Scan-clause-none g c = on_ok_weaker c.scan_fonts.result (λ none. rw c.in-Scan.is none) c.scan_fonts.ensures.none
+returns-in-Scan-clause-none g c = on_ok_weaker c.scan_fonts.result (λ none. rw c.in-Scan.is (rw (← c.deref.ensures.value) none)) c.scan_fonts.ensures.none
 
 pub returns-in-Explain-clause-safe : goal.returns-in-Explain-clause-safe
 unfolding asked
-returns-in-Explain-clause-safe g c =
-    IfOk-weaker c.explain_of_file.result _ _ (λ status accepted zero. rw c.in-Explain.is (rw (← c.deref-in-Explain-2.ensures) (accepted zero))) c.explain_of_file.ensures.accepted
+returns-in-Explain-clause-safe g c = IfOk-weaker c.tell_explanation.result _ _ (λ status safe zero. rw c.in-Explain.is (rw (← c.deref-in-Explain.ensures) (safe zero))) c.tell_explanation.ensures.safe
 
 pub returns-in-Explain-clause-refused : goal.returns-in-Explain-clause-refused
 unfolding asked
 returns-in-Explain-clause-refused g c =
-    IfOk-weaker c.explain_of_file.result _ _ (λ status refused one. rw c.in-Explain.is (rw (← c.deref-in-Explain-2.ensures) (refused one))) c.explain_of_file.ensures.refused
+    IfOk-weaker c.tell_explanation.result _ _ (λ status refused one. rw c.in-Explain.is (rw (← c.deref-in-Explain.ensures) (refused one))) c.tell_explanation.ensures.refused
 
 pub returns-in-Explain-clause-printed : goal.returns-in-Explain-clause-printed
 unfolding asked
-returns-in-Explain-clause-printed g c = IfOk-weaker c.explain_of_file.result _ _ (λ status few. rw c.in-Explain.is tt) c.explain_of_file.ensures.status
-
-pub returns-in-Explain-clause-faults : goal.returns-in-Explain-clause-faults
-unfolding asked
-returns-in-Explain-clause-faults g c =
-    IfErr-weaker c.explain_of_file.result _ _ (λ told is. inl (rw c.in-Explain.is (rw (← c.deref-in-Explain-2.ensures) is))) c.explain_of_file.ensures.faults
+returns-in-Explain-clause-printed g c =
+    IfOk-weaker c.tell_explanation.result _ _ (λ status printed. rw c.in-Explain.is (rw (← c.deref-in-Explain.ensures) printed)) c.tell_explanation.ensures.printed
 
 pub returns-in-Explain-clause-scanned : goal.returns-in-Explain-clause-scanned
 unfolding asked
 returns-in-Explain-clause-scanned g c =
-    IfErr-weaker c.explain_of_file.result _ _ (λ told is of. absurd (task_no_scan (asked c.args.task.now) told (rw c.in-Explain.is tt) is of)) (returns-in-Explain-clause-faults g c)
+    IfErr-weaker c.tell_explanation.result _ _ (λ told scanned of. rw c.in-Explain.is (rw (← c.deref-in-Explain.ensures) (scanned of))) c.tell_explanation.ensures.scanned
+
+pub returns-in-Explain-clause-faults : goal.returns-in-Explain-clause-faults
+unfolding asked
+returns-in-Explain-clause-faults g c = IfErr-weaker c.tell_explanation.result _ _ (λ told is. rw c.in-Explain.is (rw (← c.deref-in-Explain.ensures) is)) c.tell_explanation.ensures.faults
 
 pub returns-in-Explain-clause-none : goal.returns-in-Explain-clause-none
 unfolding asked
-returns-in-Explain-clause-none g c =
-    on_ok_weaker c.explain_of_file.result (λ none. rw c.in-Explain.is (rw (← c.deref-in-Explain-2.ensures) none)) c.explain_of_file.ensures.none
+returns-in-Explain-clause-none g c = on_ok_weaker c.tell_explanation.result (λ none. rw c.in-Explain.is (rw (← c.deref-in-Explain.ensures) none)) c.tell_explanation.ensures.none
 
 pub returns-in-List-clause-safe : goal.returns-in-List-clause-safe
 unfolding asked

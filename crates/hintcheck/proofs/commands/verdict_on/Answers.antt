@@ -39,9 +39,9 @@ returns-in-Check-clause-refused g c = IfOk-weaker c.check_verdict.result _ _ (λ
 pub unreachable-requires : goal.unreachable-requires
 unfolding asked
 unreachable-requires g c = elim c.in-Scan.is [
-  | inl scan ↦ rw scan.2 at c.requires
+  | inl scan ↦ rw scan.3 at c.requires
   | inr rest ↦ elim rest [
-    | inl explain ↦ rw explain.5 at c.requires
+    | inl explain ↦ rw explain.6 at c.requires
     | inr others ↦ elim others [ inl list ↦ rw list.3 at c.requires | inr upgrade ↦ rw upgrade.2 at c.requires ]
   ]
 ]

@@ -11,7 +11,7 @@ pub returns-in_err-explained-clause-faults : goal.returns-in_err-explained-claus
 returns-in_err-explained-clause-faults g c = fault_of_text c.in_err-explained.field-0.0 c.from_residual.result c.from_residual.ensures.1
 
 pub returns-clause-answered : goal.returns-clause-answered
-returns-clause-answered g c = λ x subject.
+returns-clause-answered g c = λ x subject same.
     let s = c.args.setting.now in
     let h : HasFlow (setting_of s) s.start.now = record { range = c.range_facts.ensures.range; short = c.range_facts.ensures.short; ascends = c.requires.ascends; fits = c.requires.fits } in
-    answered x s c.explain.result c.in_ok-explained.explained subject h (cc) c.explain.ensures.accepted c.explain.ensures.refused
+    answered x s c.args.asked.program c.in_ok-explained.explained subject same h c.in_ok-explained.ensures.answered

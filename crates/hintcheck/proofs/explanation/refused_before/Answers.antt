@@ -30,7 +30,7 @@ pub returns-in-Some-clause-refused : goal.returns-in-Some-clause-refused
 returns-in-Some-clause-refused c =
     let d = c.loop-alloc.programs.font.now in
     let i = c.loop-alloc.invariant in
-    subst (λ (f : Bor FontData). IsRefusedIn f.now c.args.called) (sym c.judge_next.ensures.font)
+    subst (λ (f : Bor FontData). IsRefusedIn f.now c.args.called c.in-Some.refused) (sym c.judge_next.ensures.font)
     (refused_answer d c.judge_next.new.judge c.args.called (stage_of c.loop-alloc.programs) (stage_of c.judge_next.new.self) c.in_ok-outcome.outcome c.refused_by.result c.in-Some.refused
     c.in_ok-outcome.ensures.answer c.refused_by.ensures.none c.refused_by.ensures.some c.in-Some.is (λ here. let yes = c.is_at.ensures.1 here in let no = c.loop-alloc-test.true in cc) i.way i.known)
 

@@ -1,8 +1,9 @@
+use Rattle.std.proofs.Common.{rules}
 use Rattle.hintcheck_fonts.specs.Representation.Judges.{IsRefusedFor}
 use Rattle.hintcheck_fonts.specs.Representation.ProgramOrder.{stage_of, start_at, with_start}
 use Rattle.hintcheck_fonts.proofs.JudgeLaws.{uncut_is_refused}
 use Rattle.hintcheck_fonts.proofs.ProgramSteps.{uncut_next}
-use Rattle.hintcheck.proofs.ExplanationLemmas.{uncut_answered}
+use Rattle.hintcheck.proofs.ExplanationLemmas.{next_name, uncut_answered}
 use Rattle.hintcheck.proofs.PlaceLemmas.{place_there}
 use Rattle.hintcheck.proofs.explanation.tell_next.Goals as goal
 
@@ -10,9 +11,14 @@ pub explain_in-requires-clause-place : goal.explain_in-requires-clause-place
 explain_in-requires-clause-place g c =
     place_there c.args.next.bytes.now c.in-Ok.program c.setting.result.main.now c.args.offset c.in-Ok.ensures.cut.0 c.setting.ensures.main c.requires.place
 
-pub returns-in_ok-explain_uncut-in-Err-clause-answered : goal.returns-in_ok-explain_uncut-in-Err-clause-answered
-returns-in_ok-explain_uncut-in-Err-clause-answered g c = λ x next.
+pub returns-in_ok-refused-in-Err-clause-answered : goal.returns-in_ok-refused-in-Err-clause-answered
+returns-in_ok-refused-in-Err-clause-answered g c = λ x next.
     let stage = stage_of c.args.programs.now in
     let judged = with_start x (start_at stage) in
-    uncut_answered judged c.in-Err.fault c.in_ok-explain_uncut-in-Err.ensures.refused
+    uncut_answered judged c.args.next.name c.in-Err.fault c.in_ok-refused-in-Err.refused (next_name c.args.programs.now.font.now stage x c.args.next next c.requires.next) c.in_ok-refused-in-Err.ensures.refused
     (uncut_next c.args.programs.now.font.now stage x c.args.next c.in-Err.fault (IsRefusedFor judged) next c.requires.next c.in-Err.ensures.uncut (λ r uncut. uncut_is_refused judged r uncut))
+
+pub returns-in-Ok-clause-answered : goal.returns-in-Ok-clause-answered
+returns-in-Ok-clause-answered g c = λ x next.
+    let stage = stage_of c.args.programs.now in
+    c.explain_in.ensures.answered (with_start x (start_at stage)) (search rules) (next_name c.args.programs.now.font.now stage x c.args.next next c.requires.next)

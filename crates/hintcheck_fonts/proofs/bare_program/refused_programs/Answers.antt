@@ -6,13 +6,13 @@ use Rattle.hintcheck_report.specs.declared.refused.Refused.{Refused}
 use Rattle.hintcheck_fonts.proofs.BareProgramLemmas.{judged_refused}
 use Rattle.hintcheck_fonts.proofs.bare_program.refused_programs.Goals as goal
 
-pub returns-in-Ok : goal.returns-in-Ok
-returns-in-Ok c =
+pub returns-in-Ok-clause-judged : goal.returns-in-Ok-clause-judged
+returns-in-Ok-clause-judged c =
     let x = glyph_subject (font_around c.args.limits c.args.cvt) [] 0 (glyph_data c.args.glyph.now) in
     subst (λ (rs : List Refused). IsJudged x rs) (sym c.new.ensures.items) c.in-Ok.ensures.least
 
-pub returns-in_ok-list_outcome-in-Err : goal.returns-in_ok-list_outcome-in-Err
-returns-in_ok-list_outcome-in-Err c =
+pub returns-in_ok-list_outcome-in-Err-clause-judged : goal.returns-in_ok-list_outcome-in-Err-clause-judged
+returns-in_ok-list_outcome-in-Err-clause-judged c =
     let x = glyph_subject (font_around c.args.limits c.args.cvt) [] 0 (glyph_data c.args.glyph.now) in
     judged_refused x c.args.glyph.now.points c.args.glyph.now.contours c.in-Err.fault c.in_ok-outcome-in-Err.outcome c.new-refused.result.items c.list_outcome.new.refused.items (λ is. refl)
     c.in-Err.ensures.refused c.in_ok-outcome-in-Err.ensures c.new-refused.ensures.items c.in_ok-list_outcome-in-Err.ensures

@@ -1,19 +1,23 @@
 use Rattle.std.proofs.Common.{rules, ap₂, codes, ◌≡◌, ◌∙◌}
 use Rattle.std.proofs.lemmas.Result.{IfOk-weaker}
 use Rattle.clap.specs.Words.{rule_of, with_rule}
-use Rattle.hintcheck_words.specs.CommandLine.{fail_on, json, needed_list, points, symbolic}
+use Rattle.hintcheck_words.specs.CommandLine.{causes, expect, fail_on, json, needed_list, points, symbolic}
 use Rattle.hintcheck_words.proofs.Building.{range_set}
 use Rattle.hintcheck_words.proofs.words.scan_command.Goals as goal
 
 pub returns : goal.returns
 returns c =
     let font_is : rule_of c.num_args.result ≡ needed_list (codes "FONT") = range_set c.needed.result c.num_args.result (codes "FONT") _ c.num_args.ensures.0 c.num_args.ensures.1 (search rules) in
-    let points_is : rule_of c.points_option.result ≡ points = search rules in
+    let points_is : rule_of c.points_option.result ≡ points (codes "POINTS") = search rules in
     let symbolic_is : rule_of c.symbolic_option.result ≡ symbolic = search rules in
     let fail_on_is : rule_of c.fail_on_option.result ≡ fail_on = search rules in
+    let expect_is : rule_of c.expect_option.result ≡ expect = search rules in
     let json_is : rule_of c.json_option.result ≡ json = search rules in
-    IfOk-weaker c.arg-5.result _ _ (λ r h. h.shape (search rules) ∙ ap₂ with_rule
+    let causes_is : rule_of c.causes_option.result ≡ causes = search rules in
+    IfOk-weaker c.arg-7.result _ _ (λ r h. h.shape (search rules) ∙ ap₂ with_rule
+    (c.in_ok-arg-6.ensures.shape (search rules) ∙ ap₂ with_rule
+    (c.in_ok-arg-5.ensures.shape (search rules) ∙ ap₂ with_rule
     (c.in_ok-arg-4.ensures.shape (search rules) ∙ ap₂ with_rule
     (c.in_ok-arg-3.ensures.shape (search rules) ∙ ap₂ with_rule
     (c.in_ok-arg-2.ensures.shape (search rules) ∙ ap₂ with_rule
-    (c.in_ok-arg.ensures.shape (search rules) ∙ ap₂ with_rule c.plain_command.ensures font_is) points_is) symbolic_is) fail_on_is) json_is) c.arg-5.ensures
+    (c.in_ok-arg.ensures.shape (search rules) ∙ ap₂ with_rule c.plain_command.ensures font_is) points_is) symbolic_is) fail_on_is) expect_is) json_is) causes_is) c.arg-7.ensures

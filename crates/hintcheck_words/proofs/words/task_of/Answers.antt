@@ -5,28 +5,28 @@ use Rattle.hintcheck_words.proofs.Meanings.{differs}
 use Rattle.hintcheck_words.proofs.words.task_of.Goals as goal
 
 pub bare_task-requires : goal.bare_task-requires
-bare_task-requires c = record { numbers = c.requires.numbers c.in-bare.is; profile = c.requires.profile_of_bare c.in-bare.is }
+bare_task-requires c = c.requires.of_bare c.in-bare.is
 
 pub returns-in-bare : goal.returns-in-bare
 unfolding request_of requests
 returns-in-bare c = IfOk-weaker c.bare_task.result _ _ (λ t h. rw c.in-bare.is (ap (λ (r : Request). Some r) (sym h))) c.bare_task.ensures
 
 pub verdict_task-requires : goal.verdict_task-requires
-verdict_task-requires c = record { points = c.requires.of_verdict c.in-verdict.is; profile = c.requires.profile_of_verdict c.in-verdict.is; format = c.requires.format_of_verdict c.in-verdict.is }
+verdict_task-requires c = c.requires.of_verdict c.in-verdict.is
 
 pub returns-in-verdict : goal.returns-in-verdict
 unfolding request_of requests
 returns-in-verdict c = IfOk-weaker c.verdict_task.result _ _ (λ t h. rw c.in-verdict.is (ap (λ (r : Request). Some r) (sym h))) c.verdict_task.ensures
 
 pub scan_task-requires : goal.scan_task-requires
-scan_task-requires c = record { points = c.requires.of_scan c.in-scan.is; profile = c.requires.profile_of_scan c.in-scan.is; format = c.requires.format_of_scan c.in-scan.is }
+scan_task-requires c = c.requires.of_scan c.in-scan.is
 
 pub returns-in-scan : goal.returns-in-scan
 unfolding request_of requests
 returns-in-scan c = IfOk-weaker c.scan_task.result _ _ (λ t h. rw c.in-scan.is (ap (λ (r : Request). Some r) (sym h))) c.scan_task.ensures
 
 pub explain_task-requires : goal.explain_task-requires
-explain_task-requires c = record { offset = c.requires.offset c.in-explain.is; points = c.requires.of_explain c.in-explain.is; profile = c.requires.profile_of_explain c.in-explain.is }
+explain_task-requires c = c.requires.of_explain c.in-explain.is
 
 pub returns-in-explain : goal.returns-in-explain
 unfolding request_of requests
@@ -47,7 +47,7 @@ unfolding request_of requests
 returns-in-check c = IfOk-weaker c.check_task.result _ _ (λ t h. rw c.in-check.is (ap (λ (r : Request). Some r) (sym h))) c.check_task.ensures
 
 pub list_task-requires : goal.list_task-requires
-list_task-requires c = c.requires.detail_of_list c.in-list.is
+list_task-requires c = c.requires.of_list c.in-list.is
 
 pub returns-in-list : goal.returns-in-list
 unfolding request_of requests

@@ -3,14 +3,14 @@ use Rattle.clap.specs.Words.{found_of, rows_of}
 use Rattle.hintcheck_words.specs.Requests.{asked, flag_in, verdict_request}
 use Rattle.hintcheck_words.proofs.words.verdict_task.Goals as goal
 
-pub returns-then-is_json_asked : goal.returns-then-is_json_asked
+pub returns-then-is_given : goal.returns-then-is_given
 unfolding verdict_request
-returns-then-is_json_asked c =
-    let given : flag_in (rows_of (found_of c.args.values.now)) (codes "JSON") ≡ true = sym c.is_json_asked.ensures ∙ c.if-is_json_asked.true in
+returns-then-is_given c =
+    let given : flag_in (rows_of (found_of c.args.values.now)) (codes "JSON") ≡ true = sym c.is_given.ensures ∙ c.if-is_given.true in
     rw given c.json_task.ensures
 
 pub returns : goal.returns
 unfolding asked verdict_request
 returns c =
-    let absent : flag_in (rows_of (found_of c.args.values.now)) (codes "JSON") ≡ false = sym c.is_json_asked.ensures ∙ c.if-is_json_asked.false in
+    let absent : flag_in (rows_of (found_of c.args.values.now)) (codes "JSON") ≡ false = sym c.is_given.ensures ∙ c.if-is_given.false in
     rw (absent, c.in_ok-text.ensures, c.points.ensures, c.asked_profile.ensures) refl

@@ -1,5 +1,25 @@
-use Rattle.std.proofs.lemmas.Result.{on_ok_weaker}
+use Rattle.std.proofs.lemmas.Result.{IfErr-weaker, IfOk-weaker}
+use Rattle.hintcheck.specs.Commands.{status_of}
+use Rattle.hintcheck.proofs.ObjectFaults.{lines_fault, lines_printed}
 use Rattle.hintcheck.proofs.commands.explain_task.explain_of_file.Goals as goal
 
-pub returns-clause-none : goal.returns-clause-none
-returns-clause-none g c = on_ok_weaker c.explain_by.result (λ holds. (c.deref.result.now, holds)) c.explain_by.ensures.none
+pub returns-in-Lines-clause-printed : goal.returns-in-Lines-clause-printed
+returns-in-Lines-clause-printed g c =
+    IfOk-weaker c.explain_in_lines.result _ _ (λ status few. lines_printed c.args.format c.args.name.now c.args.word.now c.args.offset c.args.budget c.args.profile status _ _ c.in-Lines.is) c.explain_in_lines.ensures.status
+
+pub returns-in-Lines-clause-told : goal.returns-in-Lines-clause-told
+returns-in-Lines-clause-told g c =
+    IfErr-weaker c.explain_in_lines.result _ _ (λ told is of. lines_printed c.args.format c.args.name.now c.args.word.now c.args.offset c.args.budget c.args.profile (status_of told) _ _ c.in-Lines.is) c.explain_in_lines.ensures.faults
+
+pub returns-in-Lines-clause-faults : goal.returns-in-Lines-clause-faults
+returns-in-Lines-clause-faults g c =
+    IfErr-weaker c.explain_in_lines.result _ _ (λ told is. lines_fault c.args.format c.args.word.now c.args.offset c.args.budget told c.in-Lines.is is) c.explain_in_lines.ensures.faults
+
+pub returns-in-Json-clause-printed : goal.returns-in-Json-clause-printed
+returns-in-Json-clause-printed g c = IfOk-weaker c.explain_in_object.result _ _ (λ status printed. rw c.in-Json.is printed) c.explain_in_object.ensures.printed
+
+pub returns-in-Json-clause-told : goal.returns-in-Json-clause-told
+returns-in-Json-clause-told g c = IfErr-weaker c.explain_in_object.result _ _ (λ told printed of. rw c.in-Json.is (printed of)) c.explain_in_object.ensures.told
+
+pub returns-in-Json-clause-faults : goal.returns-in-Json-clause-faults
+returns-in-Json-clause-faults g c = IfErr-weaker c.explain_in_object.result _ _ (λ told is. rw c.in-Json.is is) c.explain_in_object.ensures.faults

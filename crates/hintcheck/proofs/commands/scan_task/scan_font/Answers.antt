@@ -1,11 +1,14 @@
-use Rattle.std.proofs.Common.{◌∙◌, sym}
+use Rattle.std.proofs.Common.{◌≡◌, ◌∙◌, subst, sym}
 use Rattle.hintcheck.proofs.ScanLemmas.{fails_for, fault_tells, passes, verdict_tells}
 use Rattle.hintcheck.proofs.ScannedLines.{scans_one}
+use Rattle.hintcheck.proofs.KnownScans.{noted_none}
+use Rattle.hintcheck.specs.KnownRefusals.{counted_lines}
+use Rattle.hintcheck.specs.Representation.Expectations.{expected, noted}
 use Rattle.hintcheck.specs.Scans.{judged, unread}
 use Rattle.hintcheck.proofs.commands.scan_task.scan_font.Goals as goal
 
-pub returns-in_ok-tell_judged-in-Ok-clause-tells : goal.returns-in_ok-tell_judged-in-Ok-clause-tells
-returns-in_ok-tell_judged-in-Ok-clause-tells g c =
+pub returns-in_ok-note-in-Ok-clause-tells : goal.returns-in_ok-note-in-Ok-clause-tells
+returns-in_ok-note-in-Ok-clause-tells g c =
     let options = c.args.options in
     let verdict = c.in-Ok.verdict in
     let given = c.in-Ok.ensures.given in
@@ -16,14 +19,14 @@ returns-in_ok-tell_judged-in-Ok-clause-tells g c =
 pub returns-in_ok-tell_unread-in-Err-clause-tells : goal.returns-in_ok-tell_unread-in-Err-clause-tells
 returns-in_ok-tell_unread-in-Err-clause-tells g c = fault_tells c.args.options _ c.in-Err.fault _ c.in-Err.ensures.faults.0 c.status.ensures.status c.status.ensures.within
 
-pub returns-in_ok-tell_judged-in-Ok-clause-printed : goal.returns-in_ok-tell_judged-in-Ok-clause-printed
-returns-in_ok-tell_judged-in-Ok-clause-printed g c =
+pub returns-in_ok-note-in-Ok-clause-printed : goal.returns-in_ok-note-in-Ok-clause-printed
+returns-in_ok-note-in-Ok-clause-printed g c =
     let contents = g.O.Sink.contents in
-    scans_one c.args.options c.args.name.now (judged c.in-Ok.verdict) c.verdict_status-status.result (contents c.args.out.now) (contents c.tell_judged.new.out) c.in-Ok.ensures.given c.verdict_status-status.ensures.answer
-    c.in_ok-tell_judged-in-Ok.ensures.written
+    scans_one c.args.options c.args.name.now (judged c.in-Ok.verdict) c.verdict_status-status.result (contents c.args.out.now) (contents c.tell_judged.new.out) (expected c.args.expectation.now) (expected c.note.new.self) c.in-Ok.ensures.given
+    c.verdict_status-status.ensures.answer c.in_ok-tell_judged-in-Ok.ensures.written (subst (λ rs. expected c.note.new.self ≡ noted (expected c.args.expectation.now) (counted_lines c.args.options.fail_on c.args.name.now rs)) c.refused.ensures c.in_ok-note-in-Ok.ensures.noted)
 
 pub returns-in_ok-tell_unread-in-Err-clause-printed : goal.returns-in_ok-tell_unread-in-Err-clause-printed
 returns-in_ok-tell_unread-in-Err-clause-printed g c =
     let contents = g.O.Sink.contents in
-    scans_one c.args.options c.args.name.now (unread c.in-Err.fault) c.status.result (contents c.args.out.now) (contents c.tell_unread.new.out) c.in-Err.ensures.faults c.status.ensures.status
-    c.in_ok-tell_unread-in-Err.ensures.written
+    scans_one c.args.options c.args.name.now (unread c.in-Err.fault) c.status.result (contents c.args.out.now) (contents c.tell_unread.new.out) (expected c.args.expectation.now) (expected c.args.expectation.now) c.in-Err.ensures.faults c.status.ensures.status
+    c.in_ok-tell_unread-in-Err.ensures.written (sym (noted_none (expected c.args.expectation.now)))

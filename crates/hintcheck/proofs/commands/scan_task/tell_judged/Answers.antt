@@ -1,14 +1,29 @@
 use Rattle.std.proofs.lemmas.Result.{IfErr-weaker, on_ok_weaker}
-use Rattle.hintcheck.proofs.TellingFaults.{lines_told}
+use Rattle.hintcheck.proofs.TellingFaults.{causes_told, object_told}
+use Rattle.hintcheck.proofs.ToldCauses.{tells_causes, tells_line, tells_object}
+use Rattle.hintcheck.specs.Scans.{judged}
 use Rattle.hintcheck.proofs.commands.scan_task.tell_judged.Goals as goal
 
 pub returns-in_ok-print_line-in-Lines-clause-written : goal.returns-in_ok-print_line-in-Lines-clause-written
-returns-in_ok-print_line-in-Lines-clause-written g c = rw c.in-Lines.is c.in_ok-print_line-in-Lines.ensures.written
+returns-in_ok-print_line-in-Lines-clause-written g c =
+    let contents = g.O.Sink.contents in
+    tells_line c.args.options c.args.name.now (judged c.args.verdict.now) (contents c.args.out.now) (contents c.print_line.new.out) c.in-Lines.is c.in_ok-print_line-in-Lines.ensures.written
+
+pub returns-in-Causes-clause-written : goal.returns-in-Causes-clause-written
+returns-in-Causes-clause-written g c =
+    let contents = g.O.Sink.contents in
+    on_ok_weaker c.print_with_causes.result (λ tells. tells_causes c.args.options c.args.name.now c.args.verdict.now (contents c.args.out.now) (contents c.print_with_causes.new.out) c.in-Causes.is tells) c.print_with_causes.ensures.written
+
+pub returns-in-Causes-clause-faults : goal.returns-in-Causes-clause-faults
+returns-in-Causes-clause-faults g c =
+    IfErr-weaker c.print_with_causes.result _ _ (λ told is. causes_told c.args.options told c.in-Causes.is is) c.print_with_causes.ensures.faults
 
 pub returns-in-Json-clause-written : goal.returns-in-Json-clause-written
 returns-in-Json-clause-written g c =
-    on_ok_weaker c.print_verdict_object.result (λ written. rw (c.in-Json.is, ← c.requires) written) c.print_verdict_object.ensures.written
+    let contents = g.O.Sink.contents in
+    on_ok_weaker c.print_verdict_object.result
+    (λ written. tells_object c.args.options c.args.name.now (judged c.args.verdict.now) (contents c.args.out.now) (contents c.print_verdict_object.new.out) c.in-Json.is (rw (← c.requires) written)) c.print_verdict_object.ensures.written
 
 pub returns-in-Json-clause-faults : goal.returns-in-Json-clause-faults
 returns-in-Json-clause-faults g c =
-    IfErr-weaker c.print_verdict_object.result _ _ (λ told is. lines_told c.args.options told c.in-Json.is is) c.print_verdict_object.ensures.faults
+    IfErr-weaker c.print_verdict_object.result _ _ (λ told is. object_told c.args.options told c.in-Json.is is) c.print_verdict_object.ensures.faults

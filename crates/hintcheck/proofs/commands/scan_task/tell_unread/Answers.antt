@@ -1,17 +1,27 @@
+use Rattle.std.proofs.Common.{inl, inr}
 use Rattle.std.proofs.lemmas.Result.{IfErr-weaker, on_ok_weaker}
 use Rattle.hintcheck.proofs.ScannedLines.{fault_line}
-use Rattle.hintcheck.proofs.TellingFaults.{lines_told}
+use Rattle.hintcheck.proofs.TellingFaults.{object_told}
+use Rattle.hintcheck.proofs.ToldCauses.{tells_fault, tells_line, tells_object}
+use Rattle.hintcheck.specs.Scans.{unread}
 use Rattle.hintcheck.proofs.commands.scan_task.tell_unread.Goals as goal
 
 pub returns-in_ok-writeln-in-Lines-clause-written : goal.returns-in_ok-writeln-in-Lines-clause-written
 returns-in_ok-writeln-in-Lines-clause-written g c =
     let contents = g.O.Sink.contents in
-    rw c.in-Lines.is (fault_line c.args.options.profile c.args.name.now c.args.fault.now (contents c.args.out.now) (contents c.writeln.new.self) c.requires c.in_ok-writeln-in-Lines.ensures.written)
+    let old = contents c.args.out.now in
+    let new = contents c.writeln.new.self in
+    let written = fault_line c.args.options.profile c.args.name.now c.args.fault.now old new c.requires c.in_ok-writeln-in-Lines.ensures.written in
+    elim c.in-Lines.is [
+      | inl is ↦ tells_line c.args.options c.args.name.now (unread c.args.fault.now) old new is written
+      | inr is ↦ tells_fault c.args.options c.args.name.now c.args.fault.now old new is written
+    ]
 
 pub returns-in-Json-clause-written : goal.returns-in-Json-clause-written
 returns-in-Json-clause-written g c =
-    on_ok_weaker c.print_fault_object.result (λ written. rw c.in-Json.is written) c.print_fault_object.ensures.written
+    let contents = g.O.Sink.contents in
+    on_ok_weaker c.print_fault_object.result (λ written. tells_object c.args.options c.args.name.now (unread c.args.fault.now) (contents c.args.out.now) (contents c.print_fault_object.new.out) c.in-Json.is written) c.print_fault_object.ensures.written
 
 pub returns-in-Json-clause-faults : goal.returns-in-Json-clause-faults
 returns-in-Json-clause-faults g c =
-    IfErr-weaker c.print_fault_object.result _ _ (λ told is. lines_told c.args.options told c.in-Json.is is) c.print_fault_object.ensures.faults
+    IfErr-weaker c.print_fault_object.result _ _ (λ told is. object_told c.args.options told c.in-Json.is is) c.print_fault_object.ensures.faults

@@ -1,0 +1,186 @@
+//! The subcommand `explain` without a program: why programs of a font file are refused, by cause, and
+//! the first one of the most frequent cause, explained.
+
+ghost use Rattle.std.specs.Prelude.{◌≡◌, ◌≤◌, ◌++◌, codes, IfErr, IfOk, List, OnOk, ℕ};
+ghost use Rattle.std.specs.Io.KnownBytes.{Appends};
+ghost use Rattle.hintcheck.specs.CauseAnswers.{PrintsCauses, PrintsCausesOf};
+ghost use Rattle.hintcheck.specs.CommandFaults.{IsEndOfWork, IsFaultOfFontCauses, IsFaultOfFontFile, IsFaultOfPrinting, IsWithin};
+ghost use Rattle.hintcheck.specs.Commands.{TellsFailure};
+ghost use Rattle.hintcheck.specs.MeansSafe.{HoldRefusedBy, HoldSafeBy, IsVerdictBy};
+
+use super::cause_lines::print_causes;
+use super::faults::CommandFault;
+use super::files::file_bytes;
+use super::verdict_lines::print_last_line;
+use super::{ACCEPTED, REFUSED};
+use crate::explanation::explain_word;
+use crate::font_file::{symbolic_verdict_in, verdict_in_budget};
+use crate::symbolic_explanation::explained_program_symbolic;
+use hintcheck_fonts::report::{Name, Verdict};
+use hintcheck_words::Profile;
+use std::alloc::Global;
+use std::rt::Files;
+use tt_family::Budget;
+use tt_stream::{Counted, Sink, write_all};
+
+/// By which profile a font is judged and explained, and how many steps a search of the symbolic one
+/// makes at most for it, where they are bounded.
+#[derive(Clone, Copy)]
+struct Judging {
+    profile: Profile,
+    steps: Option<u64>,
+}
+
+/// Returns the verdict on the font in these bytes: the strict one makes at most as many points as the
+/// budget allows.
+fn verdict_on_font(
+    alloc: Global,
+    font: &[u8],
+    judging: Judging,
+    points: &mut Budget,
+) -> Result<Verdict, CommandFault>
+    ensures given { IfOk result (IsVerdictBy judging.profile font.now) }
+    ensures faults { IfErr result IsFaultOfFontFile }
+{
+    match judging.profile {
+        Profile::Strict => verdict_in_budget(alloc, font, points),
+        Profile::Symbolic => Ok(symbolic_verdict_in(alloc, font, judging.steps)?),
+    }
+}
+
+/// Returns the explanation of the font's program of this name, a refused one.
+///
+/// # Errors
+/// `OutOfMemory`; `Budget`.
+fn explanation_of(
+    alloc: Global,
+    font: &[u8],
+    called: Name,
+    judging: Judging,
+    points: &mut Budget,
+) -> Result<Vec<u8>, CommandFault>
+    ensures { IfErr result IsEndOfWork }
+{
+    let Ok(word) = format!(in alloc; "{called}") else {
+        return Err(CommandFault::OutOfMemory);
+    };
+    let mut text = Counted::new(Vec::new(alloc));
+    let explained = match judging.profile {
+        Profile::Strict => explain_word(alloc, font, &word, None, points, &mut text),
+        Profile::Symbolic => explained_program_symbolic(
+            alloc,
+            font,
+            &word,
+            None,
+            judging.steps,
+            &mut text,
+        ),
+    };
+    match explained {
+        Ok(_) => Ok(text.into_inner()),
+        Err(CommandFault::Budget) => Err(CommandFault::Budget),
+        // The font was read before, the name is one of its programs', and the text is kept in
+        // memory: so that is what ran out.
+        Err(_) => Err(CommandFault::OutOfMemory),
+    }
+}
+
+/// Prints an empty line and the explanation.
+fn print_explanation<O: Sink>(out: &mut O, explanation: &[u8]) -> Result<(), CommandFault>
+    ensures written { OnOk result (Appends (O.contents out.old) (O.contents out.new)
+        (codes "\n" ++ explanation.now)) }
+    ensures failures { TellsFailure result (O.failures out.old) (O.failures out.new) }
+    ensures faults { IfErr result IsFaultOfPrinting }
+{
+    writeln!(out, "")?;
+    match write_all(out, explanation) {
+        Ok(()) => Ok(()),
+        Err(_) => Err(CommandFault::Write),
+    }
+}
+
+/// Prints for which causes programs of the font in these bytes are refused, and the explanation of the
+/// first program of the most frequent one; or that all are accepted. Returns the exit status.
+fn explain_within<O: Sink>(
+    alloc: Global,
+    font: &[u8],
+    judging: Judging,
+    points: &mut Budget,
+    out: &mut O,
+) -> Result<u8, CommandFault>
+    ensures status { IfOk result (λ status. status ≤ 1) }
+    ensures printed { IfOk result (λ status. PrintsCausesOf judging.profile font.now
+        status (O.contents out.old) (O.contents out.new)) }
+    ensures failures { TellsFailure result (O.failures out.old) (O.failures out.new) }
+    ensures faults { IfErr result IsFaultOfFontCauses }
+{
+    let verdict = verdict_on_font(alloc, font, judging, points)?;
+    let Some(first) = print_causes(alloc, out, verdict.refused())? else {
+        print_last_line(out, &verdict, judging.profile)?;
+        return Ok(ACCEPTED);
+    };
+    let explanation = explanation_of(alloc, font, first, judging, points)?;
+    print_explanation(out, &explanation)?;
+    Ok(REFUSED)
+}
+
+/// Does what `explain_of_font` does, for the font in these bytes.
+fn explain_font<O: Sink>(
+    alloc: Global,
+    font: &[u8],
+    budget: Option<u64>,
+    profile: Profile,
+    out: &mut O,
+) -> Result<u8, CommandFault>
+    ensures status { IfOk result (λ status. status ≤ 1) }
+    ensures printed { IfOk result (λ status. PrintsCausesOf profile font.now
+        status (O.contents out.old) (O.contents out.new)) }
+    ensures failures { TellsFailure result (O.failures out.old) (O.failures out.new) }
+    ensures faults { IfErr result
+        (λ fault. IsFaultOfFontCauses fault × IsWithin budget fault) }
+{
+    let judging = Judging {
+        profile,
+        steps: budget,
+    };
+    let Some(most) = budget else {
+        return match explain_within(alloc, font, judging, &mut Budget::unlimited(), out) {
+            // No font has so many points.
+            Err(CommandFault::Budget) => Err(CommandFault::OutOfMemory),
+            told => told,
+        };
+    };
+    explain_within(alloc, font, judging, &mut Budget::of(most), out)
+}
+
+/// Prints for which causes programs of the font file with this name are refused by a profile, the
+/// most frequent cause first, and after an empty line the explanation of the first program of that
+/// one; or, where all are accepted, the last line of the verdict. Returns the exit status: 0 where all
+/// are accepted, 1 where one is refused. At most this many points are made, where they are bounded;
+/// by the symbolic profile, the search for the verdict and that for the explanation each make at most
+/// so many steps.
+///
+/// # Errors
+/// `Read` where the file can't be opened or read; the faults of `Font::read`; `Write` exactly where a
+/// write to `out` failed; `OutOfMemory`; `Budget`, where points are bounded and more were to be made.
+pub(super) fn explain_of_font<R: Files + AllocGlobal, O: Sink>(
+    rt: &R,
+    name: &str,
+    budget: Option<u64>,
+    profile: Profile,
+    out: &mut O,
+) -> Result<u8, CommandFault>
+    ensures status { IfOk result (λ status. status ≤ 1) }
+    ensures safe { IfOk result
+        (λ status. status ≡ 0 → (bytes : List ℕ) × HoldSafeBy profile bytes) }
+    ensures refused { IfOk result
+        (λ status. status ≡ 1 → (bytes : List ℕ) × HoldRefusedBy profile bytes) }
+    ensures printed { IfOk result (λ status.
+        PrintsCauses profile status (O.contents out.old) (O.contents out.new)) }
+    ensures failures { TellsFailure result (O.failures out.old) (O.failures out.new) }
+    ensures faults { IfErr result
+        (λ fault. IsFaultOfFontCauses fault × IsWithin budget fault) }
+{
+    let bytes = file_bytes(rt, name)?;
+    explain_font(rt.alloc(), &bytes, budget, profile, out)
+}

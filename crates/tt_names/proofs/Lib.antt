@@ -1,0 +1,4 @@
+pub mod PostLemmas
+pub mod StringLemmas
+pub mod TextLemmas
+pub mod CountLemmas

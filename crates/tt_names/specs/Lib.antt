@@ -1,0 +1,4 @@
+pub mod Standard
+pub mod Post
+pub mod Names
+pub mod Representation
