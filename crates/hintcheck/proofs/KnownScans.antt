@@ -193,7 +193,7 @@ fault_two _ = omega arith
 one_more : (f : FailOn) (lines : List (List ℕ)) (name : List ℕ) (answer : Answer) (others : List Scanned)
     → greatest_of_unknown f lines others ≡ status_with (has_unknown lines (scanned_lines f others)) (greatest_status f others)
     → max (status_of_unknown f lines name answer) (greatest_of_unknown f lines others) ≡ status_with (has_unknown lines (lines_of_answer f name answer ++ scanned_lines f others)) (max (status_of_answer f answer) (greatest_status f others))
-one_more f lines name (judged j) others rest =
+one_more f lines name (judged b j) others rest =
     let test : List ℕ → Bool = λ line. not (is_known lines line) in
     let x = has_unknown lines (counted_lines f name j.refused) in
     let y = has_unknown lines (scanned_lines f others) in
@@ -237,8 +237,8 @@ abbrev OnlyKnown : ScanOptions → List (List ℕ) → List ℕ → Type 0
 OnlyKnown options lines font = (bytes : List ℕ) × HoldOnlyKnown options.fail_on options.profile lines font bytes
 
 one_safe : (options : ScanOptions) (lines : List (List ℕ)) (name : List ℕ) (answer : Answer) → status_of_unknown options.fail_on lines name answer ≡ 0 → IsAnswer options.profile options.budget answer → OnlyKnown options lines name
-one_safe options lines name (judged j) zero is =
-    (is.0, record { judgement = j; given = is.1; known = all_known options.fail_on lines name j.refused (flag_zero (has_unknown lines (counted_lines options.fail_on name j.refused)) zero) })
+one_safe options lines name (judged b j) zero is =
+    (b, record { judgement = j; given = is; known = all_known options.fail_on lines name j.refused (flag_zero (has_unknown lines (counted_lines options.fail_on name j.refused)) zero) })
 one_safe options lines name (unread r) zero is = absurd (omega (arith, fault_two r))
 
 all_safe : (options : ScanOptions) (lines : List (List ℕ)) (scanned : List Scanned) → greatest_of_unknown options.fail_on lines scanned ≡ 0 → All (Answered options) scanned → All (OnlyKnown options lines) (map (λ s. s.name) scanned)
@@ -253,9 +253,9 @@ UnknownAmong options lines names = (font : List ℕ) × Contains names font × (
 
 one_refused : (options : ScanOptions) (lines : List (List ℕ)) (name : List ℕ) (answer : Answer) → status_of_unknown options.fail_on lines name answer ≡ 1 → IsAnswer options.profile options.budget answer
     → (bytes : List ℕ) × HoldUnknown options.fail_on options.profile lines name bytes
-one_refused options lines name (judged j) one is =
+one_refused options lines name (judged b j) one is =
     let some = some_unknown options.fail_on lines name j.refused (flag_one (has_unknown lines (counted_lines options.fail_on name j.refused)) one) in
-    (is.0, record { judgement = j; given = is.1; program = some.0; refused = some.1; counted = some.2; unknown = some.3 })
+    (b, record { judgement = j; given = is; program = some.0; refused = some.1; counted = some.2; unknown = some.3 })
 one_refused options lines name (unread r) one is = absurd (omega (arith, fault_two r))
 
 some_refused : (options : ScanOptions) (lines : List (List ℕ)) (scanned : List Scanned) → greatest_of_unknown options.fail_on lines scanned ≡ 1 → All (Answered options) scanned → UnknownAmong options lines (map (λ s. s.name) scanned)
@@ -276,7 +276,7 @@ counted_whole f font rs whole =
     All-map IsOneLine (refusal_line font) (filter (counts f) rs) (λ k r within. line_whole (number_of (slice_index_or (filter (counts f) rs) k r).reason) (slice_index_or (filter (counts f) rs) k r).program font whole)
 
 answer_whole : (f : FailOn) (name : List ℕ) (answer : Answer) → IsOneLine name → All IsOneLine (lines_of_answer f name answer)
-answer_whole f name (judged j) whole = counted_whole f name j.refused whole
+answer_whole f name (judged b j) whole = counted_whole f name j.refused whole
 answer_whole f name (unread r) whole = All-nil IsOneLine
 
 scanned_whole : (f : FailOn) (scanned : List Scanned) → All IsOneLine (map (λ s. s.name) scanned) → All IsOneLine (scanned_lines f scanned)

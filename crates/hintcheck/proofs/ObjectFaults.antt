@@ -6,6 +6,8 @@ use Rattle.hintcheck_words.specs.declared.words.Format.TheVariants.{Lines, Json,
 use Rattle.hintcheck_words.specs.declared.words.Profile.{Profile}
 use Rattle.hintcheck.specs.CommandFaults.{IsFaultOfExplainingAs, IsFaultOfFileExplaining, IsFaultOfFontFile, IsUnexplained, IsWithin}
 use Rattle.hintcheck.specs.Commands.{IsNoWriteFault, status_of}
+use Rattle.tt_names.specs.Post.{post_of}
+use Rattle.hintcheck.specs.CalledGlyphs.{called_of}
 use Rattle.hintcheck.specs.JsonObjects.{explanation_object, unread_object}
 use Rattle.hintcheck.specs.Explanations.{status_of_explained}
 use Rattle.hintcheck.specs.MeansSafe.{HoldExplainedBy}
@@ -47,10 +49,10 @@ told_printed font word offset budget profile f told old new un same written =
     subst (λ (n : ℕ). PrintsExplanation font word offset budget profile n old new) (sym same) (unexplained f old new un written)
 
 -- an object tells what is answered
-pub explained_printed : (font word : List ℕ) (offset budget : Option ℕ) (profile : Profile) (bytes text : List ℕ) (e : Explained) (status : ℕ) (old new : Option (List ℕ)) → HoldExplainedBy profile bytes word e
-    → status ≡ status_of_explained e → Appends old new (explanation_object font profile word e text) → PrintsExplanation font word offset budget profile status old new
-explained_printed font word offset budget profile bytes text e status old new holds is written =
-    subst (λ (n : ℕ). PrintsExplanation font word offset budget profile n old new) (sym is) (explained bytes text e old new holds written)
+pub explained_printed : (font word : List ℕ) (offset budget : Option ℕ) (profile : Profile) (bytes text : List ℕ) (called : Option (List ℕ)) (e : Explained) (status : ℕ) (old new : Option (List ℕ)) → HoldExplainedBy profile bytes word e → called ≡ called_of (post_of bytes) e
+    → status ≡ status_of_explained e → Appends old new (explanation_object font profile word called e text) → PrintsExplanation font word offset budget profile status old new
+explained_printed font word offset budget profile bytes text called e status old new holds called_is is written =
+    subst (λ (n : ℕ). PrintsExplanation font word offset budget profile n old new) (sym is) (explained bytes text e old new holds (subst (λ (c : Option (List ℕ)). Appends old new (explanation_object font profile word c e text)) called_is written))
 
 -- what is said of lines is said of the form
 pub lines_fault : (format : Format) (word : List ℕ) (offset budget : Option ℕ) (f : CommandFault) → (format ≡ Lines) ⊎ (format ≡ Causes) → IsFaultOfFileExplaining word offset f × IsWithin budget f

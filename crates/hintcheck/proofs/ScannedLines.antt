@@ -120,7 +120,7 @@ glyph_summary programs (x ∷ xs) r id first is =
 -- the line of a font of which glyph programs are refused, by the first of them
 pub glyph_line : (profile : Profile) (name : List ℕ) (programs : ℕ) (v : Judgement) (rs shown : List Refused) (r : Refused) (id : ℕ) (old new : Option (List ℕ)) → Some r ≡ slice_get rs 0 → rs ≡ v.refused
     → shown ≡ v.refused → programs ≡ v.programs → r.program ≡ Glyph id → Appends old new (name ++ (codes ": refused: " ++ ((counts_text programs shown ++ profile_text profile) ++ codes "\n")))
-    → Appends old new (line_of profile name (judged v))
+    → Appends old new (line_of profile name (judged [] v))
 glyph_line profile name programs v rs shown r id old new first rs_are shown_are programs_are is written =
     let e : summary v.programs v.refused ≡ codes "refused: " ++ counts_text v.programs v.refused =
     glyph_summary v.programs v.refused r id (subst (λ xs. Some r ≡ slice_get xs 0) rs_are first) is in

@@ -9,6 +9,7 @@ use Rattle.std.proofs.lemmas.List.{take_all}
 use Rattle.std.proofs.lemmas.List.Elements.{All-head, All-nil, All-tail}
 use Rattle.tt_code.specs.Refusals.{class_of, number_of, reason_text}
 use Rattle.tt_cert.specs.declared.name.Name.{Name}
+use Rattle.tt_names.specs.Post.{post_of}
 use Rattle.hintcheck_words.specs.declared.words.Format.TheVariants.{Causes, Json, Lines}
 use Rattle.hintcheck_words.specs.declared.words.Profile.{Profile}
 use Rattle.hintcheck_words.specs.declared.words.Profile.TheVariants.{Strict, Symbolic}
@@ -29,20 +30,20 @@ pieces : (a b c d e p f g h i j k l n m : List ℕ) → (a ++ (b ++ (c ++ (d ++ 
 pieces a b c d e p f g h i j k l n m = simp append_assoc
 
 -- the line of a cause, by its pieces
-pub cause_written : (called : Option (List ℕ)) (first : Refused) (programs shown : List Name) (count number : ℕ) (word class : List ℕ) (o p q r s t : Option (List ℕ)) → count ≡ length programs → word ≡ programs_word count → number ≡ number_of first.reason
+pub cause_written : (post : List ℕ) (first : Refused) (programs shown : List Name) (count number : ℕ) (word class : List ℕ) (o p q r s t : Option (List ℕ)) → count ≡ length programs → word ≡ programs_word count → number ≡ number_of first.reason
     → class ≡ class_text (class_of first.reason) → shown ≡ take 5 programs → Appends o p (codes "  " ++ (decimal count ++ (codes " " ++ (word ++ codes ": ")))) → Appends p q (shared_place_text first.place.program first.place)
-    → Appends q r (codes ": " ++ (decimal number ++ (codes " " ++ (reason_text first.reason ++ (codes " (" ++ (class ++ codes "): ")))))) → Appends r s (names_text called shown) → Appends s t (more_text count ++ codes "\n")
-    → Appends o t (cause_text called first programs)
-cause_written called first programs shown count number word class o p q r s t count_is word_is number_is class_is shown_is a b c d e =
+    → Appends q r (codes ": " ++ (decimal number ++ (codes " " ++ (reason_text first.reason ++ (codes " (" ++ (class ++ codes "): ")))))) → Appends r s (names_text post shown) → Appends s t (more_text count ++ codes "\n")
+    → Appends o t (cause_text post first programs)
+cause_written post first programs shown count number word class o p q r s t count_is word_is number_is class_is shown_is a b c d e =
     let head : List ℕ → ℕ → List ℕ = λ w n. codes "  " ++ (decimal n ++ (codes " " ++ (w ++ codes ": "))) in
     let why : List ℕ → ℕ → List ℕ = λ x n. codes ": " ++ (decimal n ++ (codes " " ++ (reason_text first.reason ++ (codes " (" ++ (x ++ codes "): "))))) in
     let start : Appends o p (head (programs_word (length programs)) (length programs)) = subst (λ n. Appends o p (head (programs_word n) n)) count_is (subst (λ w. Appends o p (head w count)) word_is a) in
     let middle : Appends q r (why (class_text (class_of first.reason)) (number_of first.reason)) = subst (λ n. Appends q r (why (class_text (class_of first.reason)) n)) number_is (subst (λ x. Appends q r (why x number)) class_is c) in
-    let named : Appends r s (names_text called (take 5 programs)) = subst (λ ns. Appends r s (names_text called ns)) shown_is d in
+    let named : Appends r s (names_text post (take 5 programs)) = subst (λ ns. Appends r s (names_text post ns)) shown_is d in
     let last : Appends s t (more_text (length programs) ++ codes "\n") = subst (λ n. Appends s t (more_text n ++ codes "\n")) count_is e in
     subst (Appends o t)
     (pieces (codes "  ") (decimal (length programs)) (codes " ") (programs_word (length programs)) (codes ": ") (shared_place_text first.place.program first.place) (codes ": ") (decimal (number_of first.reason)) (codes " ") (reason_text first.reason) (codes " (")
-    (class_text (class_of first.reason)) (codes "): ") (names_text called (take 5 programs)) (more_text (length programs) ++ codes "\n"))
+    (class_text (class_of first.reason)) (codes "): ") (names_text post (take 5 programs)) (more_text (length programs) ++ codes "\n"))
     (appends_both o p t _ _ start (appends_both p q t _ _ b (appends_both q r t _ _ middle (appends_both r s t _ _ named last))))
 
 -- the first five programs
@@ -53,15 +54,15 @@ first_five xs ys k same is = elim (cases_lt (length xs) 5) [
 ]
 
 -- the lines of causes, by the programs that are told for each
-lines_same : (rs : List Refused) (cs : List Cause) → All (λ (c : Cause). c.programs.items ≡ programs_of rs c.first) cs → flat_map (λ (c : Cause). cause_text None c.first c.programs.items) cs ≡ cause_lines rs (map (λ (c : Cause). c.first) cs)
-lines_same rs [] has = refl
-lines_same rs (c ∷ cs) has =
-    ap (λ names. cause_text None c.first names ++ flat_map (λ (x : Cause). cause_text None x.first x.programs.items) cs) (All-head (λ (x : Cause). x.programs.items ≡ programs_of rs x.first) c cs has)
-    ∙ ap (λ rest. cause_line rs c.first ++ rest) (lines_same rs cs (All-tail (λ (x : Cause). x.programs.items ≡ programs_of rs x.first) c cs has))
+lines_same : (post : List ℕ) (rs : List Refused) (cs : List Cause) → All (λ (c : Cause). c.programs.items ≡ programs_of rs c.first) cs → flat_map (λ (c : Cause). cause_text post c.first c.programs.items) cs ≡ cause_lines post rs (map (λ (c : Cause). c.first) cs)
+lines_same post rs [] has = refl
+lines_same post rs (c ∷ cs) has =
+    ap (λ names. cause_text post c.first names ++ flat_map (λ (x : Cause). cause_text post x.first x.programs.items) cs) (All-head (λ (x : Cause). x.programs.items ≡ programs_of rs x.first) c cs has)
+    ∙ ap (λ rest. cause_line post rs c.first ++ rest) (lines_same post rs cs (All-tail (λ (x : Cause). x.programs.items ≡ programs_of rs x.first) c cs has))
 
-pub causes_written : (rs : List Refused) (cs : List Cause) (old new : Option (List ℕ)) → AreCauses rs (map (λ (c : Cause). c.first) cs) → All (λ (c : Cause). c.programs.items ≡ programs_of rs c.first) cs
-    → Appends old new (flat_map (λ (c : Cause). cause_text None c.first c.programs.items) cs) → TellsCauses rs old new
-causes_written rs cs old new are has written = record { causes = map (λ (c : Cause). c.first) cs; are = are; written = subst (Appends old new) (lines_same rs cs has) written }
+pub causes_written : (post : List ℕ) (rs : List Refused) (cs : List Cause) (old new : Option (List ℕ)) → AreCauses rs (map (λ (c : Cause). c.first) cs) → All (λ (c : Cause). c.programs.items ≡ programs_of rs c.first) cs
+    → Appends old new (flat_map (λ (c : Cause). cause_text post c.first c.programs.items) cs) → TellsCauses post rs old new
+causes_written post rs cs old new are has written = record { causes = map (λ (c : Cause). c.first) cs; are = are; written = subst (Appends old new) (lines_same post rs cs has) written }
 
 -- without causes no program is refused
 pub none_refused : (rs causes : List Refused) → AreCauses rs causes → causes ≡ [] → rs ≡ []
@@ -82,9 +83,9 @@ some_refused_for rs causes c cs are some none = not_found (subst (λ xs. find (i
     first_found xs e all = All-head (λ cause. find (is_same_cause cause) rs ≡ Some cause) c cs (subst (All (λ cause. find (is_same_cause cause) rs ≡ Some cause)) e all)
 
 -- the same of the causes as the code lists them
-pub causes_told : (rs : List Refused) (cs shown : List Cause) (old new : Option (List ℕ)) → shown ≡ cs → AreCauses rs (map (λ (c : Cause). c.first) cs) → All (λ (c : Cause). c.programs.items ≡ programs_of rs c.first) cs
-    → Appends old new (flat_map (λ (c : Cause). cause_text None c.first c.programs.items) shown) → TellsCauses rs old new
-causes_told rs cs shown old new same are has written = causes_written rs cs old new are has (subst (λ xs. Appends old new (flat_map (λ (c : Cause). cause_text None c.first c.programs.items) xs)) same written)
+pub causes_told : (post : List ℕ) (rs : List Refused) (cs shown : List Cause) (old new : Option (List ℕ)) → shown ≡ cs → AreCauses rs (map (λ (c : Cause). c.first) cs) → All (λ (c : Cause). c.programs.items ≡ programs_of rs c.first) cs
+    → Appends old new (flat_map (λ (c : Cause). cause_text post c.first c.programs.items) shown) → TellsCauses post rs old new
+causes_told post rs cs shown old new same are has written = causes_written post rs cs old new are has (subst (λ xs. Appends old new (flat_map (λ (c : Cause). cause_text post c.first c.programs.items) xs)) same written)
 
 pub none_told : (rs : List Refused) (cs shown : List Cause) → shown ≡ cs → AreCauses rs (map (λ (c : Cause). c.first) cs) → shown ≡ [] → rs ≡ []
 none_told rs cs shown same are none = none_refused rs (map (λ (c : Cause). c.first) cs) are (ap (map (λ (c : Cause). c.first)) (sym same ∙ none))
@@ -107,14 +108,14 @@ tells_line options name answer old new is written = record { causes = []; are = 
 pub tells_object : (options : ScanOptions) (name : List ℕ) (answer : Answer) (old new : Option (List ℕ)) → options.format ≡ Json → Appends old new (object_of options name answer) → TellsFont options name answer old new
 tells_object options name answer old new is written = record { causes = []; are = rw is refl; written = rw is written }
 
-pub tells_causes : (options : ScanOptions) (name : List ℕ) (j : Judgement) (old new : Option (List ℕ)) → options.format ≡ Causes → TellsLineAndCauses options.profile name j old new → TellsFont options name (judged j) old new
-tells_causes options name j old new is tells = record { causes = tells.causes; are = rw is tells.are; written = rw is tells.written }
+pub tells_causes : (options : ScanOptions) (name bytes : List ℕ) (j : Judgement) (old new : Option (List ℕ)) → options.format ≡ Causes → TellsLineAndCauses options.profile name bytes j old new → TellsFont options name (judged bytes j) old new
+tells_causes options name bytes j old new is tells = record { causes = tells.causes; are = rw is tells.are; written = rw is tells.written }
 
 pub tells_fault : (options : ScanOptions) (name : List ℕ) (f : CommandFault) (old new : Option (List ℕ)) → options.format ≡ Causes → Appends old new (line_of options.profile name (unread f)) → TellsFont options name (unread f) old new
 tells_fault options name f old new is written = record { causes = []; are = rw is no_causes; written = rw is (subst (Appends old new) (sym (append-nil (line_of options.profile name (unread f)))) written) }
 
-pub line_and_causes : (profile : Profile) (name : List ℕ) (j : Judgement) (old mid new : Option (List ℕ)) → Appends old mid (line_of profile name (judged j)) → TellsCauses j.refused mid new → TellsLineAndCauses profile name j old new
-line_and_causes profile name j old mid new line tells = record { causes = tells.causes; are = tells.are; written = appends_both old mid new _ _ line tells.written }
+pub line_and_causes : (profile : Profile) (name bytes : List ℕ) (j : Judgement) (old mid new : Option (List ℕ)) → Appends old mid (line_of profile name (judged [] j)) → TellsCauses (post_of bytes) j.refused mid new → TellsLineAndCauses profile name bytes j old new
+line_and_causes profile name bytes j old mid new line tells = record { causes = tells.causes; are = tells.are; written = appends_both old mid new _ _ line tells.written }
 
 -- what the verdict on a font tells
 pub safe_by : (profile : Profile) (bytes : List ℕ) (v : Judgement) → IsVerdictBy profile bytes v → v.refused ≡ [] → HoldSafeBy profile bytes
@@ -126,7 +127,7 @@ refused_by Strict bytes v is some = record { font = is.font; reads = is.reads; j
 refused_by Symbolic bytes v is some = record { font = is.font; reads = is.reads; judgement = v; given = is.given; some = some }
 
 -- all programs are accepted
-pub prints_accepted : (profile : Profile) (bytes : List ℕ) (v : Judgement) (old mid new : Option (List ℕ)) → IsVerdictBy profile bytes v → TellsCauses v.refused old mid → v.refused ≡ [] → Appends mid new (end_line profile v.programs v.refused)
+pub prints_accepted : (profile : Profile) (bytes : List ℕ) (v : Judgement) (old mid new : Option (List ℕ)) → IsVerdictBy profile bytes v → TellsCauses (post_of bytes) v.refused old mid → v.refused ≡ [] → Appends mid new (end_line profile v.programs v.refused)
     → PrintsCausesOf profile bytes 0 old new
 prints_accepted profile bytes v old mid new given tells none line = record {
   judgement = v;
@@ -137,12 +138,12 @@ prints_accepted profile bytes v old mid new given tells none line = record {
   explained = λ one. absurd (omega arith);
 }
   where
-    no_lines : (causes : List Refused) → AreCauses [] causes → cause_lines v.refused causes ≡ []
+    no_lines : (causes : List Refused) → AreCauses [] causes → cause_lines (post_of bytes) v.refused causes ≡ []
     no_lines [] are = refl
     no_lines (c ∷ cs) are = absurd (some_refused_for [] (c ∷ cs) c cs are refl refl)
 
 -- some are refused
-pub prints_explained : (profile : Profile) (bytes : List ℕ) (v : Judgement) (explanation : List ℕ) (old mid new : Option (List ℕ)) → IsVerdictBy profile bytes v → TellsCauses v.refused old mid → v.refused ≢ [] → Appends mid new (codes "\n" ++ explanation)
+pub prints_explained : (profile : Profile) (bytes : List ℕ) (v : Judgement) (explanation : List ℕ) (old mid new : Option (List ℕ)) → IsVerdictBy profile bytes v → TellsCauses (post_of bytes) v.refused old mid → v.refused ≢ [] → Appends mid new (codes "\n" ++ explanation)
     → PrintsCausesOf profile bytes 1 old new
 prints_explained profile bytes v explanation old mid new given tells some text = record {
   judgement = v;

@@ -9,6 +9,7 @@ use Rattle.tt_cert.specs.Names.{text_of}
 use Rattle.tt_cert.specs.declared.name.Name.{Name}
 use Rattle.tt_cert.specs.declared.name.Name.TheVariants as name
 use Rattle.hintcheck.specs.RefusalClasses.{class_text}
+use Rattle.hintcheck.specs.CalledGlyphs.{called}
 use Rattle.hintcheck_report.specs.Texts.{place_text}
 use Rattle.hintcheck_report.specs.declared.refused.Place.{Place}
 use Rattle.hintcheck_report.specs.declared.refused.Refused.{Refused}
@@ -68,40 +69,46 @@ abbrev pub glyph_name_text : Option (List ℕ) → List ℕ
 glyph_name_text None = []
 glyph_name_text (Some called) = codes " (" ++ (called ++ codes ")")
 
--- a program that is named after another
-unfoldable pub next_name : Name → List ℕ
-next_name program = codes ", " ++ text_of program
+-- a program, with the name that the table `post` has for its glyph
+abbrev pub program_text : List ℕ → Name → List ℕ
+program_text post program = text_of program ++ glyph_name_text (called post program)
 
--- programs with commas between them, of which the first may have a name in the font
-abbrev pub names_text : Option (List ℕ) → List Name → List ℕ
-names_text called [] = []
-names_text called (p ∷ ps) = text_of p ++ (glyph_name_text called ++ flat_map next_name ps)
+-- a program that is named after another
+unfoldable pub next_name : List ℕ → Name → List ℕ
+next_name post program = codes ", " ++ program_text post program
+
+-- programs with commas between them
+abbrev pub names_text : List ℕ → List Name → List ℕ
+names_text post [] = []
+names_text post (p ∷ ps) = program_text post p ++ flat_map (next_name post) ps
 
 -- what stands for those after the fifth
 abbrev pub more_text : ℕ → List ℕ
 more_text count = if nat_lt 5 count then codes ", ..." else []
 
--- the line of a cause, by the first of its programs, the name that the font has for that one, and
--- all of them: `  14 programs: f:366: 28 unknown operand (undecided): g350 (uni019C), g351, ...`
-abbrev pub cause_text : Option (List ℕ) → Refused → List Name → List ℕ
-cause_text called first programs =
+-- the line of a cause, by the first of its programs and all of them, with the names that the table
+-- `post` has: `  14 programs: f:366: 28 unknown operand (undecided): g350 (uni019C), g351 (Q), ...`
+abbrev pub cause_text : List ℕ → Refused → List Name → List ℕ
+cause_text post first programs =
     codes "  " ++ (decimal (length programs) ++ (codes " " ++ (programs_word (length programs)
     ++ (codes ": " ++ (shared_place_text first.place.program first.place
     ++ (codes ": " ++ (decimal (number_of first.reason) ++ (codes " " ++ (reason_text first.reason
     ++ (codes " (" ++ (class_text (class_of first.reason) ++ (codes "): "
-    ++ (names_text called (take 5 programs)
+    ++ (names_text post (take 5 programs)
     ++ (more_text (length programs) ++ codes "\n"))))))))))))))
 
--- the line of a cause for which some of these programs are refused, without a name from the font
-abbrev pub cause_line : List Refused → Refused → List ℕ
-cause_line rs cause = cause_text None cause (programs_of rs cause)
+-- the line of a cause for which some of these programs are refused
+abbrev pub cause_line : List ℕ → List Refused → Refused → List ℕ
+cause_line post rs cause = cause_text post cause (programs_of rs cause)
 
 -- the lines of causes
-abbrev pub cause_lines : List Refused → List Refused → List ℕ
-cause_lines rs causes = flat_map (cause_line rs) causes
+abbrev pub cause_lines : List ℕ → List Refused → List Refused → List ℕ
+cause_lines post rs causes = flat_map (cause_line post rs) causes
 
--- the lines of the causes for which these programs are refused were written
-pub record TellsCauses (rs : List Refused) (old new : Option (List ℕ)) : Type 0 where
+-- the lines of the causes for which these programs of a font with this table `post` are refused
+-- were written
+pub record TellsCauses (post : List ℕ) (rs : List Refused)
+    (old new : Option (List ℕ)) : Type 0 where
   pub causes : List Refused
   pub are : AreCauses rs causes
-  pub written : Appends old new (cause_lines rs causes)
+  pub written : Appends old new (cause_lines post rs causes)

@@ -10,7 +10,7 @@ use Rattle.hintcheck.specs.Scans.{Answer, HasCauses, IsAnswer, PrintsScan, Scann
 -- the exit status of a font file with this name alone: of a verdict it is 1 where a refused program
 -- that counts has none of these lines
 abbrev pub status_of_unknown : FailOn → List (List ℕ) → List ℕ → Answer → ℕ
-status_of_unknown fail_on lines name (judged judgement) =
+status_of_unknown fail_on lines name (judged bytes judgement) =
     if has_unknown lines (counted_lines fail_on name judgement.refused) then 1 else 0
 status_of_unknown fail_on lines name (unread reported) = status_of reported
 

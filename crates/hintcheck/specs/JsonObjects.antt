@@ -1,6 +1,6 @@
 -- What is printed in the form JSON: an object in a line, for a scan one for each font file, and one
 -- for an explanation. (RFC 8259. Own: the members and their names.)
-use Rattle.std.specs.Prelude.{ℕ, codes, flat_map, List, [], ◌∷◌, ◌++◌}
+use Rattle.std.specs.Prelude.{ℕ, codes, flat_map, List, [], ◌∷◌, ◌++◌, None, Option, Some}
 use Rattle.std.specs.Fmt.{decimal}
 use Rattle.std.specs.Str.Lines.{lines}
 use Rattle.json.specs.Print.{quoted}
@@ -12,6 +12,7 @@ use Rattle.hintcheck_words.specs.declared.words.Profile.{Profile}
 use Rattle.hintcheck_words.specs.declared.words.Profile.TheVariants.{Strict, Symbolic}
 use Rattle.hintcheck_explain.specs.declared.asked.Explained.{Explained}
 use Rattle.hintcheck_explain.specs.declared.asked.Explained.TheVariants as explained
+use Rattle.hintcheck.specs.CalledGlyphs.{called}
 use Rattle.hintcheck.specs.Commands.{status_of}
 use Rattle.hintcheck.specs.Explanations.{status_of_explained}
 use Rattle.hintcheck.specs.FaultTexts.{container_text, unopened_text}
@@ -33,11 +34,19 @@ beginning name profile status = codes "{\"version\":1,\"file\":" ++ (quoted name
     ++ (codes ",\"profile\":\"" ++ (profile_name profile
     ++ (codes "\",\"status\":" ++ (decimal status ++ codes ",")))))
 
--- which program is refused, and where: the program that holds the place, and the offset
+-- the name that the font has for a glyph, if it has one
+abbrev pub glyph_member : Option (List ℕ) → List ℕ
+glyph_member None = []
+glyph_member (Some called) = codes "\"glyph\":" ++ (quoted called ++ codes ",")
+
+-- which program is refused
+abbrev pub refused_member : Refused → List ℕ
+refused_member r = codes "{\"program\":\"" ++ (text_of r.program ++ codes "\",")
+
+-- where: the program that holds the place, and the offset
 abbrev pub place_members : Refused → List ℕ
-place_members r = codes "{\"program\":\"" ++ (text_of r.program
-    ++ (codes "\",\"place\":\"" ++ (text_of r.place.program
-    ++ (codes "\",\"offset\":" ++ (decimal r.place.offset ++ codes ",")))))
+place_members r = codes "\"place\":\"" ++ (text_of r.place.program
+    ++ (codes "\",\"offset\":" ++ (decimal r.place.offset ++ codes ",")))
 
 -- why: the reason's number, its name, and the class of reasons to which it belongs
 abbrev pub reason_members : Refused → List ℕ
@@ -45,23 +54,29 @@ reason_members r = codes "\"reason\":" ++ (decimal (number_of r.reason)
     ++ (codes ",\"name\":\"" ++ (reason_text r.reason
     ++ (codes "\",\"class\":\"" ++ (class_text (class_of r.reason) ++ codes "\"}")))))
 
--- a refused program
-abbrev pub refused_object : Refused → List ℕ
-refused_object r = place_members r ++ reason_members r
+-- a refused program, whose glyph may have a name in the font
+abbrev pub refused_object : Option (List ℕ) → Refused → List ℕ
+refused_object called r =
+    refused_member r ++ (glyph_member called ++ (place_members r ++ reason_members r))
+
+-- a refused program of a font with this table `post`
+unfoldable pub object_with_name : List ℕ → Refused → List ℕ
+object_with_name post r = refused_object (called post r.program) r
 
 -- one that comes after another
-unfoldable pub next_object : Refused → List ℕ
-next_object r = codes "," ++ refused_object r
+unfoldable pub next_object : List ℕ → Refused → List ℕ
+next_object post r = codes "," ++ object_with_name post r
 
 -- refused programs, with commas between them
-abbrev pub refused_objects : List Refused → List ℕ
-refused_objects [] = []
-refused_objects (r ∷ rs) = refused_object r ++ flat_map next_object rs
+abbrev pub refused_objects : List ℕ → List Refused → List ℕ
+refused_objects post [] = []
+refused_objects post (r ∷ rs) = object_with_name post r ++ flat_map (next_object post) rs
 
--- a verdict: how many programs the font has, and those that are refused
-abbrev pub verdict_members : Judgement → List ℕ
-verdict_members j = (codes "\"programs\":" ++ (decimal j.programs ++ codes ",\"refused\":["))
-    ++ (refused_objects j.refused ++ codes "]")
+-- a verdict on a font with this table `post`: how many programs it has, and those that are refused
+abbrev pub verdict_members : List ℕ → Judgement → List ℕ
+verdict_members post j =
+    (codes "\"programs\":" ++ (decimal j.programs ++ codes ",\"refused\":["))
+    ++ (refused_objects post j.refused ++ codes "]")
 
 -- the fault of a font file, by its number and its text; another fault has none
 abbrev pub fault_object : CommandFault → List ℕ
@@ -97,17 +112,21 @@ strings (text ∷ texts) = quoted text ++ flat_map next_string texts
 abbrev pub program_member : List ℕ → List ℕ
 program_member word = codes "\"program\":" ++ (quoted word ++ codes ",")
 
--- how it is refused, if it is
-abbrev pub refusal_member : Explained → List ℕ
-refusal_member explained.Accepted = []
-refusal_member (explained.Refused r) = codes "\"refused\":" ++ (refused_object r ++ codes ",")
+-- how a program is refused, if one is, whose glyph may have a name in the font
+abbrev pub refusal_member : Option (List ℕ) → Explained → List ℕ
+refusal_member called explained.Accepted = []
+refusal_member called (explained.Refused r) =
+    codes "\"refused\":" ++ (refused_object called r ++ codes ",")
 
 -- the lines of the explanation, and the object's end
 abbrev pub lines_member : List (List ℕ) → List ℕ
 lines_member texts = codes "\"lines\":[" ++ (strings texts ++ codes "]}\n")
 
 -- the object of an explanation with this text, in a line: of the program that the word names in the
--- font file with this name, of which this is answered
-abbrev pub explanation_object : List ℕ → Profile → List ℕ → Explained → List ℕ → List ℕ
-explanation_object name profile word e text = beginning name profile (status_of_explained e)
-    ++ (program_member word ++ (refusal_member e ++ lines_member (lines text)))
+-- font file with this name, of which this is answered; the glyph of a refused one may have a name in
+-- the font
+abbrev pub explanation_object : List ℕ → Profile → List ℕ → Option (List ℕ) → Explained
+    → List ℕ → List ℕ
+explanation_object name profile word called e text =
+    beginning name profile (status_of_explained e)
+    ++ (program_member word ++ (refusal_member called e ++ lines_member (lines text)))

@@ -2,6 +2,7 @@ pub mod Texts
 pub mod Listing
 pub mod Explanations
 pub mod Commands
+pub mod CalledGlyphs
 pub mod CauseAnswers
 pub mod Causes
 pub mod Containers

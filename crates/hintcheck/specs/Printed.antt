@@ -7,6 +7,8 @@ use Rattle.hintcheck_words.specs.declared.words.Format.{Format}
 use Rattle.hintcheck_words.specs.declared.words.Format.TheVariants.{Json}
 use Rattle.hintcheck_words.specs.declared.words.Profile.{Profile}
 use Rattle.hintcheck_words.specs.declared.words.Profile.TheVariants.{Strict}
+use Rattle.tt_names.specs.Post.{post_of}
+use Rattle.hintcheck.specs.CalledGlyphs.{called_of}
 use Rattle.hintcheck.specs.CauseAnswers.{PrintsCauses}
 use Rattle.hintcheck.specs.Commands.{status_of}
 use Rattle.hintcheck.specs.ExpectedScans.{PrintsScanning}
@@ -60,7 +62,8 @@ pub data PrintsExplanation (font word : List ℕ) (offset budget : Option ℕ) (
     : ℕ → Option (List ℕ) → Option (List ℕ) → Type 0 where
   explained : (bytes text : List ℕ) (e : Explained) (old new : Option (List ℕ))
       → HoldExplainedBy profile bytes word e
-      → Appends old new (explanation_object font profile word e text)
+      → Appends old new
+      (explanation_object font profile word (called_of (post_of bytes) e) e text)
       → PrintsExplanation font word offset budget profile (status_of_explained e) old new
   unexplained : (reported : CommandFault) (old new : Option (List ℕ))
       → IsUnexplained word offset budget reported

@@ -7,6 +7,7 @@ use Rattle.tt_code.specs.declared.reason.ReasonClass.{ReasonClass}
 use Rattle.tt_code.specs.declared.reason.ReasonClass.TheVariants.{PossibleFault, Undecided, LeftOut}
 use Rattle.tt_cert.specs.declared.name.Name.{Name}
 use Rattle.tt_cert.specs.declared.name.Name.TheVariants as name
+use Rattle.tt_names.specs.Post.{post_of}
 use Rattle.hintcheck_words.specs.declared.words.FailOn.{FailOn}
 use Rattle.hintcheck_words.specs.declared.words.Format.{Format}
 use Rattle.hintcheck_words.specs.declared.words.Format.TheVariants.{Lines, Json, Causes}
@@ -25,17 +26,16 @@ use Rattle.hintcheck.specs.declared.commands.faults.CommandFault.{CommandFault}
 use Rattle.hintcheck.specs.declared.commands.faults.CommandFault.TheVariants as fault
 use Rattle.hintcheck_report.specs.declared.refused.Refused.{Refused}
 
--- what comes of a font file: the verdict on it, or why there is none
+-- what comes of a font file: the bytes of the font, and the verdict on it; or why there is none
 pub data Answer : Type 0 where
-  judged : Judgement → Answer
+  judged : List ℕ → Judgement → Answer
   unread : CommandFault → Answer
 
--- The verdict is that of this profile on the font in some bytes, since no contract of the runtime
--- tells which bytes a file has; or the fault is one of a font file, and a budget's only where there
--- is a budget.
+-- The verdict is that of this profile on the font in the bytes: no contract of the runtime tells
+-- that they are those of the file. Or the fault is one of a font file, and a budget's only where
+-- there is a budget.
 abbrev pub IsAnswer : Profile → Option ℕ → Answer → Type 0
-IsAnswer profile budget (judged judgement) =
-    (bytes : List ℕ) × IsVerdictBy profile bytes judgement
+IsAnswer profile budget (judged bytes judgement) = IsVerdictBy profile bytes judgement
 IsAnswer profile budget (unread reported) = IsFaultOfFontFile reported × IsWithin budget reported
 
 -- the exit status where a scan fails for this many programs: 0 for none, and otherwise 1
@@ -44,7 +44,7 @@ status_of_failing count = min count 1
 
 -- the exit status of a font file alone
 abbrev pub status_of_answer : FailOn → Answer → ℕ
-status_of_answer fail_on (judged judgement) =
+status_of_answer fail_on (judged bytes judgement) =
     status_of_failing (number_failing fail_on judgement.refused)
 status_of_answer fail_on (unread reported) = status_of reported
 
@@ -79,7 +79,7 @@ summary programs (r ∷ rs) =
 
 -- an answer in one line, which names the profile of a verdict
 abbrev pub answer_text : Profile → Answer → List ℕ
-answer_text profile (judged judgement) =
+answer_text profile (judged bytes judgement) =
     summary judgement.programs judgement.refused ++ profile_text profile
 answer_text profile (unread reported) =
     codes "fault: " ++ unwrap_or (command_fault_text reported) []
@@ -90,7 +90,7 @@ line_of profile name answer = name ++ (codes ": " ++ (answer_text profile answer
 
 -- an answer as members of an object
 abbrev pub answer_members : Answer → List ℕ
-answer_members (judged judgement) = verdict_members judgement
+answer_members (judged bytes judgement) = verdict_members (post_of bytes) judgement
 answer_members (unread reported) = fault_members reported
 
 -- the object of a font file with this name, in a line
@@ -101,17 +101,23 @@ object_of options name answer =
 
 -- the refused programs of an answer
 abbrev pub refused_of : Answer → List Refused
-refused_of (judged judgement) = judgement.refused
+refused_of (judged bytes judgement) = judgement.refused
 refused_of (unread reported) = []
 
--- the line of a font file with this name and this verdict was printed, and the lines of the causes
--- of its refusals
-pub record TellsLineAndCauses (profile : Profile) (name : List ℕ) (judgement : Judgement)
+-- the table `post` of its font, which names glyphs
+abbrev pub post_of_answer : Answer → List ℕ
+post_of_answer (judged bytes judgement) = post_of bytes
+post_of_answer (unread reported) = []
+
+-- the line of a font file with this name, these bytes and this verdict was printed, and the lines of
+-- the causes of its refusals
+pub record TellsLineAndCauses (profile : Profile) (name bytes : List ℕ) (judgement : Judgement)
     (old new : Option (List ℕ)) : Type 0 where
   pub causes : List Refused
   pub are : AreCauses judgement.refused causes
   pub written : Appends old new
-      (line_of profile name (judged judgement) ++ cause_lines judgement.refused causes)
+      (line_of profile name (judged bytes judgement)
+      ++ cause_lines (post_of bytes) judgement.refused causes)
 
 -- A font file that was scanned: its name, what came of it, and the causes that are told of its
 -- refusals.
@@ -135,7 +141,8 @@ in_format Causes line causes object = line ++ causes
 -- what is printed of it
 abbrev pub text_of : ScanOptions → Scanned → List ℕ
 text_of options s = in_format options.format (line_of options.profile s.name s.answer)
-    (cause_lines (refused_of s.answer) s.causes) (object_of options s.name s.answer)
+    (cause_lines (post_of_answer s.answer) (refused_of s.answer) s.causes)
+    (object_of options s.name s.answer)
 
 -- what these options ask for was printed of a font file with this name
 pub record TellsFont (options : ScanOptions) (name : List ℕ) (answer : Answer)

@@ -7,6 +7,7 @@ mod causes;
 mod commands;
 mod explanation;
 mod font_file;
+mod glyph_names;
 mod instruction_list;
 mod neighbours;
 mod pushed_numbers;

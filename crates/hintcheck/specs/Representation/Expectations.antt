@@ -51,7 +51,7 @@ pub data Begins : Option (List ℕ) → Expected → Type 0 where
 
 -- the lines of the refused programs that count, of a font file with this name
 abbrev pub lines_of_answer : FailOn → List ℕ → Answer → List (List ℕ)
-lines_of_answer fail_on name (judged judgement) = counted_lines fail_on name judgement.refused
+lines_of_answer fail_on name (judged bytes judgement) = counted_lines fail_on name judgement.refused
 lines_of_answer fail_on name (unread reported) = []
 
 -- the same of all font files, in their order

@@ -3,15 +3,18 @@
 ghost use Rattle.std.specs.Prelude.{◌≡◌, ◌≢◌, ◌++◌, [], codes, flat_map, IfErr, IfOk, None, OnOk, option_map};
 ghost use Rattle.std.specs.Io.KnownBytes.{Appends};
 ghost use Rattle.tt_stream.specs.Streams.{CountsPrintFailure};
-ghost use Rattle.hintcheck.specs.Causes.{TellsCauses, cause_text, glyph_name_text, more_text, names_text, next_name, programs_word, shared_place_text};
+ghost use Rattle.hintcheck.specs.Causes.{TellsCauses, cause_text, glyph_name_text, more_text, names_text, next_name, program_text, programs_word, shared_place_text};
+ghost use Rattle.tt_names.specs.Post.{post_of};
 ghost use Rattle.hintcheck.specs.CommandFaults.{IsFaultOfLines};
 ghost use Rattle.hintcheck.specs.Commands.{TellsFailure};
 
 use super::faults::CommandFault;
 use super::scan_task::text_of_class;
 use crate::causes::{Cause, causes_of};
+use crate::glyph_names::called;
 use hintcheck_fonts::report::{Name, Place, Refused};
 use std::alloc::Global;
+use tt_names::GlyphNames;
 use tt_stream::{PrintFailed, Sink};
 
 /// How many of a cause's programs its line names at most.
@@ -48,44 +51,66 @@ fn print_glyph_name<O: Sink>(out: &mut O, called: Option<&str>) -> Result<(), Pr
     }
 }
 
-/// Prints a program that is named after another.
-#[tactic(auto, unfolding(crate::specs::Causes::next_name))]
-fn print_next<O: Sink>(out: &mut O, program: Name) -> Result<(), PrintFailed>
-    ensures written { OnOk result
-        (Appends (O.contents out.old) (O.contents out.new) (next_name program)) }
+/// Prints a program, with the name that the font has for its glyph.
+fn print_program<O: Sink>(
+    out: &mut O,
+    names: &GlyphNames<'_>,
+    program: Name,
+) -> Result<(), PrintFailed>
+    ensures written { OnOk result (Appends (O.contents out.old) (O.contents out.new)
+        (program_text names.now.post.now program)) }
     ensures failures { CountsPrintFailure result (O.failures out.old) (O.failures out.new) }
 {
-    write!(out, ", {program}")
+    write!(out, "{program}")?;
+    print_glyph_name(out, called(names, program))
+}
+
+/// Prints a program that is named after another.
+#[tactic(auto, unfolding(crate::specs::Causes::next_name))]
+fn print_next<O: Sink>(
+    out: &mut O,
+    names: &GlyphNames<'_>,
+    program: Name,
+) -> Result<(), PrintFailed>
+    ensures written { OnOk result (Appends (O.contents out.old) (O.contents out.new)
+        (next_name names.now.post.now program)) }
+    ensures failures { CountsPrintFailure result (O.failures out.old) (O.failures out.new) }
+{
+    write!(out, ", ")?;
+    print_program(out, names, program)
 }
 
 /// Prints the programs that are named after the first one.
-fn print_others<O: Sink>(out: &mut O, others: &[Name]) -> Result<(), PrintFailed>
-    ensures written { OnOk result
-        (Appends (O.contents out.old) (O.contents out.new) (flat_map next_name others.now)) }
+fn print_others<O: Sink>(
+    out: &mut O,
+    names: &GlyphNames<'_>,
+    others: &[Name],
+) -> Result<(), PrintFailed>
+    ensures written { OnOk result (Appends (O.contents out.old) (O.contents out.new)
+        (flat_map (next_name names.now.post.now) others.now)) }
     ensures failures { CountsPrintFailure result (O.failures out.old) (O.failures out.new) }
 {
     for program in others {
-        print_next(out, *program)?;
+        print_next(out, names, *program)?;
     }
     Ok(())
 }
 
-/// Prints programs with commas between them, of which the first may have a name in the font.
+/// Prints programs with commas between them.
 fn print_names<O: Sink>(
     out: &mut O,
-    called: Option<&str>,
+    names: &GlyphNames<'_>,
     programs: &[Name],
 ) -> Result<(), PrintFailed>
     ensures written { OnOk result (Appends (O.contents out.old) (O.contents out.new)
-        (names_text (option_map (λ text. text.now) called.entry) programs.now)) }
+        (names_text names.now.post.now programs.now)) }
     ensures failures { CountsPrintFailure result (O.failures out.old) (O.failures out.new) }
 {
     let Some((first, others)) = programs.split_first() else {
         return Ok(());
     };
-    write!(out, "{first}")?;
-    print_glyph_name(out, called)?;
-    print_others(out, others)
+    print_program(out, names, *first)?;
+    print_others(out, names, others)
 }
 
 /// Prints what stands for the programs that aren't named, of this many, and ends the line.
@@ -101,11 +126,14 @@ fn print_more<O: Sink>(out: &mut O, count: usize) -> Result<(), PrintFailed>
     }
 }
 
-/// Prints the line of a cause, with the name that the font has for the first program's glyph.
-fn print_cause<O: Sink>(out: &mut O, cause: &Cause, called: Option<&str>) -> Result<(), PrintFailed>
+/// Prints the line of a cause.
+fn print_cause<O: Sink>(
+    out: &mut O,
+    names: &GlyphNames<'_>,
+    cause: &Cause,
+) -> Result<(), PrintFailed>
     ensures written { OnOk result (Appends (O.contents out.old) (O.contents out.new)
-        (cause_text (option_map (λ text. text.now) called.entry)
-        cause.now.first cause.now.programs.items)) }
+        (cause_text names.now.post.now cause.now.first cause.now.programs.items)) }
     ensures failures { CountsPrintFailure result (O.failures out.old) (O.failures out.new) }
 {
     let programs = cause.programs.as_slice();
@@ -117,18 +145,22 @@ fn print_cause<O: Sink>(out: &mut O, cause: &Cause, called: Option<&str>) -> Res
     write!(out, "  {count} {word}: ")?;
     print_shared_place(out, cause.first.place)?;
     write!(out, ": {number} {reason} ({class}): ")?;
-    print_names(out, called, &programs[..count.min(NAMED)])?;
+    print_names(out, names, &programs[..count.min(NAMED)])?;
     print_more(out, count)
 }
 
 /// Prints the lines of causes.
-fn print_all<O: Sink>(out: &mut O, causes: &[Cause]) -> Result<(), PrintFailed>
+fn print_all<O: Sink>(
+    out: &mut O,
+    names: &GlyphNames<'_>,
+    causes: &[Cause],
+) -> Result<(), PrintFailed>
     ensures written { OnOk result (Appends (O.contents out.old) (O.contents out.new)
-        (flat_map (λ c. cause_text None c.first c.programs.items) causes.now)) }
+        (flat_map (λ c. cause_text names.now.post.now c.first c.programs.items) causes.now)) }
     ensures failures { CountsPrintFailure result (O.failures out.old) (O.failures out.new) }
 {
     for cause in causes {
-        print_cause(out, cause, None)?;
+        print_cause(out, names, cause)?;
     }
     Ok(())
 }
@@ -144,18 +176,20 @@ fn first_program(causes: &[Cause]) -> Option<Name>
     }
 }
 
-/// Prints the lines of the causes for which these programs are refused, and returns the first
-/// program of the most frequent one, if some are refused.
+/// Prints the lines of the causes for which these programs of a font are refused, with the names
+/// that the font has for their glyphs, and returns the first program of the most frequent one, if
+/// some are refused.
 ///
 /// # Errors
 /// `Write` exactly where a write to `out` failed; `OutOfMemory`.
 pub(super) fn print_causes<O: Sink>(
     alloc: Global,
     out: &mut O,
+    font: &[u8],
     refused: &[Refused],
 ) -> Result<Option<Name>, CommandFault>
-    ensures written { OnOk result
-        (TellsCauses refused.now (O.contents out.old) (O.contents out.new)) }
+    ensures written { OnOk result (TellsCauses (post_of font.now) refused.now
+        (O.contents out.old) (O.contents out.new)) }
     ensures none { IfOk result (λ first. first ≡ None → refused.now ≡ []) }
     ensures some { IfOk result (λ first. first ≢ None → refused.now ≢ []) }
     ensures failures { TellsFailure result (O.failures out.old) (O.failures out.new) }
@@ -164,7 +198,10 @@ pub(super) fn print_causes<O: Sink>(
     let Ok(causes) = causes_of(alloc, refused) else {
         return Err(CommandFault::OutOfMemory);
     };
+    let Ok(names) = GlyphNames::of(alloc, font) else {
+        return Err(CommandFault::OutOfMemory);
+    };
     let listed = causes.as_slice();
-    print_all(out, listed)?;
+    print_all(out, &names, listed)?;
     Ok(first_program(listed))
 }

@@ -115,7 +115,7 @@ fn explain_within<O: Sink>(
     ensures faults { IfErr result IsFaultOfFontCauses }
 {
     let verdict = verdict_on_font(alloc, font, judging, points)?;
-    let Some(first) = print_causes(alloc, out, verdict.refused())? else {
+    let Some(first) = print_causes(alloc, out, font, verdict.refused())? else {
         print_last_line(out, &verdict, judging.profile)?;
         return Ok(ACCEPTED);
     };

@@ -18,7 +18,7 @@ use tt_stream::Sink;
 
 /// Explains by a profile one program of the font in these bytes, as `explain_program` and
 /// `explain_program_symbolic` do, and returns whether it is accepted.
-fn explain_by<O: Sink>(
+pub(super) fn explain_by<O: Sink>(
     alloc: Global,
     bytes: &[u8],
     word: &str,

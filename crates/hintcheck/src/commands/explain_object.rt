@@ -1,21 +1,30 @@
 //! One program of a font file, explained in an object of JSON.
 
-ghost use Rattle.std.specs.Prelude.{◌≡◌, ◌≤◌, IfErr, IfOk, List, OnOk, ℕ};
+ghost use Rattle.std.specs.Prelude.{◌≡◌, ◌≤◌, IfErr, IfOk, List, OnOk, option_map, string_bytes, ℕ};
+ghost use Rattle.std.specs.Io.KnownBytes.{Appends};
+ghost use Rattle.tt_names.specs.Post.{post_of};
+ghost use Rattle.hintcheck.specs.CalledGlyphs.{called_of};
+ghost use Rattle.hintcheck.specs.JsonObjects.{explanation_object};
 ghost use Rattle.hintcheck.specs.Commands.{IsNoWriteFault, TellsFailure, status_of};
-ghost use Rattle.hintcheck.specs.CommandFaults.{IsFaultOfFileExplaining, IsFaultOfObject, IsWithin};
+ghost use Rattle.hintcheck.specs.CommandFaults.{IsFaultOfFileExplaining, IsFaultOfLines, IsFaultOfObject, IsWithin};
 ghost use Rattle.hintcheck.specs.Explanations.{HoldPlace};
 ghost use Rattle.hintcheck.specs.MeansSafe.{HoldAcceptedBy, HoldExplainedBy, HoldUnacceptedBy};
 ghost use Rattle.hintcheck.specs.Printed.{PrintsExplanation};
 ghost use Rattle.hintcheck.specs.Representation.ToldFaults.{fault_in_memory};
 ghost use Rattle.hintcheck.specs.Scans.{IsOfScan};
 
-use super::explain_lines::explained_of_file;
+use super::explain_lines::explain_by;
 use super::faults::CommandFault;
+use super::files::file_bytes;
 use super::json_objects::{print_explanation_object, print_fault_object};
+use super::scan_task::name_in;
 use crate::explanation::exit_status;
+use crate::glyph_names::called;
 use hintcheck_explain::Explained;
 use hintcheck_words::Profile;
+use std::alloc::{AllocError, Global};
 use std::rt::Files;
+use tt_names::GlyphNames;
 use tt_stream::{Counted, Sink};
 
 /// An explanation that was printed to memory.
@@ -23,6 +32,8 @@ use tt_stream::{Counted, Sink};
 struct Explanation {
     /// Whether the program is accepted.
     explained: Explained,
+    /// The name that the font has for the glyph of the refused program, if one is refused.
+    glyph: Option<String>,
     /// The lines.
     text: String,
 }
@@ -38,6 +49,64 @@ fn of_memory(fault: CommandFault) -> CommandFault
     }
 }
 
+/// Returns the name that the font in these bytes has for the glyph of the refused program, if one is
+/// refused.
+fn refused_glyph(
+    alloc: Global,
+    font: &[u8],
+    explained: Explained,
+) -> Result<Option<String>, AllocError>
+    ensures { IfOk result (λ glyph.
+        option_map (λ s. string_bytes s) glyph ≡ called_of (post_of font.now) explained) }
+{
+    let Explained::Refused(refused) = explained else {
+        return Ok(None);
+    };
+    let names = GlyphNames::of(alloc, font)?;
+    match called(&names, refused.program) {
+        Some(name) => Ok(Some(String::from_str(alloc, name)?)),
+        None => Ok(None),
+    }
+}
+
+/// Explains by a profile one program of the font in these bytes, the one that the word names, in
+/// memory.
+///
+/// # Errors
+/// As `explained_of_file` for a font that could be read, but never `Write`.
+fn explanation_in(
+    alloc: Global,
+    font: &[u8],
+    word: &str,
+    offset: Option<u32>,
+    budget: Option<u64>,
+    profile: Profile,
+) -> Result<Explanation, CommandFault>
+    ensures answered { IfOk result (λ e. HoldExplainedBy profile font.now word.now e.explained
+        × (option_map (λ s. string_bytes s) e.glyph ≡ called_of (post_of font.now) e.explained)) }
+    ensures unwritten { IfErr result IsNoWriteFault }
+    ensures faults { IfErr result
+        (λ fault. IsFaultOfFileExplaining word.now offset fault × IsWithin budget fault) }
+    ensures none { OnOk result (HoldPlace font.now word.now offset) }
+{
+    let mut sink = Counted::new(Vec::new(alloc));
+    let explained = match explain_by(alloc, font, word, offset, budget, profile, &mut sink) {
+        Ok(explained) => explained,
+        Err(fault) => return Err(of_memory(fault)),
+    };
+    let Ok(text) = String::from_utf8(sink.into_inner()) else {
+        return Err(CommandFault::Text);
+    };
+    let Ok(glyph) = refused_glyph(alloc, font, explained) else {
+        return Err(CommandFault::OutOfMemory);
+    };
+    Ok(Explanation {
+        explained,
+        glyph,
+        text,
+    })
+}
+
 /// Explains by a profile one program of the font file with this name, the one that the word names,
 /// in memory.
 ///
@@ -51,22 +120,40 @@ fn explanation_of<R: Files + AllocGlobal>(
     budget: Option<u64>,
     profile: Profile,
 ) -> Result<Explanation, CommandFault>
-    ensures answered { IfOk result
-        (λ e. (bytes : List ℕ) × HoldExplainedBy profile bytes word.now e.explained) }
+    ensures answered { IfOk result (λ e. (bytes : List ℕ)
+        × HoldExplainedBy profile bytes word.now e.explained
+        × (option_map (λ s. string_bytes s) e.glyph ≡ called_of (post_of bytes) e.explained)) }
     ensures unwritten { IfErr result IsNoWriteFault }
     ensures faults { IfErr result
         (λ fault. IsFaultOfFileExplaining word.now offset fault × IsWithin budget fault) }
     ensures none { OnOk result ((bytes : List ℕ) × HoldPlace bytes word.now offset) }
 {
-    let mut sink = Counted::new(Vec::new(rt.alloc()));
-    let explained = match explained_of_file(rt, name, word, offset, budget, profile, &mut sink) {
-        Ok(explained) => explained,
-        Err(fault) => return Err(of_memory(fault)),
-    };
-    let Ok(text) = String::from_utf8(sink.into_inner()) else {
-        return Err(CommandFault::Text);
-    };
-    Ok(Explanation { explained, text })
+    let bytes = file_bytes(rt, name)?;
+    explanation_in(rt.alloc(), &bytes, word, offset, budget, profile)
+}
+
+/// Prints the object of an explanation: of the program that the word names in the font file with this
+/// name.
+fn print_explanation<O: Sink>(
+    alloc: Global,
+    out: &mut O,
+    name: &str,
+    profile: Profile,
+    word: &str,
+    told: &Explanation,
+) -> Result<(), CommandFault>
+    ensures written { OnOk result (Appends (O.contents out.old) (O.contents out.new)
+        (explanation_object name.now profile word.now
+        (option_map (λ s. string_bytes s) told.now.glyph) told.now.explained
+        (string_bytes told.now.text))) }
+    ensures failures { TellsFailure result (O.failures out.old) (O.failures out.new) }
+    ensures faults { IfErr result IsFaultOfLines }
+{
+    let glyph = name_in(&told.glyph);
+    let explained = told.explained;
+    print_explanation_object(
+        alloc, out, name, profile, word, glyph, explained, &told.text,
+    )
 }
 
 /// Explains by a profile one program of the font file with this name, the one that the word names,
@@ -101,9 +188,9 @@ pub(super) fn explain_in_object<R: Files + AllocGlobal, O: Sink>(
     ensures none { OnOk result ((bytes : List ℕ) × HoldPlace bytes word.now offset) }
 {
     match explanation_of(rt, name, word, offset, budget, profile) {
-        Ok(Explanation { explained, text }) => {
-            print_explanation_object(rt.alloc(), out, name, profile, word, explained, &text)?;
-            Ok(exit_status(explained))
+        Ok(told) => {
+            print_explanation(rt.alloc(), out, name, profile, word, &told)?;
+            Ok(exit_status(told.explained))
         }
         Err(fault) if fault.is_of_font_file() => {
             print_fault_object(rt.alloc(), out, name, &fault, profile)?;

@@ -1,22 +1,25 @@
 //! The answers of a scan, and explanations, as objects of JSON (RFC 8259), one in a line.
 
-ghost use Rattle.std.specs.Prelude.{◌≡◌, ◌++◌, codes, flat_map, map, IfErr, IfOk, OnOk, string_bytes};
+ghost use Rattle.std.specs.Prelude.{◌≡◌, ◌++◌, codes, flat_map, map, IfErr, IfOk, OnOk, option_map, string_bytes};
 ghost use Rattle.std.specs.Str.Lines.{lines};
 ghost use Rattle.std.specs.Io.KnownBytes.{Appends};
 ghost use Rattle.json.specs.Print.{quoted};
+ghost use Rattle.tt_names.specs.Post.{post_of};
 ghost use Rattle.tt_stream.specs.Streams.{CountsPrintFailure};
 ghost use Rattle.hintcheck.specs.Commands.{TellsFailure};
 ghost use Rattle.hintcheck.specs.CommandFaults.{IsFaultOfFontFile, IsFaultOfLines};
-ghost use Rattle.hintcheck.specs.JsonObjects.{beginning, explanation_object, fault_object, lines_member, next_object, next_string, profile_name, program_member, refusal_member, refused_object, refused_objects, strings, unread_object, verdict_members};
+ghost use Rattle.hintcheck.specs.JsonObjects.{beginning, explanation_object, fault_object, glyph_member, lines_member, next_object, next_string, object_with_name, place_members, profile_name, program_member, reason_members, refusal_member, refused_object, refused_objects, strings, unread_object, verdict_members};
 
 use super::faults::{CommandFault, Numbered};
 use super::scan_task::text_of_class;
 use crate::explanation::exit_status;
+use crate::glyph_names::called;
 use hintcheck_explain::Explained;
 use hintcheck_fonts::report::{Refused, Verdict};
 use hintcheck_words::Profile;
 use serde_json::Value;
 use std::alloc::{AllocError, Global};
+use tt_names::GlyphNames;
 use tt_stream::{PrintFailed, Sink};
 
 /// Returns a text as JSON has it, in quotes.
@@ -62,20 +65,39 @@ fn print_beginning<O: Sink>(
     Ok(())
 }
 
-/// Prints a refused program.
-fn print_refused<O: Sink>(out: &mut O, refused: &Refused) -> Result<(), PrintFailed>
-    ensures written { OnOk result
-        (Appends (O.contents out.old) (O.contents out.new) (refused_object refused.now)) }
+/// Prints the name that the font has for a glyph, if it has one.
+fn print_glyph<O: Sink>(
+    alloc: Global,
+    out: &mut O,
+    called: Option<&str>,
+) -> Result<(), CommandFault>
+    ensures written { OnOk result (Appends (O.contents out.old) (O.contents out.new)
+        (glyph_member (option_map (λ name. name.now) called.entry))) }
+    ensures failures { TellsFailure result (O.failures out.old) (O.failures out.new) }
+    ensures faults { IfErr result IsFaultOfLines }
+{
+    let Some(name) = called else {
+        return Ok(());
+    };
+    write!(out, "\"glyph\":")?;
+    print_string(alloc, out, name)?;
+    write!(out, ",")?;
+    Ok(())
+}
+
+/// Prints where a program is refused, and why.
+fn print_place_and_reason<O: Sink>(out: &mut O, refused: &Refused) -> Result<(), PrintFailed>
+    ensures written { OnOk result (Appends (O.contents out.old) (O.contents out.new)
+        (place_members refused.now ++ reason_members refused.now)) }
     ensures failures { CountsPrintFailure result (O.failures out.old) (O.failures out.new) }
 {
-    let program = refused.program;
     let place = refused.place;
     let reason = refused.reason;
     let number = reason.number();
     let class = text_of_class(reason);
     write!(
         out,
-        "{{\"program\":\"{program}\",\"place\":\"{}\",\"offset\":{},",
+        "\"place\":\"{}\",\"offset\":{},",
         place.program, place.offset
     )?;
     write!(
@@ -84,70 +106,135 @@ fn print_refused<O: Sink>(out: &mut O, refused: &Refused) -> Result<(), PrintFai
     )
 }
 
+/// Prints a refused program, whose glyph may have a name in the font.
+fn print_refused<O: Sink>(
+    alloc: Global,
+    out: &mut O,
+    called: Option<&str>,
+    refused: &Refused,
+) -> Result<(), CommandFault>
+    ensures written { OnOk result (Appends (O.contents out.old) (O.contents out.new)
+        (refused_object (option_map (λ name. name.now) called.entry) refused.now)) }
+    ensures failures { TellsFailure result (O.failures out.old) (O.failures out.new) }
+    ensures faults { IfErr result IsFaultOfLines }
+{
+    let program = refused.program;
+    write!(out, "{{\"program\":\"{program}\",")?;
+    print_glyph(alloc, out, called)?;
+    print_place_and_reason(out, refused)?;
+    Ok(())
+}
+
+/// Prints a refused program, with the name that the font has for its glyph.
+#[tactic(auto, unfolding(crate::specs::JsonObjects::object_with_name))]
+fn print_named<O: Sink>(
+    alloc: Global,
+    out: &mut O,
+    names: &GlyphNames<'_>,
+    refused: &Refused,
+) -> Result<(), CommandFault>
+    ensures written { OnOk result (Appends (O.contents out.old) (O.contents out.new)
+        (object_with_name names.now.post.now refused.now)) }
+    ensures failures { TellsFailure result (O.failures out.old) (O.failures out.new) }
+    ensures faults { IfErr result IsFaultOfLines }
+{
+    print_refused(alloc, out, called(names, refused.program), refused)
+}
+
 /// Prints a refused program that comes after another.
 #[tactic(auto, unfolding(crate::specs::JsonObjects::next_object))]
-fn print_next<O: Sink>(out: &mut O, refused: &Refused) -> Result<(), PrintFailed>
-    ensures written { OnOk result
-        (Appends (O.contents out.old) (O.contents out.new) (next_object refused.now)) }
-    ensures failures { CountsPrintFailure result (O.failures out.old) (O.failures out.new) }
+fn print_next<O: Sink>(
+    alloc: Global,
+    out: &mut O,
+    names: &GlyphNames<'_>,
+    refused: &Refused,
+) -> Result<(), CommandFault>
+    ensures written { OnOk result (Appends (O.contents out.old) (O.contents out.new)
+        (next_object names.now.post.now refused.now)) }
+    ensures failures { TellsFailure result (O.failures out.old) (O.failures out.new) }
+    ensures faults { IfErr result IsFaultOfLines }
 {
     write!(out, ",")?;
-    print_refused(out, refused)
+    print_named(alloc, out, names, refused)
 }
 
 /// Prints the refused programs that come after the first one.
-fn print_others<O: Sink>(out: &mut O, others: &[Refused]) -> Result<(), PrintFailed>
-    ensures written { OnOk result
-        (Appends (O.contents out.old) (O.contents out.new) (flat_map next_object others.now)) }
-    ensures failures { CountsPrintFailure result (O.failures out.old) (O.failures out.new) }
+fn print_others<O: Sink>(
+    alloc: Global,
+    out: &mut O,
+    names: &GlyphNames<'_>,
+    others: &[Refused],
+) -> Result<(), CommandFault>
+    ensures written { OnOk result (Appends (O.contents out.old) (O.contents out.new)
+        (flat_map (next_object names.now.post.now) others.now)) }
+    ensures failures { TellsFailure result (O.failures out.old) (O.failures out.new) }
+    ensures faults { IfErr result IsFaultOfLines }
 {
     for refused in others {
-        print_next(out, refused)?;
+        print_next(alloc, out, names, refused)?;
     }
     Ok(())
 }
 
 /// Prints refused programs, with commas between them.
-fn print_all_refused<O: Sink>(out: &mut O, refused: &[Refused]) -> Result<(), PrintFailed>
-    ensures written { OnOk result
-        (Appends (O.contents out.old) (O.contents out.new) (refused_objects refused.now)) }
-    ensures failures { CountsPrintFailure result (O.failures out.old) (O.failures out.new) }
+fn print_all_refused<O: Sink>(
+    alloc: Global,
+    out: &mut O,
+    names: &GlyphNames<'_>,
+    refused: &[Refused],
+) -> Result<(), CommandFault>
+    ensures written { OnOk result (Appends (O.contents out.old) (O.contents out.new)
+        (refused_objects names.now.post.now refused.now)) }
+    ensures failures { TellsFailure result (O.failures out.old) (O.failures out.new) }
+    ensures faults { IfErr result IsFaultOfLines }
 {
     let Some((first, others)) = refused.split_first() else {
         return Ok(());
     };
-    print_refused(out, first)?;
-    print_others(out, others)
+    print_named(alloc, out, names, first)?;
+    print_others(alloc, out, names, others)
 }
 
-/// Prints the members of an object that tell a verdict.
-fn print_verdict_members<O: Sink>(out: &mut O, verdict: &Verdict) -> Result<(), PrintFailed>
-    ensures written { OnOk result
-        (Appends (O.contents out.old) (O.contents out.new) (verdict_members verdict.now)) }
-    ensures failures { CountsPrintFailure result (O.failures out.old) (O.failures out.new) }
+/// Prints the members of an object that tell the verdict on the font in these bytes.
+fn print_verdict_members<O: Sink>(
+    alloc: Global,
+    out: &mut O,
+    bytes: &[u8],
+    verdict: &Verdict,
+) -> Result<(), CommandFault>
+    ensures written { OnOk result (Appends (O.contents out.old) (O.contents out.new)
+        (verdict_members (post_of bytes.now) verdict.now)) }
+    ensures failures { TellsFailure result (O.failures out.old) (O.failures out.new) }
+    ensures faults { IfErr result IsFaultOfLines }
 {
+    let Ok(names) = GlyphNames::of(alloc, bytes) else {
+        return Err(CommandFault::OutOfMemory);
+    };
     let programs = verdict.programs();
     write!(out, "\"programs\":{programs},\"refused\":[")?;
-    print_all_refused(out, verdict.refused())?;
-    write!(out, "]")
+    print_all_refused(alloc, out, &names, verdict.refused())?;
+    write!(out, "]")?;
+    Ok(())
 }
 
-/// Prints the object of a font file with this verdict, which gives the exit status.
+/// Prints the object of a font file with these bytes and this verdict, which gives the exit status.
 pub(super) fn print_verdict_object<O: Sink>(
     alloc: Global,
     out: &mut O,
     name: &str,
+    bytes: &[u8],
     verdict: &Verdict,
     profile: Profile,
     status: u8,
 ) -> Result<(), CommandFault>
     ensures written { OnOk result (Appends (O.contents out.old) (O.contents out.new)
-        (beginning name.now profile status ++ (verdict_members verdict.now ++ codes "}\n"))) }
+        (beginning name.now profile status
+        ++ (verdict_members (post_of bytes.now) verdict.now ++ codes "}\n"))) }
     ensures failures { TellsFailure result (O.failures out.old) (O.failures out.new) }
     ensures faults { IfErr result IsFaultOfLines }
 {
     print_beginning(alloc, out, name, profile, status)?;
-    print_verdict_members(out, verdict)?;
+    print_verdict_members(alloc, out, bytes, verdict)?;
     writeln!(out, "}}")?;
     Ok(())
 }
@@ -273,18 +360,25 @@ fn print_program<O: Sink>(alloc: Global, out: &mut O, word: &str) -> Result<(), 
     Ok(())
 }
 
-/// Prints how a program is refused, if it is.
-fn print_refusal<O: Sink>(out: &mut O, explained: Explained) -> Result<(), PrintFailed>
-    ensures written { OnOk result
-        (Appends (O.contents out.old) (O.contents out.new) (refusal_member explained)) }
-    ensures failures { CountsPrintFailure result (O.failures out.old) (O.failures out.new) }
+/// Prints how a program is refused, if one is, whose glyph may have a name in the font.
+fn print_refusal<O: Sink>(
+    alloc: Global,
+    out: &mut O,
+    called: Option<&str>,
+    explained: Explained,
+) -> Result<(), CommandFault>
+    ensures written { OnOk result (Appends (O.contents out.old) (O.contents out.new)
+        (refusal_member (option_map (λ name. name.now) called.entry) explained)) }
+    ensures failures { TellsFailure result (O.failures out.old) (O.failures out.new) }
+    ensures faults { IfErr result IsFaultOfLines }
 {
     let Explained::Refused(refused) = explained else {
         return Ok(());
     };
     write!(out, "\"refused\":")?;
-    print_refused(out, &refused)?;
-    write!(out, ",")
+    print_refused(alloc, out, called, &refused)?;
+    write!(out, ",")?;
+    Ok(())
 }
 
 /// Prints the lines of an explanation, and the object's end.
@@ -304,23 +398,25 @@ fn print_lines<O: Sink>(alloc: Global, out: &mut O, text: &str) -> Result<(), Co
 }
 
 /// Prints the object of an explanation with this text: of the program that the word names in the
-/// font file with this name.
+/// font file with this name. The glyph of a refused one may have a name in the font.
 pub(super) fn print_explanation_object<O: Sink>(
     alloc: Global,
     out: &mut O,
     name: &str,
     profile: Profile,
     word: &str,
+    called: Option<&str>,
     explained: Explained,
     text: &str,
 ) -> Result<(), CommandFault>
     ensures written { OnOk result (Appends (O.contents out.old) (O.contents out.new)
-        (explanation_object name.now profile word.now explained text.now)) }
+        (explanation_object name.now profile word.now (option_map (λ name. name.now) called.entry)
+        explained text.now)) }
     ensures failures { TellsFailure result (O.failures out.old) (O.failures out.new) }
     ensures faults { IfErr result IsFaultOfLines }
 {
     print_beginning(alloc, out, name, profile, exit_status(explained))?;
     print_program(alloc, out, word)?;
-    print_refusal(out, explained)?;
+    print_refusal(alloc, out, called, explained)?;
     print_lines(alloc, out, text)
 }

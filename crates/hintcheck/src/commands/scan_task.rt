@@ -19,7 +19,7 @@ use super::faults::CommandFault;
 use super::json_objects::{print_fault_object, print_verdict_object};
 use super::scan_summary::{Tally, tell_summary};
 use super::verdict_lines::end_of_profile;
-use super::verdict_task::file_verdict;
+use super::verdict_task::{JudgedFont, judged_font};
 use super::{ACCEPTED, REFUSED};
 use hintcheck_fonts::report::{Name, Refused, Verdict};
 use hintcheck_words::{FailOn, Format, Profile, ScanOptions};
@@ -97,8 +97,9 @@ fn print_line<O: Sink>(
     verdict: &Verdict,
     profile: Profile,
 ) -> Result<(), PrintFailed>
+    // The line is the same for all bytes of the font.
     ensures written { OnOk result (Appends (O.contents out.old) (O.contents out.new)
-        (line_of profile name.now (judged verdict.now))) }
+        (line_of profile name.now (judged [] verdict.now))) }
     ensures failures { CountsPrintFailure result (O.failures out.old) (O.failures out.new) }
 {
     let programs = verdict.programs();
@@ -136,45 +137,51 @@ fn verdict_status(verdict: &Verdict, fail_on: FailOn) -> u8
     }
 }
 
-/// Prints the line of a font, whose verdict is one of this profile, and a line for each cause for
-/// which its programs are refused.
+/// Prints the line of the font in these bytes, whose verdict is one of this profile, and a line for
+/// each cause for which its programs are refused.
 fn print_with_causes<O: Sink>(
     alloc: Global,
     out: &mut O,
     name: &str,
+    bytes: &[u8],
     verdict: &Verdict,
     profile: Profile,
 ) -> Result<(), CommandFault>
-    ensures written { OnOk result (TellsLineAndCauses profile name.now verdict.now
+    ensures written { OnOk result (TellsLineAndCauses profile name.now bytes.now verdict.now
         (O.contents out.old) (O.contents out.new)) }
     ensures failures { TellsFailure result (O.failures out.old) (O.failures out.new) }
     ensures faults { IfErr result IsFaultOfLines }
 {
     print_line(out, name, verdict, profile)?;
-    print_causes(alloc, out, verdict.refused())?;
+    print_causes(alloc, out, bytes, verdict.refused())?;
     Ok(())
 }
 
-/// Prints what these options ask for of the font file with this name and this verdict, which gives
-/// the exit status.
+/// Prints what these options ask for of the font file with this name, these bytes and this verdict,
+/// which gives the exit status.
 fn tell_judged<O: Sink>(
     alloc: Global,
     out: &mut O,
     name: &str,
-    verdict: &Verdict,
+    font: &JudgedFont,
     options: ScanOptions,
     status: u8,
 ) -> Result<(), CommandFault>
-    requires { status ≡ status_of_answer options.fail_on (judged verdict.now) }
-    ensures written { OnOk result (TellsFont options name.now (judged verdict.now)
-        (O.contents out.old) (O.contents out.new)) }
+    requires { status
+        ≡ status_of_answer options.fail_on (judged font.now.bytes.items font.now.verdict) }
+    ensures written { OnOk result (TellsFont options name.now
+        (judged font.now.bytes.items font.now.verdict) (O.contents out.old) (O.contents out.new)) }
     ensures failures { TellsFailure result (O.failures out.old) (O.failures out.new) }
     ensures faults { IfErr result (IsFaultOfTelling options) }
 {
+    let bytes = font.bytes.as_slice();
+    let verdict = &font.verdict;
     match options.format {
         Format::Lines => Ok(print_line(out, name, verdict, options.profile)?),
-        Format::Causes => print_with_causes(alloc, out, name, verdict, options.profile),
-        Format::Json => print_verdict_object(alloc, out, name, verdict, options.profile, status),
+        Format::Causes => print_with_causes(alloc, out, name, bytes, verdict, options.profile),
+        Format::Json => {
+            print_verdict_object(alloc, out, name, bytes, verdict, options.profile, status)
+        }
     }
 }
 
@@ -215,12 +222,12 @@ fn scan_font<R: Files + AllocGlobal, O: Sink>(
     ensures failures { TellsFailure result (O.failures out.old) (O.failures out.new) }
     ensures faults { IfErr result (IsFaultOfNoting options (expected_by expectation.old)) }
 {
-    match file_verdict(rt, name, options.budget, options.profile) {
-        Ok(verdict) => {
-            let status = verdict_status(&verdict, options.fail_on);
-            tell_judged(rt.alloc(), out, name, &verdict, options, status)?;
-            expectation.note(rt.alloc(), name, verdict.refused(), options.fail_on)?;
-            tally.count_verdict(verdict.accepted());
+    match judged_font(rt, name, options.budget, options.profile) {
+        Ok(font) => {
+            let status = verdict_status(&font.verdict, options.fail_on);
+            tell_judged(rt.alloc(), out, name, &font, options, status)?;
+            expectation.note(rt.alloc(), name, font.verdict.refused(), options.fail_on)?;
+            tally.count_verdict(font.verdict.accepted());
             Ok(status)
         }
         Err(fault) => {
@@ -295,12 +302,12 @@ fn scan_expecting<R: Files + AllocGlobal, O: Sink, E: Sink>(
     expectation.settle(rt, greatest)
 }
 
-/// Returns the name of the file of known refusals, if one is named.
-fn name_in(expected: &Option<String>) -> Option<&str>
-    ensures { option_map (λ name. name.now) result
-        ≡ option_map (λ s. string_bytes s) expected.now }
+/// Returns the name of a file that may be named, or of a glyph that may have one.
+pub(super) fn name_in(name: &Option<String>) -> Option<&str>
+    ensures { option_map (λ text. text.now) result
+        ≡ option_map (λ s. string_bytes s) name.now }
 {
-    match expected {
+    match name {
         Some(name) => Some(name.as_str()),
         None => None,
     }

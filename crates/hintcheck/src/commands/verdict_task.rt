@@ -1,21 +1,20 @@
 //! The subcommand `verdict`: the verdict on a font file.
 
 ghost use Rattle.std.specs.Prelude.{◌≡◌, ◌≢◌, IfErr, IfOk, List, Err, Ok, OnOk, ℕ, []};
-ghost use Rattle.hintcheck.specs.Commands.{HasAll, IsNoWriteFault, ReadsToEnd, TellsFailedRead};
-ghost use Rattle.hintcheck.specs.CommandFaults.{IsFaultOfFontFile, IsFaultOfSource, IsFaultWithin, IsWithin, ReadNoFault};
+ghost use Rattle.hintcheck.specs.Commands.{IsNoWriteFault, ReadsToEnd, TellsFailedRead};
+ghost use Rattle.hintcheck.specs.CommandFaults.{IsFaultOfFontFile, IsFaultOfSource, IsWithin, ReadNoFault};
 ghost use Rattle.hintcheck.specs.MeansSafe.{HoldRefusedBy, HoldSafeBy, IsVerdictBy};
-ghost use Rattle.hintcheck_fonts.specs.FontAnswers.{IsSymbolicVerdictOn, IsVerdictOn};
+ghost use Rattle.hintcheck_fonts.specs.FontAnswers.{IsVerdictOn};
 
 use super::faults::CommandFault;
-use super::files::opened;
+use super::files::file_bytes;
 use crate::font_file::{symbolic_verdict_in, verdict_in, verdict_in_budget};
 use hintcheck_fonts::report::Verdict;
 use hintcheck_words::Profile;
 use std::alloc::Global;
-use std::io::Read;
 use std::rt::Files;
 use tt_family::Budget;
-use tt_stream::{Counted, Source, read_all};
+use tt_stream::{Source, read_all};
 
 /// Returns the verdict on all programs of the font whose bytes are all that is left in the source,
 /// which is read to its end.
@@ -38,70 +37,48 @@ pub fn verdict_of<S: Source>(alloc: Global, source: &mut S) -> Result<Verdict, C
     Ok(verdict_in(alloc, &bytes)?)
 }
 
-/// Returns the verdict as `verdict_of` does, and makes at most this many points, where they are
-/// bounded.
-fn verdict_within_points<S: Source>(
+/// Returns the verdict of a profile on the font in these bytes. The strict one makes at most this many
+/// points, and the search of the symbolic one this many steps, where they are bounded.
+fn verdict_by(
     alloc: Global,
-    source: &mut S,
-    budget: Option<u64>,
-) -> Result<Verdict, CommandFault>
-    ensures exact { IfOk result (λ v. (bytes : List ℕ)
-        × ReadsToEnd (S.remaining source.old) (S.remaining source.new) bytes
-        × IsVerdictOn bytes v) }
-    ensures fault { IfErr result IsNoWriteFault }
-    ensures faults { IfErr result
-        (IsFaultWithin budget (S.remaining source.old) (S.remaining source.new)) }
-{
-    let Some(most) = budget else {
-        return verdict_of(alloc, source);
-    };
-    let bytes = read_all(alloc, source)?;
-    verdict_in_budget(alloc, &bytes, &mut Budget::of(most))
-}
-
-/// Returns the verdict by symbolic states on all programs of the font whose bytes are all that is
-/// left in the source, which is read to its end. The search makes at most this many steps, where
-/// they are bounded.
-fn symbolic_verdict_of<S: Source>(
-    alloc: Global,
-    source: &mut S,
-    budget: Option<u64>,
-) -> Result<Verdict, CommandFault>
-    ensures exact { IfOk result (λ v. (bytes : List ℕ)
-        × ReadsToEnd (S.remaining source.old) (S.remaining source.new) bytes
-        × IsSymbolicVerdictOn bytes v) }
-    ensures fault { IfErr result IsNoWriteFault }
-    ensures faults { IfErr result
-        (IsFaultOfSource (S.remaining source.old) (S.remaining source.new)) }
-{
-    let bytes = read_all(alloc, source)?;
-    Ok(symbolic_verdict_in(alloc, &bytes, budget)?)
-}
-
-/// Returns the verdict of a profile on all programs of a font, whose bytes are those that are left
-/// in the file. The strict one makes at most this many points, and the search of the symbolic one
-/// this many steps, where they are bounded.
-fn verdict_on_bytes<F: Read + Drop>(
-    alloc: Global,
-    file: F,
+    bytes: &[u8],
     budget: Option<u64>,
     profile: Profile,
 ) -> Result<Verdict, CommandFault>
-    ensures safe { IfOk result (λ verdict. verdict.refused ≡ []
-        → (bytes : List ℕ) × HasAll (F.remaining file) bytes × HoldSafeBy profile bytes) }
-    ensures refused { IfOk result (λ verdict. verdict.refused ≢ []
-        → (bytes : List ℕ) × HasAll (F.remaining file) bytes × HoldRefusedBy profile bytes) }
-    ensures given { IfOk result (λ verdict. (bytes : List ℕ)
-        × HasAll (F.remaining file) bytes × IsVerdictBy profile bytes verdict) }
-    ensures fault { IfErr result IsNoWriteFault }
+    ensures given { IfOk result (IsVerdictBy profile bytes.now) }
     ensures faults { IfErr result
         (λ fault. IsFaultOfFontFile fault × IsWithin budget fault) }
 {
-    let mut source = Counted::new(file);
-    match profile {
-        Profile::Strict => verdict_within_points(alloc, &mut source, budget),
-        Profile::Symbolic => symbolic_verdict_of(alloc, &mut source, budget),
+    match (profile, budget) {
+        (Profile::Strict, None) => Ok(verdict_in(alloc, bytes)?),
+        (Profile::Strict, Some(most)) => { verdict_in_budget(alloc, bytes, &mut Budget::of(most)) }
+        (Profile::Symbolic, budget) => Ok(symbolic_verdict_in(alloc, bytes, budget)?),
     }
+}
+
+/// The font in a file: its bytes, and the verdict on it.
+#[derive(Drop)]
+pub(super) struct JudgedFont {
+    pub bytes: Vec<u8>,
+    pub verdict: Verdict,
+}
+
+/// Returns the bytes of the font file with this name, and the verdict of a profile on all programs of
+/// the font. The strict one makes at most this many points, and the search of the symbolic one this
+/// many steps, where they are bounded.
+pub(super) fn judged_font<R: Files + AllocGlobal>(
+    rt: &R,
+    name: &str,
+    budget: Option<u64>,
+    profile: Profile,
+) -> Result<JudgedFont, CommandFault>
+    ensures given { IfOk result (λ font. IsVerdictBy profile font.bytes.items font.verdict) }
+    ensures faults { IfErr result
+        (λ fault. IsFaultOfFontFile fault × IsWithin budget fault) }
+{
+    let bytes = file_bytes(rt, name)?;
+    let verdict = verdict_by(rt.alloc(), &bytes, budget, profile)?;
+    Ok(JudgedFont { bytes, verdict })
 }
 
 /// Returns the verdict of a profile on all programs of the font file with this name. The strict one
@@ -122,6 +99,5 @@ pub(super) fn file_verdict<R: Files + AllocGlobal>(
     ensures faults { IfErr result
         (λ fault. IsFaultOfFontFile fault × IsWithin budget fault) }
 {
-    let file = opened(rt, name)?;
-    verdict_on_bytes(rt.alloc(), file, budget, profile)
+    Ok(judged_font(rt, name, budget, profile)?.verdict)
 }

@@ -6,6 +6,6 @@ use Rattle.hintcheck.proofs.commands.cause_lines.print_others.Given as goal
 
 abbrev pub invariant-loop-program : goal.invariant-loop-program
 invariant-loop-program g l = record {
-  written : Appends (g.O.Sink.contents l.fn.out) (g.O.Sink.contents l.out) (flat_map next_name (take l.program-index l.others));
+  written : Appends (g.O.Sink.contents l.fn.out) (g.O.Sink.contents l.out) (flat_map (next_name l.names.post.now) (take l.program-index l.others));
   failures : g.O.Sink.failures l.out ≡ g.O.Sink.failures l.fn.out;
 }

@@ -1,15 +1,8 @@
-use Rattle.std.proofs.Common.{subst, sym}
-use Rattle.hintcheck.specs.CommandFaults.{IsFaultOfFileExplaining, IsWithin}
-use Rattle.hintcheck.specs.Commands.{IsNoWriteFault}
-use Rattle.hintcheck.specs.declared.commands.faults.CommandFault.{CommandFault}
-use Rattle.hintcheck.proofs.ObjectFaults.{memory_explaining, memory_no_write, memory_within}
+use Rattle.std.proofs.lemmas.Result.{IfOk-weaker, on_ok_weaker}
 use Rattle.hintcheck.proofs.commands.explain_object.explanation_of.Goals as goal
 
-pub returns-in-Err-clause-unwritten : goal.returns-in-Err-clause-unwritten
-returns-in-Err-clause-unwritten g c = subst IsNoWriteFault (sym c.of_memory.ensures) (memory_no_write c.in-Err.fault)
+pub returns-clause-answered : goal.returns-clause-answered
+returns-clause-answered g c = IfOk-weaker c.explanation_in.result _ _ (λ e holds. (c.deref.result.now, holds.0, holds.1)) c.explanation_in.ensures.answered
 
-pub returns-in-Err-clause-faults : goal.returns-in-Err-clause-faults
-returns-in-Err-clause-faults g c =
-    let (explaining, within) = c.in-Err.ensures.faults in
-    subst (λ (f : CommandFault). IsFaultOfFileExplaining c.args.word.now c.args.offset f × IsWithin c.args.budget f) (sym c.of_memory.ensures)
-    (memory_explaining c.args.word.now c.args.offset c.in-Err.fault explaining, memory_within c.args.budget c.in-Err.fault within)
+pub returns-clause-none : goal.returns-clause-none
+returns-clause-none g c = on_ok_weaker c.explanation_in.result (λ holds. (c.deref.result.now, holds)) c.explanation_in.ensures.none

@@ -1,10 +1,9 @@
-use Rattle.std.proofs.lemmas.Result.{on_ok_weaker}
+use Rattle.std.specs.Prelude.{option_map}
 use Rattle.hintcheck.proofs.WrittenObjects.{refused_written}
 use Rattle.hintcheck.proofs.commands.json_objects.print_refused.Goals as goal
 
 pub returns-clause-written : goal.returns-clause-written
 returns-clause-written g c =
     let contents = g.O.Sink.contents in
-    on_ok_weaker c.write-2.result
-    (λ last. refused_written c.args.refused.now c.number-number.result c.text_of_class-class.result.now (contents c.args.out.now) (contents c.write.new.self) (contents c.write-2.new.self) c.number-number.ensures
-    c.text_of_class-class.ensures c.in_ok-write.ensures.written last) c.write-2.ensures.written
+    refused_written (option_map (λ name. name.now) c.args.called) c.args.refused.now (contents c.args.out.now) (contents c.write.new.self) (contents c.print_glyph.new.out) (contents c.print_place_and_reason.new.out)
+    c.in_ok-write.ensures.written c.in_ok-print_glyph.ensures.written c.in_ok-print_place_and_reason.ensures.written
