@@ -15,7 +15,7 @@ use Rattle.std.proofs.lemmas.List.Sorted.{All-permutation, IsNonDecreasingBy-pus
 use Rattle.std.proofs.lemmas.List.Sums.{count_by-le-length, length-filter, sum_by-cons, sum_by_push}
 use Rattle.hintcheck.specs.Causes.{AreCauses, IsToldBefore, first_of, is_same_cause, is_same_place, programs_of}
 use Rattle.tt_code.specs.Refusals.{number_of}
-use Rattle.hintcheck.specs.Representation.CauseLists.{AreInOrder, is_same_key, key_at, key_of_lem, names_in}
+use Rattle.hintcheck.specs.Representation.CauseLists.{AreInOrder, is_same_key, key_at, cause_key, names_in}
 use Rattle.hintcheck.specs.declared.causes.Cause.{Cause}
 use Rattle.hintcheck.specs.declared.causes.CauseKey.{CauseKey}
 use Rattle.hintcheck.specs.declared.causes.CauseKey.TheVariants as key
@@ -59,11 +59,11 @@ same_at (name.Glyph a) name.Cvt i j m n = refl
 same_at (name.Glyph a) (name.Glyph b) i j m n = refl
 
 -- keys tell causes apart
-pub same_keys : (a b : Refused) → is_same_key (key_of_lem a) (key_of_lem b) ≡ is_same_cause a b
+pub same_keys : (a b : Refused) → is_same_key (cause_key a) (cause_key b) ≡ is_same_cause a b
 same_keys a b = same_at a.place.program b.place.program a.place.offset b.place.offset (number_of a.reason) (number_of b.reason)
 
-pub one_cause : (a b : Refused) → is_same_cause a b ≡ true → key_of_lem a ≡ key_of_lem b
-one_cause a b e = one_key (key_of_lem a) (key_of_lem b) (same_keys a b ∙ e)
+pub one_cause : (a b : Refused) → is_same_cause a b ≡ true → cause_key a ≡ cause_key b
+one_cause a b e = one_key (cause_key a) (cause_key b) (same_keys a b ∙ e)
 
 own_place : (p : Name) (i : ℕ) → is_same_place p p (i == i) ≡ true
 own_place name.Font i = (Decides-eqb i i).1 refl
@@ -75,7 +75,7 @@ own_cause a = rw (own_place a.place.program a.place.offset) ((Decides-eqb (numbe
 
 -- by keys, the tests don't depend on the order
 by_keys : (a b : Refused) → is_same_cause a b ≡ true → is_same_cause b a ≡ true
-by_keys a b e = sym (same_keys b a) ∙ subst (λ k. is_same_key (key_of_lem b) k ≡ true) (sym (one_cause a b e)) (same_keys b b ∙ own_cause b)
+by_keys a b e = sym (same_keys b a) ∙ subst (λ k. is_same_key (cause_key b) k ≡ true) (sym (one_cause a b e)) (same_keys b b ∙ own_cause b)
 
 pub same_both_ways : (a b : Refused) → is_same_cause a b ≡ is_same_cause b a
 same_both_ways a b = elim (settled (is_same_cause a b)) [
@@ -90,25 +90,25 @@ same_both_ways a b = elim (settled (is_same_cause a b)) [
     differ e = cc
 
 pub same_with : (a b c : Refused) → is_same_cause a b ≡ true → is_same_cause a c ≡ is_same_cause b c
-same_with a b c e = sym (same_keys a c) ∙ subst (λ k. is_same_key k (key_of_lem c) ≡ is_same_cause b c) (sym (one_cause a b e)) (same_keys b c)
+same_with a b c e = sym (same_keys a c) ∙ subst (λ k. is_same_key k (cause_key c) ≡ is_same_cause b c) (sym (one_cause a b e)) (same_keys b c)
 
 -- one more program is put with those of its cause
-pub program_listed : {S : Type 0} (o m n : HashMap CauseKey (Vec Name) S) (one r : Refused) (v w : Vec Name) → ((q : CauseKey) → get is_same_key m q ≡ cond (is_same_key (key_of_lem one) q) None (get is_same_key o q))
-    → ((q : CauseKey) → get is_same_key n q ≡ cond (is_same_key (key_of_lem one) q) (Some w) (get is_same_key m q)) → v.items ≡ names_in (get is_same_key o (key_of_lem one)) → w.items ≡ v.items ++ one.program ∷ []
-    → names_in (get is_same_key n (key_of_lem r)) ≡ names_in (get is_same_key o (key_of_lem r)) ++ (if is_same_cause r one then one.program ∷ [] else [])
+pub program_listed : {S : Type 0} (o m n : HashMap CauseKey (Vec Name) S) (one r : Refused) (v w : Vec Name) → ((q : CauseKey) → get is_same_key m q ≡ cond (is_same_key (cause_key one) q) None (get is_same_key o q))
+    → ((q : CauseKey) → get is_same_key n q ≡ cond (is_same_key (cause_key one) q) (Some w) (get is_same_key m q)) → v.items ≡ names_in (get is_same_key o (cause_key one)) → w.items ≡ v.items ++ one.program ∷ []
+    → names_in (get is_same_key n (cause_key r)) ≡ names_in (get is_same_key o (cause_key r)) ++ (if is_same_cause r one then one.program ∷ [] else [])
 program_listed o m n one r v w removed inserted had pushed = elim (settled (is_same_cause one r)) [
   | inl passes ↦
-      let test : is_same_key (key_of_lem one) (key_of_lem r) ≡ true = same_keys one r ∙ passes in
-      let now : get is_same_key n (key_of_lem r) ≡ Some w = inserted (key_of_lem r) ∙ ap (λ b. cond b (Some w) (get is_same_key m (key_of_lem r))) test in
-      let before : v.items ≡ names_in (get is_same_key o (key_of_lem r)) = had ∙ ap (λ k. names_in (get is_same_key o k)) (one_cause one r passes) in
+      let test : is_same_key (cause_key one) (cause_key r) ≡ true = same_keys one r ∙ passes in
+      let now : get is_same_key n (cause_key r) ≡ Some w = inserted (cause_key r) ∙ ap (λ b. cond b (Some w) (get is_same_key m (cause_key r))) test in
+      let before : v.items ≡ names_in (get is_same_key o (cause_key r)) = had ∙ ap (λ k. names_in (get is_same_key o k)) (one_cause one r passes) in
       ap names_in now ∙ pushed ∙ ap (λ xs. xs ++ one.program ∷ []) before
-      ∙ ap (λ b. names_in (get is_same_key o (key_of_lem r)) ++ (if b then one.program ∷ [] else [])) (sym (same_both_ways r one ∙ passes))
+      ∙ ap (λ b. names_in (get is_same_key o (cause_key r)) ++ (if b then one.program ∷ [] else [])) (sym (same_both_ways r one ∙ passes))
   | inr fails ↦
-      let test : is_same_key (key_of_lem one) (key_of_lem r) ≡ false = same_keys one r ∙ fails in
-      let now : get is_same_key n (key_of_lem r) ≡ get is_same_key m (key_of_lem r) = inserted (key_of_lem r) ∙ ap (λ b. cond b (Some w) (get is_same_key m (key_of_lem r))) test in
-      let before : get is_same_key m (key_of_lem r) ≡ get is_same_key o (key_of_lem r) = removed (key_of_lem r) ∙ ap (λ b. cond b None (get is_same_key o (key_of_lem r))) test in
-      ap names_in (now ∙ before) ∙ sym (no_more (names_in (get is_same_key o (key_of_lem r))))
-      ∙ ap (λ b. names_in (get is_same_key o (key_of_lem r)) ++ (if b then one.program ∷ [] else [])) (sym (same_both_ways r one ∙ fails))
+      let test : is_same_key (cause_key one) (cause_key r) ≡ false = same_keys one r ∙ fails in
+      let now : get is_same_key n (cause_key r) ≡ get is_same_key m (cause_key r) = inserted (cause_key r) ∙ ap (λ b. cond b (Some w) (get is_same_key m (cause_key r))) test in
+      let before : get is_same_key m (cause_key r) ≡ get is_same_key o (cause_key r) = removed (cause_key r) ∙ ap (λ b. cond b None (get is_same_key o (cause_key r))) test in
+      ap names_in (now ∙ before) ∙ sym (no_more (names_in (get is_same_key o (cause_key r))))
+      ∙ ap (λ b. names_in (get is_same_key o (cause_key r)) ++ (if b then one.program ∷ [] else [])) (sym (same_both_ways r one ∙ fails))
 ]
   where
     no_more : (xs : List Name) → xs ++ [] ≡ xs
@@ -148,14 +148,14 @@ IsLeft false got names = names_in got ≡ names
 
 -- The causes of the programs so far are listed; those of the others are left in the map.
 pub record AreListed {S : Type 0} (rs : List Refused) (i : ℕ) (left : HashMap CauseKey (Vec Name) S) (causes : List Cause) : Type 0 where
-  pub rest : (cause : Refused) → IsLeft (is_seen rs i cause) (get is_same_key left (key_of_lem cause)) (programs_of rs cause)
+  pub rest : (cause : Refused) → IsLeft (is_seen rs i cause) (get is_same_key left (cause_key cause)) (programs_of rs cause)
   pub one : (r : Refused) → count_by (λ (c : Cause). is_same_cause c.first r) causes ≡ cond (is_seen rs i r) 1 0
   pub first : All (λ (c : Cause). find (is_same_cause c.first) rs ≡ Some c.first) causes
   pub programs : All (λ (c : Cause). c.programs.items ≡ programs_of rs c.first) causes
   pub rise : IsNonDecreasingBy (λ (c : Cause). first_of rs c.first) causes
   pub below : All (λ (c : Cause). first_of rs c.first < i) causes
 
-pub none_listed : {S : Type 0} (rs : List Refused) (left : HashMap CauseKey (Vec Name) S) → ((r : Refused) → names_in (get is_same_key left (key_of_lem r)) ≡ programs_of rs r) → AreListed rs 0 left []
+pub none_listed : {S : Type 0} (rs : List Refused) (left : HashMap CauseKey (Vec Name) S) → ((r : Refused) → names_in (get is_same_key left (cause_key r)) ≡ programs_of rs r) → AreListed rs 0 left []
 none_listed rs left has = record {
   rest = has;
   one = λ r. refl;
@@ -215,14 +215,14 @@ none_left : (a : Bool) (has : Option (Vec Name)) (names : List Name) → a ≡ t
 none_left a has names e f = subst (λ x. IsLeft x has names) (sym e) f
 
 -- the next program is refused for a cause that is listed
-pub one_passed : {S : Type 0} (rs : List Refused) (i : ℕ) (d : Refused) (left after : HashMap CauseKey (Vec Name) S) (causes : List Cause) → i < length rs → AreListed rs i left causes → get is_same_key left (key_of_lem (get_or rs i d)) ≡ None
-    → ((q : CauseKey) → get is_same_key after q ≡ cond (is_same_key (key_of_lem (get_or rs i d)) q) None (get is_same_key left q)) → AreListed rs (i + 1) after causes
+pub one_passed : {S : Type 0} (rs : List Refused) (i : ℕ) (d : Refused) (left after : HashMap CauseKey (Vec Name) S) (causes : List Cause) → i < length rs → AreListed rs i left causes → get is_same_key left (cause_key (get_or rs i d)) ≡ None
+    → ((q : CauseKey) → get is_same_key after q ≡ cond (is_same_key (cause_key (get_or rs i d)) q) None (get is_same_key left q)) → AreListed rs (i + 1) after causes
 one_passed rs i d left after causes within so_far none removed = record {
   rest = λ cause. elim (settled (is_same_cause one cause)) [
-    | inl passes ↦ none_left (is_seen rs (i + 1) cause) (get is_same_key after (key_of_lem cause)) (programs_of rs cause) (same_seen cause ∙ sym (seen_alike rs i one cause passes) ∙ seen)
-        (removed (key_of_lem cause) ∙ ap (λ b. cond b None (get is_same_key left (key_of_lem cause))) (same_keys one cause ∙ passes))
-    | inr fails ↦ left_moved (is_seen rs (i + 1) cause) (is_seen rs i cause) (get is_same_key left (key_of_lem cause)) (get is_same_key after (key_of_lem cause)) (programs_of rs cause) (same_seen cause)
-        (removed (key_of_lem cause) ∙ ap (λ b. cond b None (get is_same_key left (key_of_lem cause))) (same_keys one cause ∙ fails)) (so_far.rest cause)
+    | inl passes ↦ none_left (is_seen rs (i + 1) cause) (get is_same_key after (cause_key cause)) (programs_of rs cause) (same_seen cause ∙ sym (seen_alike rs i one cause passes) ∙ seen)
+        (removed (cause_key cause) ∙ ap (λ b. cond b None (get is_same_key left (cause_key cause))) (same_keys one cause ∙ passes))
+    | inr fails ↦ left_moved (is_seen rs (i + 1) cause) (is_seen rs i cause) (get is_same_key left (cause_key cause)) (get is_same_key after (cause_key cause)) (programs_of rs cause) (same_seen cause)
+        (removed (cause_key cause) ∙ ap (λ b. cond b None (get is_same_key left (cause_key cause))) (same_keys one cause ∙ fails)) (so_far.rest cause)
   ];
   one = λ r. so_far.one r ∙ ap (λ b. cond b 1 0) (sym (same_seen r));
   first = so_far.first;
@@ -235,7 +235,7 @@ one_passed rs i d left after causes within so_far none removed = record {
     one = get_or rs i d
 
     seen : is_seen rs i one ≡ true
-    seen = is_passed rs i d (get is_same_key left (key_of_lem one)) (is_seen rs i one) within (so_far.rest one) none
+    seen = is_passed rs i d (get is_same_key left (cause_key one)) (is_seen rs i one) within (so_far.rest one) none
 
     same_seen : (cause : Refused) → is_seen rs (i + 1) cause ≡ is_seen rs i cause
     same_seen cause = elim (settled (is_same_cause one cause)) [
@@ -262,14 +262,14 @@ first_at p (x ∷ xs) (suc k) d within none passes =
     or_fails false b e = refl
 
 -- the next program is the first one of its cause
-pub one_new : {S : Type 0} (rs : List Refused) (i : ℕ) (d : Refused) (left after : HashMap CauseKey (Vec Name) S) (causes : List Cause) (v : Vec Name) → i < length rs → AreListed rs i left causes → get is_same_key left (key_of_lem (get_or rs i d)) ≡ Some v
-    → ((q : CauseKey) → get is_same_key after q ≡ cond (is_same_key (key_of_lem (get_or rs i d)) q) None (get is_same_key left q)) → AreListed rs (i + 1) after (causes ++ (record { first = get_or rs i d; programs = v }) ∷ [])
+pub one_new : {S : Type 0} (rs : List Refused) (i : ℕ) (d : Refused) (left after : HashMap CauseKey (Vec Name) S) (causes : List Cause) (v : Vec Name) → i < length rs → AreListed rs i left causes → get is_same_key left (cause_key (get_or rs i d)) ≡ Some v
+    → ((q : CauseKey) → get is_same_key after q ≡ cond (is_same_key (cause_key (get_or rs i d)) q) None (get is_same_key left q)) → AreListed rs (i + 1) after (causes ++ (record { first = get_or rs i d; programs = v }) ∷ [])
 one_new rs i d left after causes v within so_far some removed = record {
   rest = λ cause. elim (settled (is_same_cause one cause)) [
-    | inl passes ↦ none_left (is_seen rs (i + 1) cause) (get is_same_key after (key_of_lem cause)) (programs_of rs cause) (seen_now cause passes)
-        (removed (key_of_lem cause) ∙ ap (λ b. cond b None (get is_same_key left (key_of_lem cause))) (same_keys one cause ∙ passes))
-    | inr fails ↦ left_moved (is_seen rs (i + 1) cause) (is_seen rs i cause) (get is_same_key left (key_of_lem cause)) (get is_same_key after (key_of_lem cause)) (programs_of rs cause) (seen_before cause fails)
-        (removed (key_of_lem cause) ∙ ap (λ b. cond b None (get is_same_key left (key_of_lem cause))) (same_keys one cause ∙ fails)) (so_far.rest cause)
+    | inl passes ↦ none_left (is_seen rs (i + 1) cause) (get is_same_key after (cause_key cause)) (programs_of rs cause) (seen_now cause passes)
+        (removed (cause_key cause) ∙ ap (λ b. cond b None (get is_same_key left (cause_key cause))) (same_keys one cause ∙ passes))
+    | inr fails ↦ left_moved (is_seen rs (i + 1) cause) (is_seen rs i cause) (get is_same_key left (cause_key cause)) (get is_same_key after (cause_key cause)) (programs_of rs cause) (seen_before cause fails)
+        (removed (cause_key cause) ∙ ap (λ b. cond b None (get is_same_key left (cause_key cause))) (same_keys one cause ∙ fails)) (so_far.rest cause)
   ];
   one = λ r. sum_by_push (λ (c : Cause). cond (is_same_cause c.first r) 1 0) causes cause_of_one ∙ ap (λ n. n + cond (is_same_cause one r) 1 0) (so_far.one r) ∙ counted r;
   first = All-push (λ (c : Cause). find (is_same_cause c.first) rs ≡ Some c.first) causes cause_of_one so_far.first place.0;
@@ -285,7 +285,7 @@ one_new rs i d left after causes v within so_far some removed = record {
     cause_of_one = record { first = one; programs = v }
 
     fresh : (is_seen rs i one ≡ false) × (v.items ≡ programs_of rs one)
-    fresh = is_new (programs_of rs one) (get is_same_key left (key_of_lem one)) v (is_seen rs i one) (so_far.rest one) some
+    fresh = is_new (programs_of rs one) (get is_same_key left (cause_key one)) v (is_seen rs i one) (so_far.rest one) some
 
     place : (find (is_same_cause one) rs ≡ Some one) × (first_of rs one ≡ i)
     place = first_at (is_same_cause one) rs i d within fresh.0 (own_cause one)
@@ -374,12 +374,12 @@ pub sorted_programs : (rs : List Refused) (xs ys : List Cause) → AreInOrder rs
 sorted_programs rs xs ys listed moved = All-permutation (λ (c : Cause). c.programs.items ≡ programs_of rs c.first) xs ys moved listed.programs
 
 -- the step by what the code has at hand: the key, and the causes afterwards
-pub step_passed : {S : Type 0} (rs : List Refused) (i : ℕ) (d : Refused) (left after : HashMap CauseKey (Vec Name) S) (causes now : List Cause) (k : CauseKey) → i < length rs → AreListed rs i left causes → k ≡ key_of_lem (get_or rs i d)
+pub step_passed : {S : Type 0} (rs : List Refused) (i : ℕ) (d : Refused) (left after : HashMap CauseKey (Vec Name) S) (causes now : List Cause) (k : CauseKey) → i < length rs → AreListed rs i left causes → k ≡ cause_key (get_or rs i d)
     → get is_same_key left k ≡ None → ((q : CauseKey) → get is_same_key after q ≡ cond (is_same_key k q) None (get is_same_key left q)) → now ≡ causes → AreListed rs (i + 1) after now
 step_passed rs i d left after causes now k within so_far key_is none removed now_is =
     subst (AreListed rs (i + 1) after) (sym now_is) (one_passed rs i d left after causes within so_far (ap (get is_same_key left) (sym key_is) ∙ none) (subst (λ x. (q : CauseKey) → get is_same_key after q ≡ cond (is_same_key x q) None (get is_same_key left q)) key_is removed))
 
-pub step_new : {S : Type 0} (rs : List Refused) (i : ℕ) (d : Refused) (left after : HashMap CauseKey (Vec Name) S) (causes now : List Cause) (v : Vec Name) (k : CauseKey) → i < length rs → AreListed rs i left causes → k ≡ key_of_lem (get_or rs i d)
+pub step_new : {S : Type 0} (rs : List Refused) (i : ℕ) (d : Refused) (left after : HashMap CauseKey (Vec Name) S) (causes now : List Cause) (v : Vec Name) (k : CauseKey) → i < length rs → AreListed rs i left causes → k ≡ cause_key (get_or rs i d)
     → get is_same_key left k ≡ Some v → ((q : CauseKey) → get is_same_key after q ≡ cond (is_same_key k q) None (get is_same_key left q)) → now ≡ causes ++ (record { first = get_or rs i d; programs = v }) ∷ [] → AreListed rs (i + 1) after now
 step_new rs i d left after causes now v k within so_far key_is some removed now_is =
     subst (AreListed rs (i + 1) after) (sym now_is) (one_new rs i d left after causes v within so_far (ap (get is_same_key left) (sym key_is) ∙ some) (subst (λ x. (q : CauseKey) → get is_same_key after q ≡ cond (is_same_key x q) None (get is_same_key left q)) key_is removed))

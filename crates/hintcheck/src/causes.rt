@@ -4,7 +4,7 @@ ghost use Rattle.std.specs.Prelude.{◌≡◌, ◌++◌, ◌∷◌, [], All, IfO
 ghost use Rattle.std.specs.HashMap.{get};
 ghost use Rattle.hintcheck.specs.Causes.{AreCauses, is_same_cause, programs_of};
 ghost use Rattle.hintcheck_report.specs.declared.refused.Refused.{Refused};
-ghost use Rattle.hintcheck.specs.Representation.CauseLists.{AreInOrder, is_same_key, key_of_lem, names_in};
+ghost use Rattle.hintcheck.specs.Representation.CauseLists.{AreInOrder, is_same_key, cause_key, names_in};
 
 use hintcheck_fonts::report::{Name, Refused};
 use std::alloc::{AllocError, Global};
@@ -24,7 +24,7 @@ enum CauseKey {
 
 /// Returns what the program has in common with those that are refused for the same cause.
 fn key_of(refused: &Refused) -> CauseKey
-    ensures { result ≡ key_of_lem refused.now }
+    ensures { result ≡ cause_key refused.now }
 {
     let reason = refused.reason.number();
     match refused.place.program {
@@ -49,8 +49,8 @@ fn list_program(
     all: &mut HashMap<CauseKey, Vec<Name>>,
     one: &Refused,
 ) -> Result<(), AllocError>
-    ensures { OnOk result ((r : Refused) → names_in (get is_same_key all.new (key_of_lem r))
-        ≡ names_in (get is_same_key all.old (key_of_lem r))
+    ensures { OnOk result ((r : Refused) → names_in (get is_same_key all.new (cause_key r))
+        ≡ names_in (get is_same_key all.old (cause_key r))
         ++ (if is_same_cause r one.now then one.now.program ∷ [] else [])) }
 {
     let key = key_of(one);
@@ -69,7 +69,7 @@ fn programs_by_cause(
     refused: &[Refused],
 ) -> Result<HashMap<CauseKey, Vec<Name>>, AllocError>
     ensures { IfOk result (λ all. (r : Refused)
-        → names_in (get is_same_key all (key_of_lem r)) ≡ programs_of refused.now r) }
+        → names_in (get is_same_key all (cause_key r)) ≡ programs_of refused.now r) }
 {
     let mut all = HashMap::new(alloc);
     for one in refused {
@@ -86,7 +86,7 @@ fn causes_in_order(
     all: HashMap<CauseKey, Vec<Name>>,
 ) -> Result<Vec<Cause>, AllocError>
     requires { (r : Refused)
-        → names_in (get is_same_key all (key_of_lem r)) ≡ programs_of refused.now r }
+        → names_in (get is_same_key all (cause_key r)) ≡ programs_of refused.now r }
     ensures { IfOk result (λ causes. AreInOrder refused.now causes.items) }
 {
     let mut left = all;

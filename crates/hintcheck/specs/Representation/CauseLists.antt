@@ -21,8 +21,8 @@ key_at name.Cvt offset reason = key.Cvt offset reason
 key_at (name.Glyph id) offset reason = key.Glyphs reason
 
 -- the key of a refused program
-abbrev pub key_of_lem : Refused → CauseKey
-key_of_lem r = key_at r.place.program r.place.offset (number_of r.reason)
+abbrev pub cause_key : Refused → CauseKey
+cause_key r = key_at r.place.program r.place.offset (number_of r.reason)
 
 -- the test by which keys of a map are told apart
 abbrev pub is_same_key : CauseKey → CauseKey → Bool
