@@ -6,7 +6,7 @@ ghost use Rattle.tt_font.specs.Conditions.{TestsWithMemory};
 ghost use Rattle.tt_font.specs.FileFaults.{font_fault};
 ghost use Rattle.tt_font.specs.Reading.{FontData, Reads};
 ghost use Rattle.hintcheck_fonts.specs.BudgetAnswers.{VerdictTellsBudget, VerdictTellsFontFault};
-ghost use Rattle.hintcheck_fonts.specs.FontPrograms.{IsFontInRange, IsSafeFont, IsVerdict};
+ghost use Rattle.hintcheck_fonts.specs.FontPrograms.{IsFontInRange, IsSafeFont, IsVerdict, judgement_on};
 ghost use Rattle.hintcheck_fonts.specs.Representation.FontVerdicts.{AreAllRefused};
 ghost use Rattle.hintcheck_fonts.specs.Representation.ProgramOrder.{stage_of};
 ghost use Rattle.hintcheck_fonts.specs.Representation.SessionStages.{ListsOutcome};
@@ -56,13 +56,18 @@ fn refused_by<'a>(
 
 /// Judges the programs of a font, one after the other, each in the memory of those before: returns
 /// the refused ones, in their order.
-pub(crate) fn refused_programs(
+///
+/// # Errors
+/// What ended the work without an answer: memory ran out, or more points were to be made than the
+/// budget allows.
+pub fn refused_programs(
     alloc: Global,
     font: &Font<'_>,
     budget: &mut Budget,
 ) -> Result<Vec<Refused>, Exhausted>
     requires { IsFontInRange font.now }
-    ensures refused { IfOk result (λ refused. AreAllRefused font.now refused.items) }
+    ensures refused { IfOk result (λ refused.
+        IsVerdict font.now (judgement_on font.now refused.items)) }
     ensures spends { Spends budget.old budget.new }
     ensures budget { EndTellsBudget budget.old budget.new result }
 {

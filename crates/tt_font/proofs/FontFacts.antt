@@ -10,12 +10,12 @@ use Rattle.tt_font.specs.declared.tag.Tag.{Tag}
 use Rattle.tt_font.specs.declared.tag.Tag.TheVariants.{Cvt, Fpgm, Glyf, Head, Loca, Maxp, Prep}
 use Rattle.tt_font.specs.Conditions.{Condition, first, unless, ends_before, no_sfnt, directory_fault, lies_in, missing, outside, table_fault, optional_table_fault, maxp_is_short, no_maxp_version, maxp_fault, unknown_format, loca_fault, misplaced_entry, glyph_fault, composite_fault, glyphs_fault, refused_glyph}
 use Rattle.tt_font.specs.Directory.{Extent, extent, record_count, table}
-use Rattle.tt_font.specs.FileFaults.{font_fault, program_most, tables_fault}
+use Rattle.tt_font.specs.FileFaults.{font_fault, table_conditions, tables_fault}
 use Rattle.tt_font.specs.Files.{font_glyph_count, font_glyphs, font_outlines}
 use Rattle.tt_font.specs.Locations.{entry_fits, loca_format}
 use Rattle.tt_font.specs.Outlines.{Outline, leads_out, refused, starts_chain}
 use Rattle.tt_font.proofs.FirstBelow.{first_none}
-use Rattle.tt_font.proofs.Placed.{all_placed}
+use Rattle.tt_font.proofs.Placed.{all_placed, and_left, and_right}
 
 -- none of some conditions holds
 abbrev NoneHolds : List Condition → Type 0
@@ -34,14 +34,6 @@ test_passes false fault e = absurd (cc)
 none_found : {X : Type 0} → (f : X → FontFault) (o : Option X) → option_map f o ≡ None → o ≡ None
 none_found f None e = refl
 none_found f (Some x) e = absurd (cc)
-
-and_left : (a b : Bool) → (a && b) ≡ true → a ≡ true
-and_left true b e = refl
-and_left false b e = cc
-
-and_right : (a b : Bool) → (a && b) ≡ true → b ≡ true
-and_right true b e = e
-and_right false b e = cc
 
 or_left : (a b : Bool) → (a || b) ≡ false → a ≡ false
 or_left true b e = cc
@@ -133,14 +125,7 @@ pub is_font : (bytes : List ℕ) → font_fault bytes ≡ None → IsFont bytes
 unfolding font_fault tables_fault
 is_font bytes e =
     let both = none_holds (tables_fault bytes ∷ glyphs_fault (font_glyph_count bytes) (font_glyphs bytes) (font_outlines bytes) ∷ []) e in
-    let none = none_holds (
-    directory_fault bytes
-    ∷ table_fault Maxp 0 bytes ∷ maxp_fault (table Maxp bytes)
-    ∷ table_fault Head 54 bytes
-    ∷ table_fault Loca 0 bytes ∷ table_fault Glyf 0 bytes
-    ∷ optional_table_fault Cvt 0xFFFF_FFFF bytes
-    ∷ optional_table_fault Fpgm program_most bytes ∷ optional_table_fault Prep program_most bytes
-    ∷ loca_fault (loca_format (table Head bytes)) (table Loca bytes) (table Glyf bytes) (font_glyph_count bytes) ∷ []) both.0 in
+    let none = none_holds (table_conditions bytes) both.0 in
     let entries = is_placed (loca_format (table Head bytes)) (table Loca bytes) (table Glyf bytes) (font_glyph_count bytes) none.1.1.1.1.1.1.1.1.1.0 in
     let sound = sound_chains (font_glyph_count bytes) (font_glyphs bytes) (font_outlines bytes) both.1.0 in
     record {

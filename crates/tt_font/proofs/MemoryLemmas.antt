@@ -9,7 +9,7 @@ use Rattle.tt_font.specs.declared.tag.Tag.TheVariants.{Cvt, Fpgm, Glyf, Head, Lo
 use Rattle.tt_font.specs.Conditions.{Condition, IsOutOfMemory, directory_fault, ends_before, first, loca_fault, maxp_fault, maxp_is_short, misplaced_entry, missing, no_maxp_version, no_sfnt, optional_table_fault, outside, table_fault, unknown_format, unless}
 use Rattle.tt_font.specs.Directory.{record_count, table}
 use Rattle.tt_font.specs.Files.{font_glyph_count}
-use Rattle.tt_font.specs.FileFaults.{program_most, tables_fault}
+use Rattle.tt_font.specs.FileFaults.{table_conditions, tables_fault}
 use Rattle.tt_font.specs.Locations.{loca_format}
 
 abbrev NeverMemory : Condition → Type 0
@@ -56,15 +56,7 @@ loca_never format loca glyf count = first_never (unknown_format format ∷ optio
 pub tables_never : (bytes : List ℕ) → NeverMemory (tables_fault bytes)
 unfolding tables_fault
 tables_never bytes =
-    let conditions : List Condition =
-    directory_fault bytes
-    ∷ table_fault Maxp 0 bytes ∷ maxp_fault (table Maxp bytes)
-    ∷ table_fault Head 54 bytes
-    ∷ table_fault Loca 0 bytes ∷ table_fault Glyf 0 bytes
-    ∷ optional_table_fault Cvt 0xFFFF_FFFF bytes
-    ∷ optional_table_fault Fpgm program_most bytes ∷ optional_table_fault Prep program_most bytes
-    ∷ loca_fault (loca_format (table Head bytes)) (table Loca bytes) (table Glyf bytes) (font_glyph_count bytes) ∷ [] in
-    let never : AllByRecursion NeverMemory conditions = (
+    let never : AllByRecursion NeverMemory (table_conditions bytes) = (
       directory_never _,
       (
         table_never _ _ _,
@@ -83,4 +75,4 @@ tables_never bytes =
         ),
       ),
     ) in
-    first_never conditions never
+    first_never (table_conditions bytes) never

@@ -5,6 +5,7 @@ use Rattle.std.specs.Option.{option_map_or}
 use Rattle.std.proofs.Common.{◌≡◌, ℕ, zero, suc, ◌+◌, ◌<◌, ◌≤◌, List, [], ◌∷◌, Option, None, Some, Bool, true, false, length, take, drop, get_or, refl, sym, subst, arith}
 use Rattle.std.proofs.lemmas.Bool.{leb-true}
 use Rattle.std.proofs.lemmas.Option.{get_or_from_slice_get, slice_get_within}
+use Rattle.tt_font.proofs.Placed.{and_right}
 use Rattle.tt_font.specs.Numbers.{u16_at}
 use Rattle.tt_font.specs.Directory.{Extent, extent, table}
 use Rattle.tt_font.specs.Conditions.{Condition, directory_fault, first, lies_in, loca_fault, maxp_fault, optional_table_fault, table_fault, unless}
@@ -14,7 +15,7 @@ use Rattle.tt_font.specs.declared.fault.FontFault.{FontFault}
 use Rattle.tt_font.specs.declared.fault.FontFault.TheVariants as faults
 use Rattle.tt_font.specs.Components.{last_of, components, has_instructions}
 use Rattle.tt_font.specs.Glyphs.{contour_count, is_composite, program_at, simple_program, composite_program, program_of}
-use Rattle.tt_font.specs.FileFaults.{tables_fault, program_most}
+use Rattle.tt_font.specs.FileFaults.{program_most, table_conditions, tables_fault}
 use Rattle.tt_font.specs.Files.{font_glyph_count, font_glyphs}
 use Rattle.tt_font.specs.Locations.{glyph_bytes, loca_format}
 use Rattle.tt_font.specs.Reading.{FontData, GlyphData, Reads, glyph_at, no_glyph}
@@ -109,10 +110,6 @@ is_met : (b : Bool) (f : FontFault) → unless b f ≡ None → b ≡ true
 is_met true f e = refl
 is_met false f e = absurd (cc)
 
-right_of_and : (a b : Bool) → (a && b) ≡ true → b ≡ true
-right_of_and true b e = e
-right_of_and false b e = absurd (cc)
-
 table_most : (tag : Tag) (most : ℕ) (bytes : List ℕ) → optional_table_fault tag most bytes ≡ None → length (table tag bytes) ≤ most
 unfolding optional_table_fault table
 table_most tag most bytes e = go (extent tag bytes) (is_met (option_map_or (lies_in bytes 0 most) (extent tag bytes) true) (faults.TableOutside tag) e)
@@ -120,7 +117,7 @@ table_most tag most bytes e = go (extent tag bytes) (is_met (option_map_or (lies
     go : (o : Option Extent) → option_map_or (lies_in bytes 0 most) o true ≡ true → length (option_map_or (λ x. take x.len (drop x.offset bytes)) o []) ≤ most
     go None e = omega arith
     go (Some x) e =
-        let fits : nat_le x.len most ≡ true = right_of_and (nat_le 0 x.len) (nat_le x.len most) (right_of_and (nat_le (x.offset + x.len) (length bytes)) (nat_le 0 x.len && nat_le x.len most) e) in
+        let fits : nat_le x.len most ≡ true = and_right (nat_le 0 x.len) (nat_le x.len most) (and_right (nat_le (x.offset + x.len) (length bytes)) (nat_le 0 x.len && nat_le x.len most) e) in
         let le = leb-true x.len most fits in let len = taken_most x.len (drop x.offset bytes) in omega arith
 
 -- the conditions that don't hold
@@ -131,17 +128,7 @@ none_stands (None ∷ cs) e zero c at = let same : None ≡ c = cc in sym same
 none_stands (None ∷ cs) e (suc k) c at = none_stands cs e k c at
 none_stands (Some x ∷ cs) e k c at = absurd (cc)
 
-abbrev conditions : List ℕ → List Condition
-conditions bytes =
-    directory_fault bytes
-    ∷ table_fault Maxp 0 bytes ∷ maxp_fault (table Maxp bytes)
-    ∷ table_fault Head 54 bytes
-    ∷ table_fault Loca 0 bytes ∷ table_fault Glyf 0 bytes
-    ∷ optional_table_fault Cvt 0xFFFF_FFFF bytes
-    ∷ optional_table_fault Fpgm program_most bytes ∷ optional_table_fault Prep program_most bytes
-    ∷ loca_fault (loca_format (table Head bytes)) (table Loca bytes) (table Glyf bytes) (font_glyph_count bytes) ∷ []
-
-no_table_fault : (bytes : List ℕ) → tables_fault bytes ≡ None → first (conditions bytes) ≡ None
+no_table_fault : (bytes : List ℕ) → tables_fault bytes ≡ None → first (table_conditions bytes) ≡ None
 unfolding tables_fault
 no_table_fault bytes e = e
 
@@ -155,8 +142,8 @@ table_few tag bytes program h fits is =
 pub font_in_range : (bytes : List ℕ) (d : FontData) → AreBytes bytes → tables_fault bytes ≡ None → Reads bytes d → IsFontInRange d
 font_in_range bytes d h none reads = record {
   depth = let D : Limits → Type 0 = λ l. l.stack < 2 ^ 16 in subst D (sym reads.limits) (small_number 24 (table Maxp bytes) (table_bytes Maxp bytes h));
-  fpgm = table_few Fpgm bytes d.fpgm h (none_stands (conditions bytes) (no_table_fault bytes none) 7 (optional_table_fault Fpgm program_most bytes) refl) reads.fpgm;
-  prep = table_few Prep bytes d.prep h (none_stands (conditions bytes) (no_table_fault bytes none) 8 (optional_table_fault Prep program_most bytes) refl) reads.prep;
+  fpgm = table_few Fpgm bytes d.fpgm h (none_stands (table_conditions bytes) (no_table_fault bytes none) 7 (optional_table_fault Fpgm program_most bytes) refl) reads.fpgm;
+  prep = table_few Prep bytes d.prep h (none_stands (table_conditions bytes) (no_table_fault bytes none) 8 (optional_table_fault Prep program_most bytes) refl) reads.prep;
   glyphs = λ id g e.
       let there = slice_get_within d.glyphs id g e in
       let is : glyph_at d.glyphs id ≡ g = get_or_from_slice_get d.glyphs id g no_glyph e in

@@ -11,9 +11,9 @@ use Rattle.tt_font.specs.Conditions.{Condition, first, directory_fault, table_fa
 abbrev pub program_most : ℕ
 program_most = 0x7FFF_FFFF
 
--- the directory and the tables
-unfoldable pub tables_fault : List ℕ → Condition
-tables_fault bytes = first (
+-- the conditions on the directory and the tables, in their order
+abbrev pub table_conditions : List ℕ → List Condition
+table_conditions bytes =
     directory_fault bytes
     ∷ table_fault Maxp 0 bytes ∷ maxp_fault (table Maxp bytes)
     ∷ table_fault Head 54 bytes
@@ -21,7 +21,11 @@ tables_fault bytes = first (
     ∷ optional_table_fault Cvt 0xFFFF_FFFF bytes
     ∷ optional_table_fault Fpgm program_most bytes ∷ optional_table_fault Prep program_most bytes
     ∷ loca_fault (loca_format (table Head bytes)) (table Loca bytes) (table Glyf bytes)
-    (font_glyph_count bytes) ∷ [])
+    (font_glyph_count bytes) ∷ []
+
+-- the directory and the tables
+unfoldable pub tables_fault : List ℕ → Condition
+tables_fault bytes = first (table_conditions bytes)
 
 -- the file: its tables, and then its glyphs
 unfoldable pub font_fault : List ℕ → Condition

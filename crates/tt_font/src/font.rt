@@ -160,6 +160,14 @@ impl<'a> Font<'a> {
         self.cvt_count
     }
 
+    /// Gives the font other limits and another number of control values. All else stays as it was.
+    pub fn set_limits(&mut self, limits: Limits, cvt_count: u32)
+        ensures { self.new ≡ record self.old { limits = limits; cvt_count = cvt_count } }
+    {
+        self.limits = limits;
+        self.cvt_count = cvt_count;
+    }
+
     /// Returns how many glyphs the font has.
     pub fn glyph_count(&self) -> u16
         ensures { result ≡ length self.now.glyphs }
