@@ -1,0 +1,71 @@
+//! The verdict on a font by either profile.
+
+ghost use Rattle.std.specs.Prelude.{IfOk};
+ghost use Rattle.tt_family.specs.Budgets.{EndTellsBudget, Spends};
+ghost use Rattle.hintcheck_fonts.specs.FontPrograms.{IsFontInRange, judgement_on};
+ghost use Rattle.hintcheck_fonts.specs.SymbolicVerdicts.{IsSymbolicVerdict};
+ghost use Rattle.hintcheck_needs.specs.Needs.{IsVerdictBy};
+
+use hintcheck_fonts::symbolic_check::SymbolicCheck;
+use hintcheck_fonts::{font, symbolic_verdict};
+use hintcheck_report::Refused;
+use std::alloc::{AllocError, Global};
+use tt_abs::Exhausted;
+use tt_family::Budget;
+use tt_font::Font;
+
+/// By which profile of the analysis a font is judged.
+#[derive(Clone, Copy, Debug, PartialEq, Eq)]
+pub enum Profile {
+    /// The profile without further premises, which gives up values that are computed.
+    Strict,
+    /// The profile that follows values that are computed, whose acceptances have further premises.
+    Symbolic {
+        /// How many steps the search makes at most for each verdict.
+        steps: u64,
+    },
+}
+
+/// Judges the programs of a font by symbolic states, with so many steps at most: returns the refused
+/// ones, in their order.
+///
+/// # Errors
+/// If memory runs out.
+fn refused_by_symbols(
+    alloc: Global,
+    font: &Font<'_>,
+    steps: u64,
+) -> Result<Vec<Refused>, AllocError>
+    requires { IsFontInRange font.now }
+    ensures { IfOk result (λ refused. IsSymbolicVerdict font.now
+        (judgement_on font.now refused.items)) }
+{
+    let mut judge = SymbolicCheck::new(alloc, steps);
+    symbolic_verdict::refused_programs(alloc, font, &mut judge)
+}
+
+/// Judges the programs of a font by this profile: returns the refused ones, in their order.
+///
+/// # Errors
+/// `Memory` where memory runs out; `Budget`, by the strict profile alone, where more points were to
+/// be made than the budget allows.
+pub fn refused_by(
+    alloc: Global,
+    font: &Font<'_>,
+    profile: Profile,
+    points: &mut Budget,
+) -> Result<Vec<Refused>, Exhausted>
+    ensures verdict { IfOk result (λ refused.
+        IsVerdictBy profile font.now (judgement_on font.now refused.items)) }
+    ensures spends { Spends points.old points.new }
+    ensures budget { EndTellsBudget points.old points.new result }
+{
+    font.range_facts();
+    match profile {
+        Profile::Strict => font::refused_programs(alloc, font, points),
+        Profile::Symbolic { steps } => match refused_by_symbols(alloc, font, steps) {
+            Ok(refused) => Ok(refused),
+            Err(_) => Err(Exhausted::Memory),
+        },
+    }
+}
