@@ -1,5 +1,4 @@
-use Rattle.std.proofs.Common.{◌≡◌, ◌∙◌, ℕ, ◌+◌, ◌-◌, ◌*◌, ◌/◌, ◌<◌, ◌≤◌, List, Bool, true, false, arith, refl, subst, sym}
-use Rattle.tt_cert.specs.declared.name.Name.{Name}
+use Rattle.std.proofs.Common.{◌∙◌, ℕ, ◌+◌, ◌<◌, List, Bool, arith, subst, sym}
 use Rattle.tt_family.proofs.Spending.{spends_on}
 use Rattle.tt_font.specs.Reading.{FontData}
 use Rattle.hintcheck_report.specs.declared.refused.Refused.{Refused}
