@@ -1,7 +1,7 @@
 //! The kinds of cases that ask hintcheck_fonts: on fonts and on certificates.
 
 use crate::calls::AMPLE;
-use crate::{calls, sessions, sweeps};
+use crate::{calls, needs, sessions, sweeps};
 use anyhow::{Result, bail};
 use hintcheck_fonts::Budget;
 use tt_cases::context::Context;
@@ -20,6 +20,7 @@ impl Kinds for FontKinds {
                 let names = words.rest(context.rt.alloc())?;
                 calls::call(context, kind, &names, AMPLE, &mut Budget::unlimited())
             }
+            "needs" => needs::needs(context, words),
             "found" => calls::found(context, words),
             "session" => sessions::session(context, words),
             "first" => sessions::first(context, words),

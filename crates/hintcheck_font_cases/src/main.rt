@@ -4,6 +4,7 @@
 mod calls;
 mod faults;
 mod kinds;
+mod needs;
 mod sessions;
 mod sweeps;
 
