@@ -99,7 +99,8 @@ fn all_needs(
     })
 }
 
-/// Reads a font file and returns what it needs of each number, as `least_enough` tells of each.
+/// Reads a font file and returns what it needs of each number, as `least_enough` tells of each while
+/// the others are those that the font declares.
 ///
 /// # Errors
 /// The faults of `Font::read`; `OutOfMemory`; `Budget` exactly where more points were to be made than

@@ -80,8 +80,11 @@ fn refuses_same(
 
 /// Returns the least number that is enough for a font, where its other numbers are those that it
 /// has: a verdict with it refuses the same programs as one with 65,535, and a verdict with the number
-/// before it doesn't. Where a program is refused whatever the number, what that program needs isn't
-/// told. Some ten verdicts are made, and at most 18.
+/// before it doesn't. Some ten verdicts are made, and at most 18.
+///
+/// A program that is refused whatever the number needs nothing of it: so where a font declares too
+/// low a number, raise that one (`Bound::replace`) before asking for the others. What the numbers
+/// below and above the answer do, except for the one before it, isn't promised.
 ///
 /// # Errors
 /// `Memory` where memory runs out; `Budget`, by the strict profile alone, where more points were to

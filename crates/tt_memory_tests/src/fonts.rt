@@ -1,9 +1,12 @@
 //! Calls on whole fonts and on their certificates.
 
 use crate::PROGRAMS;
-use hintcheck_fonts::{bare, check_font, find_font, upgrade, verdict};
+use hintcheck_fonts::{VerdictFault, bare, check_font, find_font, read_font, upgrade, verdict};
+use hintcheck_needs::{Bound, Profile, least_enough};
+use std::alloc::Global;
 use std::io;
 use std::test::Fail;
+use tt_family::Budget;
 use tt_font::Font;
 use tt_stream::{Bytes, Counted};
 use tt_test_fixtures::fonts::{MAXP, font_of, square};
@@ -23,6 +26,7 @@ const TWICE: [u8; 27] = [
 enum Call {
     Read,
     Verdict,
+    Needs,
     CheckFont,
     FindFont,
     Upgrade,
@@ -30,9 +34,10 @@ enum Call {
 }
 
 /// The calls on a font.
-const CALLS: [Call; 6] = [
+const CALLS: [Call; 7] = [
     Call::Read,
     Call::Verdict,
+    Call::Needs,
     Call::CheckFont,
     Call::FindFont,
     Call::Upgrade,
@@ -48,6 +53,20 @@ struct OnFont<'a> {
     glyph: &'a [u8],
 }
 
+/// Returns how many storage cells a font needs.
+fn storage_needed(alloc: Global, font: &[u8]) -> Result<u16, VerdictFault> {
+    let mut font = read_font(alloc, font)?;
+    let mut points = Budget::unlimited();
+    let least = least_enough(
+        alloc,
+        &mut font,
+        Profile::Strict,
+        Bound::Storage,
+        &mut points,
+    )?;
+    Ok(least)
+}
+
 impl Trial for OnFont<'_> {
     fn told(&self, heap: &mut Heap) -> Told {
         let alloc = heap.alloc;
@@ -57,6 +76,7 @@ impl Trial for OnFont<'_> {
         let told = match self.call {
             Call::Read => told_of(Font::read(alloc, self.font)),
             Call::Verdict => told_of(verdict(alloc, self.font)),
+            Call::Needs => told_of(storage_needed(alloc, self.font)),
             Call::CheckFont => told_of(check_font(alloc, self.font, &mut source)),
             Call::FindFont => told_of(find_font(alloc, self.font, &mut sink)),
             Call::Upgrade => told_of(upgrade(alloc, &mut source, &mut sink)),
