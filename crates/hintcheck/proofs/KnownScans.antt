@@ -290,7 +290,7 @@ scanned_whole f (s ∷ others) whole =
 pub scan_prints : (options : ScanOptions) (names : List (List ℕ)) (expected : Option (List ℕ)) (g status : ℕ) (old new : Option (List ℕ)) (v0 v1 : Expected) → Begins expected v0
     → IfSome expected (λ file. All (IsExpectable file) names) → NotesScan options names g old new v0 v1 → status ≡ settled v1 g → PrintsScanning options names expected status old new
 scan_prints options names _ g status old new _ v1 without few notes is =
-    record { scanned = notes.scanned; names_are = notes.names_are; answers = notes.answers; causes = notes.causes; greatest = is ∙ ap (λ v. settled v g) notes.noted_are ∙ notes.greatest; written = notes.written }
+    record { scanned = notes.scanned; names_are = notes.names_are; answers = notes.answers; told = notes.told; greatest = is ∙ ap (λ v. settled v g) notes.noted_are ∙ notes.greatest; written = notes.written }
 scan_prints options names _ g status old new _ v1 (by_file file held lines test cut same) few notes is =
     let all : List (List ℕ) = scanned_lines options.fail_on notes.scanned in
     let agree : list_any (λ line. not (test line)) all ≡ has_unknown lines all = any_agree (λ line. not (test line)) (λ line. not (is_known lines line)) (λ line. ap not (same line)) all in
@@ -301,7 +301,7 @@ scan_prints options names _ g status old new _ v1 (by_file file held lines test 
       scanned = notes.scanned;
       names_are = notes.names_are;
       answers = notes.answers;
-      causes = notes.causes;
+      told = notes.told;
       greatest = is ∙ ap (λ v. settled v g) notes.noted_are ∙ ap (λ b. status_with b g) agree ∙ ap (status_with (has_unknown lines all)) notes.greatest ∙ sym (greatest_is options.fail_on lines notes.scanned);
       written = notes.written;
     }
@@ -315,7 +315,7 @@ scan_prints options names _ g status old new _ v1 (unwritten file) few notes is 
       scanned = notes.scanned;
       names_are = notes.names_are;
       answers = notes.answers;
-      causes = notes.causes;
+      told = notes.told;
       greatest = is ∙ ap (λ v. settled v g) notes.noted_are ∙ ap (λ b. status_with b g) (sym (own_known all)) ∙ ap (status_with (has_unknown all all)) notes.greatest ∙ sym (greatest_is options.fail_on all notes.scanned);
       written = notes.written;
     }

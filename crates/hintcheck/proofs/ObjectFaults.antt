@@ -1,8 +1,8 @@
 -- The faults that an explanation's object tells, and those for which there is none.
-use Rattle.std.proofs.Common.{◌≡◌, ◌⊎◌, ℕ, List, Option, true, inl, inr, subst, sym}
+use Rattle.std.proofs.Common.{◌≡◌, ◌≢◌, ◌⊎◌, refl, ℕ, List, Option, true, inl, inr, subst, sym}
 use Rattle.std.specs.Io.KnownBytes.{Appends}
 use Rattle.hintcheck_words.specs.declared.words.Format.{Format}
-use Rattle.hintcheck_words.specs.declared.words.Format.TheVariants.{Lines, Json, Causes}
+use Rattle.hintcheck_words.specs.declared.words.Format.TheVariants.{Lines, Json, Causes, Needs}
 use Rattle.hintcheck_words.specs.declared.words.Profile.{Profile}
 use Rattle.hintcheck.specs.CommandFaults.{IsFaultOfExplainingAs, IsFaultOfFileExplaining, IsFaultOfFontFile, IsUnexplained, IsWithin}
 use Rattle.hintcheck.specs.Commands.{IsNoWriteFault, status_of}
@@ -55,14 +55,16 @@ explained_printed font word offset budget profile bytes text called e status old
     subst (λ (n : ℕ). PrintsExplanation font word offset budget profile n old new) (sym is) (explained bytes text e old new holds (subst (λ (c : Option (List ℕ)). Appends old new (explanation_object font profile word c e text)) called_is written))
 
 -- what is said of lines is said of the form
-pub lines_fault : (format : Format) (word : List ℕ) (offset budget : Option ℕ) (f : CommandFault) → (format ≡ Lines) ⊎ (format ≡ Causes) → IsFaultOfFileExplaining word offset f × IsWithin budget f
+pub lines_fault : (format : Format) (word : List ℕ) (offset budget : Option ℕ) (f : CommandFault) → format ≢ Json → IsFaultOfFileExplaining word offset f × IsWithin budget f
     → IsFaultOfExplainingAs format word offset budget f
 lines_fault Lines word offset budget f of is = is
 lines_fault Causes word offset budget f of is = is
-lines_fault Json word offset budget f of is = elim of [ inl same ↦ absurd cc | inr same ↦ absurd cc ]
+lines_fault Needs word offset budget f other is = is
+lines_fault Json word offset budget f other is = absurd (other refl)
 
-pub lines_printed : (format : Format) (font word : List ℕ) (offset budget : Option ℕ) (profile : Profile) (status : ℕ) (old new : Option (List ℕ)) → (format ≡ Lines) ⊎ (format ≡ Causes)
+pub lines_printed : (format : Format) (font word : List ℕ) (offset budget : Option ℕ) (profile : Profile) (status : ℕ) (old new : Option (List ℕ)) → format ≢ Json
     → PrintsExplanationAs format font word offset budget profile status old new
 lines_printed Lines font word offset budget profile status old new of = tt
 lines_printed Causes font word offset budget profile status old new of = tt
-lines_printed Json font word offset budget profile status old new of = elim of [ inl same ↦ absurd cc | inr same ↦ absurd cc ]
+lines_printed Needs font word offset budget profile status old new other = tt
+lines_printed Json font word offset budget profile status old new other = absurd (other refl)

@@ -17,7 +17,7 @@ use Rattle.hintcheck.specs.FaultTexts.{command_fault_text}
 use Rattle.hintcheck.specs.RefusalClasses.{number_of_class}
 use Rattle.hintcheck.proofs.KnownScans.{noted_both, noted_none}
 use Rattle.hintcheck.specs.Representation.Expectations.{Expected, NotesScan, lines_of_answer, noted, scanned_lines}
-use Rattle.hintcheck.specs.Scans.{Answer, HasCauses, IsAnswer, Scanned, TellsFont, counts_text, greatest_status, judged, left_out_text, line_of, status_of_answer, summary, text_of, unread}
+use Rattle.hintcheck.specs.Scans.{Answer, HasTold, IsAnswer, Scanned, TellsFont, counts_text, greatest_status, judged, left_out_text, line_of, status_of_answer, summary, text_of, unread}
 use Rattle.hintcheck.specs.Texts.{profile_text}
 use Rattle.hintcheck_fonts.specs.Verdicts.{Judgement}
 use Rattle.hintcheck.specs.declared.commands.faults.CommandFault.{CommandFault}
@@ -48,23 +48,23 @@ greatest-append f (x ∷ xs) ys = omega (arith, greatest-append f xs ys)
 abbrev Answered : ScanOptions → Scanned → Type 0
 Answered options s = IsAnswer options.profile options.budget s.answer
 
-abbrev Caused : ScanOptions → Scanned → Type 0
-Caused options s = HasCauses options.format s.answer s.causes
+abbrev HasItsTold : ScanOptions → Scanned → Type 0
+HasItsTold options s = HasTold options.format options.profile s.answer s.told
 
 -- no font file
 pub scans_none : (options : ScanOptions) (old : Option (List ℕ)) (v : Expected) → NotesScan options [] 0 old old v v
-scans_none options old v = record { scanned = []; names_are = refl; answers = All-nil (Answered options); causes = All-nil (Caused options); greatest = refl; written = appends_nothing old; noted_are = sym (noted_none v) }
+scans_none options old v = record { scanned = []; names_are = refl; answers = All-nil (Answered options); told = All-nil (HasItsTold options); greatest = refl; written = appends_nothing old; noted_are = sym (noted_none v) }
 
 -- one font file
 pub scans_one : (options : ScanOptions) (name : List ℕ) (answer : Answer) (status : ℕ) (old new : Option (List ℕ)) (before after : Expected) → IsAnswer options.profile options.budget answer → status ≡ status_of_answer options.fail_on answer
     → TellsFont options name answer old new → after ≡ noted before (lines_of_answer options.fail_on name answer) → NotesScan options (name ∷ []) status old new before after
 scans_one options name answer status old new before after is same tells noted_are =
-    let s : Scanned = record { name = name; answer = answer; causes = tells.causes } in
+    let s : Scanned = record { name = name; answer = answer; told = tells.told } in
     record {
       scanned = s ∷ [];
       names_are = refl;
       answers = All-cons (Answered options) s [] is (All-nil (Answered options));
-      causes = All-cons (Caused options) s [] tells.are (All-nil (Caused options));
+      told = All-cons (HasItsTold options) s [] tells.has (All-nil (HasItsTold options));
       greatest = omega arith;
       written = subst (Appends old new) (sym (append-nil (text_of options s))) tells.written;
       noted_are = noted_are ∙ ap (noted before) (sym (append-nil (lines_of_answer options.fail_on name answer)));
@@ -78,7 +78,7 @@ scans_both options a b s t old mid new u v w first second =
       scanned = first.scanned ++ second.scanned;
       names_are = map-append (λ s. s.name) first.scanned second.scanned ∙ ap (λ x. x ++ map (λ s. s.name) second.scanned) first.names_are ∙ ap (λ y. a ++ y) second.names_are;
       answers = All-append (Answered options) first.scanned second.scanned first.answers second.answers;
-      causes = All-append (Caused options) first.scanned second.scanned first.causes second.causes;
+      told = All-append (HasItsTold options) first.scanned second.scanned first.told second.told;
       greatest = omega (arith, greatest-append options.fail_on first.scanned second.scanned, first.greatest, second.greatest);
       written = subst (Appends old new) (sym (flat_map-append (text_of options) first.scanned second.scanned)) (appends_both old mid new _ _ first.written second.written);
       noted_are = second.noted_are ∙ ap (λ x. noted x (scanned_lines options.fail_on second.scanned)) first.noted_are ∙ noted_both u (scanned_lines options.fail_on first.scanned) (scanned_lines options.fail_on second.scanned)

@@ -1,7 +1,7 @@
 -- Why what a scan tells of a font file isn't printed.
 use Rattle.std.proofs.Common.{◌≡◌, ◌≢◌, ◌⊎◌, inl, inr}
 use Rattle.hintcheck_words.specs.declared.words.FailOn.TheVariants.{Unknown}
-use Rattle.hintcheck_words.specs.declared.words.Format.TheVariants.{Causes, Json, Lines}
+use Rattle.hintcheck_words.specs.declared.words.Format.TheVariants.{Causes, Json, Lines, Needs}
 use Rattle.hintcheck_words.specs.declared.words.ScanOptions.{ScanOptions}
 use Rattle.hintcheck.specs.CommandFaults.{IsFaultOfLines, IsFaultOfPrinting, IsFaultOfScan, IsFaultOfTelling}
 use Rattle.hintcheck.specs.declared.commands.faults.CommandFault.{CommandFault}
@@ -22,6 +22,9 @@ object_told options f json is = lines_told options f (λ lines. cc (json, lines)
 
 pub causes_told : (options : ScanOptions) (f : CommandFault) → options.format ≡ Causes → IsFaultOfLines f → IsFaultOfTelling options f
 causes_told options f causes is = lines_told options f (λ lines. cc (causes, lines)) is
+
+pub needs_told : (options : ScanOptions) (f : CommandFault) → options.format ≡ Needs → IsFaultOfLines f → IsFaultOfTelling options f
+needs_told options f needs is = lines_told options f (λ lines. cc (needs, lines)) is
 
 -- what that is for the scan
 pub telling_of_scan : (options : ScanOptions) (f : CommandFault) → options.fail_on ≢ Unknown → IsFaultOfTelling options f → IsFaultOfScan options f ⊎ (options.fail_on ≢ Unknown × IsFaultOfPrinting f)

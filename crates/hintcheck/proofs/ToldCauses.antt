@@ -10,7 +10,8 @@ use Rattle.std.proofs.lemmas.List.Elements.{All-head, All-nil, All-tail}
 use Rattle.tt_code.specs.Refusals.{class_of, number_of, reason_text}
 use Rattle.tt_cert.specs.declared.name.Name.{Name}
 use Rattle.tt_names.specs.Post.{post_of}
-use Rattle.hintcheck_words.specs.declared.words.Format.TheVariants.{Causes, Json, Lines}
+use Rattle.hintcheck_words.specs.declared.words.Format.{Format}
+use Rattle.hintcheck_words.specs.declared.words.Format.TheVariants.{Causes, Json, Lines, Needs as NeedsForm}
 use Rattle.hintcheck_words.specs.declared.words.Profile.{Profile}
 use Rattle.hintcheck_words.specs.declared.words.Profile.TheVariants.{Strict, Symbolic}
 use Rattle.hintcheck_words.specs.declared.words.ScanOptions.{ScanOptions}
@@ -18,7 +19,8 @@ use Rattle.hintcheck.specs.CauseAnswers.{PrintsCausesOf}
 use Rattle.hintcheck.specs.Causes.{AreCauses, TellsCauses, cause_line, cause_lines, cause_text, is_same_cause, more_text, names_text, programs_of, programs_word, shared_place_text}
 use Rattle.hintcheck.specs.MeansSafe.{HoldRefusedBy, HoldSafeBy, IsVerdictBy}
 use Rattle.hintcheck.specs.RefusalClasses.{class_text}
-use Rattle.hintcheck.specs.Scans.{Answer, TellsFont, TellsLineAndCauses, judged, line_of, object_of, unread}
+use Rattle.hintcheck.specs.FontNeeds.{TellsNeeds}
+use Rattle.hintcheck.specs.Scans.{Answer, TellsFont, TellsLineAndCauses, TellsLineAndNeeds, causes, judged, line_of, needs, nothing, object_of, unread}
 use Rattle.hintcheck.specs.Texts.{end_line}
 use Rattle.hintcheck.proofs.ScannedLines.{appends_both}
 use Rattle.hintcheck.specs.declared.causes.Cause.{Cause}
@@ -101,18 +103,36 @@ no_causes = record {
   order = λ k d within. absurd (omega arith);
 }
 
+-- a line alone, where nothing is told after it
+alone : (line : List ℕ) (old new : Option (List ℕ)) → Appends old new line → Appends old new (line ++ [])
+alone line old new written = subst (Appends old new) (sym (append-nil line)) written
+
 -- what a scan tells of a font file in each form
 pub tells_line : (options : ScanOptions) (name : List ℕ) (answer : Answer) (old new : Option (List ℕ)) → options.format ≡ Lines → Appends old new (line_of options.profile name answer) → TellsFont options name answer old new
-tells_line options name answer old new is written = record { causes = []; are = rw is refl; written = rw is written }
+tells_line options name answer old new is written = record { told = nothing; has = rw is tt; written = rw is (alone (line_of options.profile name answer) old new written) }
 
 pub tells_object : (options : ScanOptions) (name : List ℕ) (answer : Answer) (old new : Option (List ℕ)) → options.format ≡ Json → Appends old new (object_of options name answer) → TellsFont options name answer old new
-tells_object options name answer old new is written = record { causes = []; are = rw is refl; written = rw is written }
+tells_object options name answer old new is written = record { told = nothing; has = rw is tt; written = rw is written }
 
 pub tells_causes : (options : ScanOptions) (name bytes : List ℕ) (j : Judgement) (old new : Option (List ℕ)) → options.format ≡ Causes → TellsLineAndCauses options.profile name bytes j old new → TellsFont options name (judged bytes j) old new
-tells_causes options name bytes j old new is tells = record { causes = tells.causes; are = rw is tells.are; written = rw is tells.written }
+tells_causes options name bytes j old new is tells = record { told = causes tells.causes; has = rw is tells.are; written = rw is tells.written }
 
-pub tells_fault : (options : ScanOptions) (name : List ℕ) (f : CommandFault) (old new : Option (List ℕ)) → options.format ≡ Causes → Appends old new (line_of options.profile name (unread f)) → TellsFont options name (unread f) old new
-tells_fault options name f old new is written = record { causes = []; are = rw is no_causes; written = rw is (subst (Appends old new) (sym (append-nil (line_of options.profile name (unread f)))) written) }
+pub tells_needs : (options : ScanOptions) (name bytes : List ℕ) (j : Judgement) (old new : Option (List ℕ)) → options.format ≡ NeedsForm → TellsLineAndNeeds options.profile name bytes j old new → TellsFont options name (judged bytes j) old new
+tells_needs options name bytes j old new is tells = record { told = needs tells.needs; has = rw is tells.have; written = rw is tells.written }
+
+-- a fault is told in a line alone
+pub tells_fault : (options : ScanOptions) (name : List ℕ) (f : CommandFault) (old new : Option (List ℕ)) → options.format ≢ Json → Appends old new (line_of options.profile name (unread f)) → TellsFont options name (unread f) old new
+tells_fault options name f old new other written =
+    by_format options.format refl
+  where
+    by_format : (format : Format) → options.format ≡ format → TellsFont options name (unread f) old new
+    by_format Lines is = tells_line options name (unread f) old new is written
+    by_format Json is = absurd (other is)
+    by_format Causes is = record { told = causes []; has = rw is no_causes; written = rw is (alone (line_of options.profile name (unread f)) old new written) }
+    by_format NeedsForm is = record { told = nothing; has = rw is tt; written = rw is (alone (line_of options.profile name (unread f)) old new written) }
+
+pub line_and_needs : (profile : Profile) (name bytes : List ℕ) (j : Judgement) (old mid new : Option (List ℕ)) → Appends old mid (line_of profile name (judged [] j)) → TellsNeeds profile bytes mid new → TellsLineAndNeeds profile name bytes j old new
+line_and_needs profile name bytes j old mid new line tells = record { needs = tells.needs; have = tells.have; written = appends_both old mid new _ _ line tells.written }
 
 pub line_and_causes : (profile : Profile) (name bytes : List ℕ) (j : Judgement) (old mid new : Option (List ℕ)) → Appends old mid (line_of profile name (judged [] j)) → TellsCauses (post_of bytes) j.refused mid new → TellsLineAndCauses profile name bytes j old new
 line_and_causes profile name bytes j old mid new line tells = record { causes = tells.causes; are = tells.are; written = appends_both old mid new _ _ line tells.written }

@@ -5,7 +5,7 @@ use Rattle.hintcheck_words.specs.declared.words.FailOn.{FailOn}
 use Rattle.hintcheck_words.specs.declared.words.ScanOptions.{ScanOptions}
 use Rattle.hintcheck.specs.Commands.{status_of}
 use Rattle.hintcheck.specs.KnownRefusals.{AreLines, counted_lines, has_unknown}
-use Rattle.hintcheck.specs.Scans.{Answer, HasCauses, IsAnswer, PrintsScan, Scanned, judged, text_of, unread}
+use Rattle.hintcheck.specs.Scans.{Answer, HasTold, IsAnswer, PrintsScan, Scanned, judged, text_of, unread}
 
 -- the exit status of a font file with this name alone: of a verdict it is 1 where a refused program
 -- that counts has none of these lines
@@ -33,7 +33,7 @@ pub record PrintsExpected (options : ScanOptions) (names : List (List ℕ)) (sta
   pub scanned : List Scanned
   pub names_are : map (λ s. s.name) scanned ≡ names
   pub answers : All (λ s. IsAnswer options.profile options.budget s.answer) scanned
-  pub causes : All (λ s. HasCauses options.format s.answer s.causes) scanned
+  pub told : All (λ s. HasTold options.format options.profile s.answer s.told) scanned
   pub greatest : status ≡ greatest_of_unknown options.fail_on lines scanned
   pub written : Appends old new (flat_map (text_of options) scanned)
 

@@ -13,6 +13,7 @@ pub mod Neighbours
 pub mod Printed
 pub mod CommandFaults
 pub mod FaultTexts
+pub mod FontNeeds
 pub mod RefusalClasses
 pub mod Representation
 pub mod Scans

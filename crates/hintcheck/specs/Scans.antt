@@ -10,13 +10,15 @@ use Rattle.tt_cert.specs.declared.name.Name.TheVariants as name
 use Rattle.tt_names.specs.Post.{post_of}
 use Rattle.hintcheck_words.specs.declared.words.FailOn.{FailOn}
 use Rattle.hintcheck_words.specs.declared.words.Format.{Format}
-use Rattle.hintcheck_words.specs.declared.words.Format.TheVariants.{Lines, Json, Causes}
+use Rattle.hintcheck_words.specs.declared.words.Format.TheVariants.{Lines, Json, Causes, Needs as NeedsForm}
 use Rattle.hintcheck_words.specs.declared.words.Profile.{Profile}
 use Rattle.hintcheck_words.specs.declared.words.ScanOptions.{ScanOptions}
 use Rattle.hintcheck.specs.Causes.{AreCauses, cause_lines}
 use Rattle.hintcheck.specs.Commands.{status_of}
 use Rattle.hintcheck.specs.CommandFaults.{IsFaultOfFontFile, IsWithin}
 use Rattle.hintcheck.specs.FaultTexts.{command_fault_text}
+use Rattle.hintcheck.specs.FontNeeds.{HaveNeeds, needs_line}
+use Rattle.hintcheck_needs.specs.declared.font_needs.Needs.{Needs}
 use Rattle.hintcheck.specs.JsonObjects.{beginning, fault_members, verdict_members}
 use Rattle.hintcheck.specs.MeansSafe.{IsVerdictBy}
 use Rattle.hintcheck.specs.RefusalClasses.{class_text, number_failing, number_of_class}
@@ -119,38 +121,60 @@ pub record TellsLineAndCauses (profile : Profile) (name bytes : List ℕ) (judge
       (line_of profile name (judged bytes judgement)
       ++ cause_lines (post_of bytes) judgement.refused causes)
 
--- A font file that was scanned: its name, what came of it, and the causes that are told of its
--- refusals.
+-- the line of a font file with this name, these bytes and this verdict was printed, and the line of
+-- what it needs
+pub record TellsLineAndNeeds (profile : Profile) (name bytes : List ℕ) (judgement : Judgement)
+    (old new : Option (List ℕ)) : Type 0 where
+  pub needs : Needs
+  pub have : HaveNeeds profile bytes needs
+  pub written : Appends old new (line_of profile name (judged bytes judgement) ++ needs_line needs)
+
+-- what is told of a font file after its line: nothing, causes, or what it needs
+pub data Told : Type 0 where
+  nothing : Told
+  causes : List Refused → Told
+  needs : Needs → Told
+
+-- A font file that was scanned: its name, what came of it, and what is told beside.
 pub record Scanned : Type 0 where
   pub name : List ℕ
   pub answer : Answer
-  pub causes : List Refused
+  pub told : Told
 
--- in the form Causes the causes are told, in other forms none
-abbrev pub HasCauses : Format → Answer → List Refused → Type 0
-HasCauses Causes answer causes = AreCauses (refused_of answer) causes
-HasCauses other answer causes = causes ≡ []
+-- in the form Causes the causes are told, in the form Needs what the font needs by this profile, if
+-- there is one, and in other forms nothing
+abbrev pub HasTold : Format → Profile → Answer → Told → Type 0
+HasTold Causes profile answer (causes rs) = AreCauses (refused_of answer) rs
+HasTold NeedsForm profile (judged bytes judgement) (needs n) = HaveNeeds profile bytes n
+HasTold NeedsForm profile (unread reported) nothing = Unit {0}
+HasTold Lines profile answer nothing = Unit {0}
+HasTold Json profile answer nothing = Unit {0}
+HasTold other profile answer told = ⊥
 
--- what is printed of a font file in this form, where this is its line, where these are the lines of
--- the causes and this is its object
+-- what is told of a font file in lines of its own
+abbrev pub told_lines : Answer → Told → List ℕ
+told_lines answer nothing = []
+told_lines answer (causes rs) = cause_lines (post_of_answer answer) (refused_of answer) rs
+told_lines answer (needs n) = needs_line n
+
+-- what is printed of a font file in this form, where this is its line, where these are further lines
+-- and this is its object
 abbrev pub in_format : Format → List ℕ → List ℕ → List ℕ → List ℕ
-in_format Lines line causes object = line
-in_format Json line causes object = object
-in_format Causes line causes object = line ++ causes
+in_format Json line further object = object
+in_format other line further object = line ++ further
 
 -- what is printed of it
 abbrev pub text_of : ScanOptions → Scanned → List ℕ
 text_of options s = in_format options.format (line_of options.profile s.name s.answer)
-    (cause_lines (post_of_answer s.answer) (refused_of s.answer) s.causes)
-    (object_of options s.name s.answer)
+    (told_lines s.answer s.told) (object_of options s.name s.answer)
 
 -- what these options ask for was printed of a font file with this name
 pub record TellsFont (options : ScanOptions) (name : List ℕ) (answer : Answer)
     (old new : Option (List ℕ)) : Type 0 where
-  pub causes : List Refused
-  pub are : HasCauses options.format answer causes
+  pub told : Told
+  pub has : HasTold options.format options.profile answer told
   pub written : Appends old new
-      (text_of options (record { name = name; answer = answer; causes = causes }))
+      (text_of options (record { name = name; answer = answer; told = told }))
 
 -- the greatest exit status of font files, 0 of none
 abbrev pub greatest_status : FailOn → List Scanned → ℕ
@@ -166,7 +190,7 @@ pub record PrintsScan (options : ScanOptions) (names : List (List ℕ)) (status 
   pub scanned : List Scanned
   pub names_are : map (λ s. s.name) scanned ≡ names
   pub answers : All (λ s. IsAnswer options.profile options.budget s.answer) scanned
-  pub causes : All (λ s. HasCauses options.format s.answer s.causes) scanned
+  pub told : All (λ s. HasTold options.format options.profile s.answer s.told) scanned
   pub greatest : status ≡ greatest_status options.fail_on scanned
   pub written : Appends old new (flat_map (text_of options) scanned)
 

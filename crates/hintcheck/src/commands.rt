@@ -23,6 +23,7 @@ mod find_task;
 mod json_objects;
 mod known_refusals;
 mod list_task;
+mod need_lines;
 mod scan_summary;
 mod scan_task;
 mod upgrade_task;

@@ -138,6 +138,10 @@ scan_causes : IsFlagRule scan_built.rules (codes "CAUSES") (rule_at scan_built (
 unfolding hintcheck scan_built rule_at clap_on_literals
 scan_causes = record { found = refl; named = refl; parser = refl }
 
+scan_needs : IsFlagRule scan_built.rules (codes "NEEDS") (rule_at scan_built (codes "NEEDS"))
+unfolding hintcheck scan_built rule_at clap_on_literals
+scan_needs = record { found = refl; named = refl; parser = refl }
+
 explain_offset : IsNumberRule explain_built.rules 4294967295 (codes "OFFSET") (rule_at explain_built (codes "OFFSET"))
 unfolding hintcheck explain_built rule_at clap_on_literals
 explain_offset = record { found = refl; named = refl; parser = refl }
@@ -200,6 +204,7 @@ meets_one words name rows e found =
             symbolic = flag_among scan_built rows (codes "SYMBOLIC") (rule_at scan_built (codes "SYMBOLIC")) at_scan scan_symbolic;
             json = flag_among scan_built rows (codes "JSON") (rule_at scan_built (codes "JSON")) at_scan scan_json;
             causes = flag_among scan_built rows (codes "CAUSES") (rule_at scan_built (codes "CAUSES")) at_scan scan_causes;
+            needs = flag_among scan_built rows (codes "NEEDS") (rule_at scan_built (codes "NEEDS")) at_scan scan_needs;
           };
       of_explain = λ explain.
           let at_explain = level_at (built hintcheck) name (codes "explain") rows explain_built named explain explain_found in

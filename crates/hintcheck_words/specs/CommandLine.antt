@@ -2,7 +2,7 @@
 --     hintcheck bare [--symbolic] [--points LIMIT] MAXP CVT POINTS CONTOURS [PROGRAM]
 --     hintcheck verdict [--symbolic] [--points POINTS] [--json] FONT
 --     hintcheck scan [--symbolic] [--points POINTS] [--fail-on CLASS] [--expect FILE] [--json]
---         [--causes] FONT..
+--         [--causes] [--needs] FONT..
 --     hintcheck explain [--symbolic] [--points POINTS] [--json] FONT [PROGRAM] [OFFSET]
 --     hintcheck find [--points POINTS] FONT CERT
 --     hintcheck check [--points POINTS] FONT CERT
@@ -85,6 +85,10 @@ expect = text_option (codes "FILE") (codes "expect")
 abbrev pub causes : Rule
 causes = flag (codes "CAUSES") (codes "causes")
 
+-- the option `--needs`, which asks for what fonts need of the numbers that bound their programs
+abbrev pub needs : Rule
+needs = flag (codes "NEEDS") (codes "needs")
+
 -- a subcommand whose arguments are texts that must be given, and the option `--points`
 abbrev pub of_texts_and_points : Text → List Text → App
 of_texts_and_points name ids = with_rule (of_texts name ids) (points (codes "POINTS"))
@@ -103,9 +107,9 @@ verdict = with_rule (with_rule (of_texts_and_points (codes "verdict") (codes "FO
 
 -- the subcommand `scan`, which checks all programs of each of several font files
 abbrev pub scan : App
-scan = with_rule (with_rule (with_rule (with_rule (with_rule (with_rule (with_rule
+scan = with_rule (with_rule (with_rule (with_rule (with_rule (with_rule (with_rule (with_rule
     (new_app (codes "scan")) (needed_list (codes "FONT"))) (points (codes "POINTS"))) symbolic)
-    fail_on) expect) json) causes
+    fail_on) expect) json) causes) needs
 
 -- the subcommand `explain`, which tells how one program is checked, or why programs are refused
 abbrev pub explain : App

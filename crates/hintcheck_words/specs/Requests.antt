@@ -102,10 +102,12 @@ profile_in rows = if flag_in rows (codes "SYMBOLIC") then profile.Symbolic else 
 abbrev pub format_in : List Row → Format
 format_in rows = if flag_in rows (codes "JSON") then format.Json else format.Lines
 
--- the form in which the answers of a scan are printed: objects of JSON hold what causes are made of
+-- the form in which the answers of a scan are printed: objects of JSON hold what causes are made of,
+-- and causes are told rather than needs
 abbrev pub scan_format_in : List Row → Format
 scan_format_in rows = if flag_in rows (codes "JSON") then format.Json
-    else (if flag_in rows (codes "CAUSES") then format.Causes else format.Lines)
+    else (if flag_in rows (codes "CAUSES") then format.Causes
+    else (if flag_in rows (codes "NEEDS") then format.Needs else format.Lines))
 
 -- what is listed of an instruction
 abbrev pub detail_in : List Row → Detail
@@ -231,6 +233,7 @@ pub record IsReadableScan (rows : List Row) : Type 0 where
   pub symbolic : HasFlag rows (codes "SYMBOLIC")
   pub json : HasFlag rows (codes "JSON")
   pub causes : HasFlag rows (codes "CAUSES")
+  pub needs : HasFlag rows (codes "NEEDS")
 
 -- the offset of `explain` is a number, where it is given, and its options can be read
 pub record IsReadableExplain (rows : List Row) : Type 0 where

@@ -2,7 +2,7 @@
 
 ghost use Rattle.std.specs.Prelude.{◌≡◌, ◌∷◌, [], IfErr, IfOk, Some, codes, is_some, false, map, option_map, string_bytes};
 ghost use Rattle.clap.specs.Words.{app_of, new_app, rule_of, subcommand_rows_of};
-ghost use Rattle.hintcheck_words.specs.CommandLine.{bare, causes as causes_rule, expect as expect_rule, explain, fail_on as fail_on_rule, flag, hintcheck, json as json_rule, list, needed as needed_rule, needed_number as number_rule, numbers as numbers_rule, of_texts, of_texts_and_points, optional_number as optional_rule, points as points_rule, scan, symbolic as symbolic_rule, verdict};
+ghost use Rattle.hintcheck_words.specs.CommandLine.{bare, causes as causes_rule, expect as expect_rule, explain, fail_on as fail_on_rule, flag, hintcheck, json as json_rule, list, needed as needed_rule, needs as needs_rule, needed_number as number_rule, numbers as numbers_rule, of_texts, of_texts_and_points, optional_number as optional_rule, points as points_rule, scan, symbolic as symbolic_rule, verdict};
 ghost use Rattle.hintcheck_words.specs.Requests.{HasFlag, HasLongNumberIfAny, HasNumber, HasNumberIfAny, HasPoints, IsMemoryIfTaken, IsReadable, IsReadableBare, IsReadableExplain, IsReadableScan, IsReadableVerdict, MeetsSubcommand, TellsFault, asked, bare_request, check_request, detail_in, explain_request, fail_on_in, fail_on_named, faults_in, find_request, flag_in, format_in, json_request, list_request, meaning, met, number_in, optional_in, optional_number_in, profile_in, request_of, rows_in, scan_format_in, scan_request, text_in, texts_in, texts_of, verdict_request};
 
 use clap::error::ErrorKind;
@@ -40,6 +40,9 @@ pub enum Format {
     /// For a scan a line for each font, and after it the causes of its refusals. Nothing else is
     /// asked for in this form.
     Causes,
+    /// For a scan a line for each font, and after it what the font needs of the numbers that bound
+    /// its programs. Nothing else is asked for in this form.
+    Needs,
 }
 
 /// What is listed of an instruction.
@@ -436,6 +439,20 @@ fn causes_option<'a>(alloc: Global) -> Arg<'a>
     )
 }
 
+/// Makes the option `--needs`.
+fn needs_option<'a>(alloc: Global) -> Arg<'a>
+    ensures rule { rule_of result ≡ needs_rule }
+    ensures local { result.global ≡ false }
+{
+    flag_option(
+        alloc,
+        "NEEDS",
+        "needs",
+        "Prints after each font's line what the font needs of the numbers that bound its programs, \
+        and what it declares; `--json` and `--causes` go before it",
+    )
+}
+
 /// Makes the subcommand `scan`.
 ///
 /// # Errors
@@ -454,7 +471,8 @@ fn scan_command<'a>(alloc: Global) -> Result<Command<'a>, AllocError>
         .arg(fail_on_option(alloc))?
         .arg(expect_option(alloc))?
         .arg(json_option(alloc, "Prints an object of JSON for each font, in a line"))?
-        .arg(causes_option(alloc))
+        .arg(causes_option(alloc))?
+        .arg(needs_option(alloc))
 }
 
 /// Makes the argument that is an offset, which may be left out.
@@ -638,12 +656,15 @@ fn asked_format(values: &ArgMatches<'_>) -> Format
 fn asked_scan_format(values: &ArgMatches<'_>) -> Format
     requires json { HasFlag (rows_in values.now) (codes "JSON") }
     requires causes { HasFlag (rows_in values.now) (codes "CAUSES") }
+    requires needs { HasFlag (rows_in values.now) (codes "NEEDS") }
     ensures { result ≡ scan_format_in (rows_in values.now) }
 {
     if is_given(values, "JSON") {
         Format::Json
     } else if is_given(values, "CAUSES") {
         Format::Causes
+    } else if is_given(values, "NEEDS") {
+        Format::Needs
     } else {
         Format::Lines
     }

@@ -7,7 +7,7 @@ use Rattle.hintcheck_words.specs.declared.words.FailOn.{FailOn}
 use Rattle.hintcheck_words.specs.declared.words.ScanOptions.{ScanOptions}
 use Rattle.hintcheck.specs.CommandFaults.{IsFaultOfTelling}
 use Rattle.hintcheck.specs.KnownRefusals.{AreLines, counted_lines, is_known, lines_text}
-use Rattle.hintcheck.specs.Scans.{Answer, HasCauses, IsAnswer, Scanned, greatest_status, judged, text_of, unread}
+use Rattle.hintcheck.specs.Scans.{Answer, HasTold, IsAnswer, Scanned, greatest_status, judged, text_of, unread}
 use Rattle.hintcheck.specs.declared.commands.faults.CommandFault.{CommandFault}
 use Rattle.hintcheck.specs.declared.commands.faults.CommandFault.TheVariants as fault
 use Rattle.hintcheck.specs.declared.commands.expectation.Expectation.{Expectation}
@@ -65,7 +65,7 @@ pub record NotesScan (options : ScanOptions) (names : List (List ℕ)) (status :
   pub scanned : List Scanned
   pub names_are : map (λ s. s.name) scanned ≡ names
   pub answers : All (λ s. IsAnswer options.profile options.budget s.answer) scanned
-  pub causes : All (λ s. HasCauses options.format s.answer s.causes) scanned
+  pub told : All (λ s. HasTold options.format options.profile s.answer s.told) scanned
   pub greatest : status ≡ greatest_status options.fail_on scanned
   pub written : Appends old new (flat_map (text_of options) scanned)
   pub noted_are : after ≡ noted before (scanned_lines options.fail_on scanned)

@@ -47,10 +47,8 @@ pub(super) fn explain_of_file<R: Files + AllocGlobal, O: Sink>(
         (IsFaultOfExplainingAs format word.now offset budget) }
     ensures none { OnOk result ((bytes : List ℕ) × HoldPlace bytes word.now offset) }
 {
-    match format {
-        Format::Lines | Format::Causes => {
-            explain_in_lines(rt, name, word, offset, budget, profile, out)
-        }
-        Format::Json => explain_in_object(rt, name, word, offset, budget, profile, out),
+    if let Format::Json = format {
+        return explain_in_object(rt, name, word, offset, budget, profile, out);
     }
+    explain_in_lines(rt, name, word, offset, budget, profile, out)
 }

@@ -90,7 +90,7 @@ pub(super) fn tell_summary<E: Sink>(
     ensures { E.failures err.old ≤ E.failures err.new }
 {
     match format {
-        Format::Lines | Format::Causes => {
+        Format::Lines | Format::Causes | Format::Needs => {
             let _ = print_summary(err, fonts, tally, known);
         }
         Format::Json => {}

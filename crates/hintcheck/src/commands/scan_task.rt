@@ -10,13 +10,14 @@ ghost use Rattle.hintcheck.specs.ExpectedScans.{PrintsScanning};
 ghost use Rattle.hintcheck.specs.MeansSafe.{IsRefusedScan, IsSafeScan, TellsFonts, TellsScan};
 ghost use Rattle.hintcheck.specs.RefusalClasses.{class_text, number_failing, number_of_class};
 ghost use Rattle.hintcheck.specs.Representation.Expectations.{IsFaultOfNoting, NotesScan, expected as expected_by};
-ghost use Rattle.hintcheck.specs.Scans.{IsOfScan, TellsFont, TellsLineAndCauses, counts_text, judged, left_out_text, line_of, status_of_answer, status_of_failing, unread};
+ghost use Rattle.hintcheck.specs.Scans.{IsOfScan, TellsFont, TellsLineAndCauses, TellsLineAndNeeds, counts_text, judged, left_out_text, line_of, status_of_answer, status_of_failing, unread};
 ghost use Rattle.hintcheck.specs.Texts.{profile_text};
 
 use super::cause_lines::print_causes;
 use super::expectation::Expectation;
 use super::faults::CommandFault;
 use super::json_objects::{print_fault_object, print_verdict_object};
+use super::need_lines::print_needs;
 use super::scan_summary::{Tally, tell_summary};
 use super::verdict_lines::end_of_profile;
 use super::verdict_task::{JudgedFont, judged_font};
@@ -157,6 +158,26 @@ fn print_with_causes<O: Sink>(
     Ok(())
 }
 
+/// Prints the line of the font in these bytes, whose verdict is one of this profile, and a line of
+/// what it needs. By the symbolic profile the search for each further verdict makes as many steps as
+/// these options allow, where they bound them; the strict one isn't bounded.
+fn print_with_needs<O: Sink>(
+    alloc: Global,
+    out: &mut O,
+    name: &str,
+    bytes: &[u8],
+    verdict: &Verdict,
+    options: ScanOptions,
+) -> Result<(), CommandFault>
+    ensures written { OnOk result (TellsLineAndNeeds options.profile name.now bytes.now verdict.now
+        (O.contents out.old) (O.contents out.new)) }
+    ensures failures { TellsFailure result (O.failures out.old) (O.failures out.new) }
+    ensures faults { IfErr result IsFaultOfLines }
+{
+    print_line(out, name, verdict, options.profile)?;
+    print_needs(alloc, out, bytes, options.profile, options.budget)
+}
+
 /// Prints what these options ask for of the font file with this name, these bytes and this verdict,
 /// which gives the exit status.
 fn tell_judged<O: Sink>(
@@ -179,6 +200,7 @@ fn tell_judged<O: Sink>(
     match options.format {
         Format::Lines => Ok(print_line(out, name, verdict, options.profile)?),
         Format::Causes => print_with_causes(alloc, out, name, bytes, verdict, options.profile),
+        Format::Needs => print_with_needs(alloc, out, name, bytes, verdict, options),
         Format::Json => {
             print_verdict_object(alloc, out, name, bytes, verdict, options.profile, status)
         }
@@ -200,8 +222,10 @@ fn tell_unread<O: Sink>(
     ensures faults { IfErr result (IsFaultOfTelling options) }
 {
     match options.format {
-        Format::Lines | Format::Causes => Ok(writeln!(out, "{name}: fault: {fault}")?),
         Format::Json => print_fault_object(alloc, out, name, fault, options.profile),
+        Format::Lines | Format::Causes | Format::Needs => {
+            Ok(writeln!(out, "{name}: fault: {fault}")?)
+        }
     }
 }
 

@@ -1,8 +1,8 @@
 use Rattle.std.proofs.Common.{subst}
 use Rattle.std.specs.Io.KnownBytes.{Appends}
 use Rattle.std.proofs.lemmas.Result.{IfErr-weaker, on_ok_weaker}
-use Rattle.hintcheck.proofs.TellingFaults.{causes_told, object_told}
-use Rattle.hintcheck.proofs.ToldCauses.{tells_causes, tells_line, tells_object}
+use Rattle.hintcheck.proofs.TellingFaults.{causes_told, needs_told, object_told}
+use Rattle.hintcheck.proofs.ToldCauses.{tells_causes, tells_line, tells_needs, tells_object}
 use Rattle.hintcheck.specs.Scans.{TellsFont, judged, object_of}
 use Rattle.hintcheck.proofs.commands.scan_task.tell_judged.Goals as goal
 
@@ -35,3 +35,15 @@ returns-in-Json-clause-written g c =
 pub returns-in-Json-clause-faults : goal.returns-in-Json-clause-faults
 returns-in-Json-clause-faults g c =
     IfErr-weaker c.print_verdict_object.result _ _ (λ told is. object_told c.args.options told c.in-Json.is is) c.print_verdict_object.ensures.faults
+
+pub returns-in-Needs-clause-written : goal.returns-in-Needs-clause-written
+returns-in-Needs-clause-written g c =
+    let contents = g.O.Sink.contents in
+    on_ok_weaker c.print_with_needs.result
+    (λ tells. subst (λ bytes. TellsFont c.args.options c.args.name.now (judged bytes c.args.font.now.verdict) (contents c.args.out.now) (contents c.print_with_needs.new.out)) c.as_slice-bytes.ensures.value
+    (tells_needs c.args.options c.args.name.now c.as_slice-bytes.result.now c.args.font.now.verdict (contents c.args.out.now) (contents c.print_with_needs.new.out) c.in-Needs.is tells))
+    c.print_with_needs.ensures.written
+
+pub returns-in-Needs-clause-faults : goal.returns-in-Needs-clause-faults
+returns-in-Needs-clause-faults g c =
+    IfErr-weaker c.print_with_needs.result _ _ (λ told is. needs_told c.args.options told c.in-Needs.is is) c.print_with_needs.ensures.faults

@@ -1,0 +1,90 @@
+//! The line that tells what a font needs of the numbers that bound its programs.
+
+ghost use Rattle.std.specs.Prelude.{◌≡◌, IfErr, IfOk, OnOk};
+ghost use Rattle.std.specs.Io.KnownBytes.{Appends};
+ghost use Rattle.tt_stream.specs.Streams.{CountsPrintFailure};
+ghost use Rattle.hintcheck.specs.CommandFaults.{IsFaultOfLines};
+ghost use Rattle.hintcheck.specs.Commands.{TellsFailure};
+ghost use Rattle.hintcheck.specs.FontNeeds.{HaveNeeds, TellsNeeds, needs_line};
+
+use super::faults::CommandFault;
+use hintcheck_fonts::symbolic_verdict::USUAL_STEPS;
+use hintcheck_needs::{self as needed, Needs, needs_in};
+use hintcheck_words::Profile;
+use std::alloc::Global;
+use tt_family::Budget;
+use tt_stream::{PrintFailed, Sink};
+
+/// Returns what the font in these bytes needs by this profile. The search for each verdict of the
+/// symbolic one makes at most this many steps, where they are bounded.
+///
+/// # Errors
+/// `OutOfMemory`.
+fn needs_by(
+    alloc: Global,
+    font: &[u8],
+    profile: Profile,
+    steps: Option<u64>,
+) -> Result<Needs, CommandFault>
+    ensures needs { IfOk result (HaveNeeds profile font.now) }
+    ensures fault { IfErr result (λ fault. fault ≡ CommandFault.OutOfMemory) }
+{
+    let by = match profile {
+        Profile::Strict => needed::Profile::Strict,
+        Profile::Symbolic => needed::Profile::Symbolic {
+            steps: steps.unwrap_or(USUAL_STEPS),
+        },
+    };
+    match needs_in(alloc, font, by, &mut Budget::unlimited()) {
+        Ok(needs) => Ok(needs),
+        // The font was read before, and no font has so many points: so memory ran out.
+        Err(_) => Err(CommandFault::OutOfMemory),
+    }
+}
+
+/// Prints the line of what a font needs, and of what it declares.
+fn print_line<O: Sink>(out: &mut O, needs: &Needs) -> Result<(), PrintFailed>
+    ensures written { OnOk result
+        (Appends (O.contents out.old) (O.contents out.new) (needs_line needs.now)) }
+    ensures failures { CountsPrintFailure result (O.failures out.old) (O.failures out.new) }
+{
+    let stack = needs.stack_elements;
+    let storage = needs.storage;
+    let functions = needs.function_defs;
+    let values = needs.control_values;
+    writeln!(
+        out,
+        "  needs maxStackElements {} of {}, maxStorage {} of {}, maxFunctionDefs {} of {}, \
+        control values {} of {}",
+        stack.least,
+        stack.declared,
+        storage.least,
+        storage.declared,
+        functions.least,
+        functions.declared,
+        values.least,
+        values.declared
+    )
+}
+
+/// Prints the line of what the font in these bytes needs by this profile. The search for each verdict
+/// of the symbolic one makes at most this many steps, where they are bounded.
+///
+/// # Errors
+/// `Write` exactly where a write to `out` failed; `OutOfMemory`.
+pub(super) fn print_needs<O: Sink>(
+    alloc: Global,
+    out: &mut O,
+    font: &[u8],
+    profile: Profile,
+    steps: Option<u64>,
+) -> Result<(), CommandFault>
+    ensures written { OnOk result
+        (TellsNeeds profile font.now (O.contents out.old) (O.contents out.new)) }
+    ensures failures { TellsFailure result (O.failures out.old) (O.failures out.new) }
+    ensures faults { IfErr result IsFaultOfLines }
+{
+    let needs = needs_by(alloc, font, profile, steps)?;
+    print_line(out, &needs)?;
+    Ok(())
+}
