@@ -9,7 +9,7 @@ _hintcheck() {
     fi
     case $command in
         verdict) options='--symbolic --points --json --help' ;;
-        scan) options='--symbolic --points --fail-on --expect --json --causes --help' ;;
+        scan) options='--symbolic --points --fail-on --expect --json --causes --needs --help' ;;
         find | check) options='--points --help' ;;
         explain) options='--symbolic --points --json --help' ;;
         bare) options='--symbolic --points --help' ;;

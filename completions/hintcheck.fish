@@ -17,6 +17,7 @@ complete -c hintcheck -n "__fish_seen_subcommand_from verdict scan explain find 
 complete -c hintcheck -n "__fish_seen_subcommand_from scan" -l fail-on -x -a possible -d 'For which refused programs the status is 1'
 complete -c hintcheck -n "__fish_seen_subcommand_from scan" -l expect -r -F -d 'The file that lists known refusals'
 complete -c hintcheck -n "__fish_seen_subcommand_from scan" -l causes -d 'Print the causes of the refusals'
+complete -c hintcheck -n "__fish_seen_subcommand_from scan" -l needs -d 'Print what the fonts need'
 complete -c hintcheck -n "__fish_seen_subcommand_from list" -l numbers -d 'List the numbers that instructions push'
 complete -c hintcheck -n "__fish_seen_subcommand_from verdict scan explain" -l json -d 'Print an object of JSON'
 complete -c hintcheck -n "__fish_seen_subcommand_from verdict scan explain find check list upgrade" -F
