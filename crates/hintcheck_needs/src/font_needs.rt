@@ -99,12 +99,12 @@ fn all_needs(
     })
 }
 
-/// Reads a font file and returns what it needs of each number, as `least_enough` tells of each while
-/// the others are those that the font declares.
+/// Reads a font file and returns what it needs of each number, as `least_enough` tells of each
+/// while the others are those that the font declares.
 ///
 /// # Errors
-/// The faults of `Font::read`; `OutOfMemory`; `Budget` exactly where more points were to be made than
-/// the budget allows, in this call or in an earlier one.
+/// The faults of `Font::read`; `OutOfMemory`; `Budget` exactly where more points were to be made
+/// than the budget allows, in this call or in an earlier one.
 pub fn needs_in(
     alloc: Global,
     bytes: &[u8],

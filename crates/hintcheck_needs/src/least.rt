@@ -1,4 +1,4 @@
-//! The least number with which a verdict refuses no more than with the greatest one.
+//! The least number with which a verdict refuses the same programs as with the greatest one.
 
 ghost use Rattle.std.specs.Prelude.{◌≡◌, ◌↔◌, IfOk, IsTrue};
 ghost use Rattle.tt_family.specs.Budgets.{EndTellsBudget, Spends};
@@ -79,8 +79,8 @@ fn refuses_same(
 }
 
 /// Returns the least number that is enough for a font, where its other numbers are those that it
-/// has: a verdict with it refuses the same programs as one with 65,535, and a verdict with the number
-/// before it doesn't. Some ten verdicts are made, and at most 18.
+/// has: a verdict with it refuses the same programs as one with 65,535, and a verdict with the
+/// number before it doesn't. Some ten verdicts are made, and at most 18.
 ///
 /// A program that is refused whatever the number needs nothing of it: so where a font declares too
 /// low a number, raise that one (`Bound::replace`) before asking for the others. What the numbers

@@ -1,5 +1,6 @@
-//! Which numbers a font's hint programs need, as far as a verdict tells: the least maxStackElements,
-//! maxStorage, maxFunctionDefs and number of control values with which no more programs are refused.
+//! Which numbers a font's hint programs need, as far as a verdict tells: the maxStackElements, the
+//! maxStorage, the maxFunctionDefs and the number of control values with which it refuses the same
+//! programs as with the greatest one, and with one less others.
 #![tactic(auto)]
 
 pub mod bound;

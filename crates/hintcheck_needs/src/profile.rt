@@ -26,8 +26,8 @@ pub enum Profile {
     },
 }
 
-/// Judges the programs of a font by symbolic states, with so many steps at most: returns the refused
-/// ones, in their order.
+/// Judges the programs of a font by symbolic states, with so many steps at most: returns the
+/// refused ones, in their order.
 ///
 /// # Errors
 /// If memory runs out.
