@@ -1,5 +1,5 @@
 -- What is printed of the causes of refusal, piece by piece.
-use Rattle.std.proofs.Common.{◌≡◌, ◌≢◌, ◌∙◌, ℕ, All, List, [], ◌∷◌, ◌++◌, Option, None, Some, ap, append_assoc, append-nil, arith, codes, inl, inr, length, map, min, refl, subst, sym, take}
+use Rattle.std.proofs.Common.{◌≡◌, ◌≢◌, ◌∙◌, ℕ, All, List, [], ◌∷◌, ◌++◌, Option, None, Some, ap, append_assoc, append-nil, arith, codes, inl, inr, length, map, min, refl, subst, sym, take, ◌⊎◌}
 use Rattle.std.specs.Prelude.{find}
 use Rattle.std.specs.Fmt.{decimal}
 use Rattle.std.specs.Io.KnownBytes.{Appends}
@@ -20,7 +20,7 @@ use Rattle.hintcheck.specs.Causes.{AreCauses, TellsCauses, cause_line, cause_lin
 use Rattle.hintcheck.specs.MeansSafe.{HoldRefusedBy, HoldSafeBy, IsVerdictBy}
 use Rattle.hintcheck.specs.RefusalClasses.{class_text}
 use Rattle.hintcheck.specs.FontNeeds.{TellsNeeds}
-use Rattle.hintcheck.specs.Scans.{Answer, TellsFont, TellsLineAndCauses, TellsLineAndNeeds, causes, judged, line_of, needs, nothing, object_of, unread}
+use Rattle.hintcheck.specs.Scans.{Answer, TellsFont, TellsLineAndCauses, TellsLineAndNeeds, judged, line_of, no_more, object_of, of_causes, of_needs, unread}
 use Rattle.hintcheck.specs.Texts.{end_line}
 use Rattle.hintcheck.proofs.ScannedLines.{appends_both}
 use Rattle.hintcheck.specs.declared.causes.Cause.{Cause}
@@ -109,16 +109,19 @@ alone line old new written = subst (Appends old new) (sym (append-nil line)) wri
 
 -- what a scan tells of a font file in each form
 pub tells_line : (options : ScanOptions) (name : List ℕ) (answer : Answer) (old new : Option (List ℕ)) → options.format ≡ Lines → Appends old new (line_of options.profile name answer) → TellsFont options name answer old new
-tells_line options name answer old new is written = record { told = nothing; has = rw is tt; written = rw is (alone (line_of options.profile name answer) old new written) }
+tells_line options name answer old new is written = record { told = no_more; has = rw is tt; written = rw is (alone (line_of options.profile name answer) old new written) }
 
 pub tells_object : (options : ScanOptions) (name : List ℕ) (answer : Answer) (old new : Option (List ℕ)) → options.format ≡ Json → Appends old new (object_of options name answer) → TellsFont options name answer old new
-tells_object options name answer old new is written = record { told = nothing; has = rw is tt; written = rw is written }
+tells_object options name answer old new is written = record { told = no_more; has = rw is tt; written = rw is written }
 
 pub tells_causes : (options : ScanOptions) (name bytes : List ℕ) (j : Judgement) (old new : Option (List ℕ)) → options.format ≡ Causes → TellsLineAndCauses options.profile name bytes j old new → TellsFont options name (judged bytes j) old new
-tells_causes options name bytes j old new is tells = record { told = causes tells.causes; has = rw is tells.are; written = rw is tells.written }
+tells_causes options name bytes j old new is tells = record { told = of_causes tells.causes; has = rw is tells.are; written = rw is tells.written }
 
 pub tells_needs : (options : ScanOptions) (name bytes : List ℕ) (j : Judgement) (old new : Option (List ℕ)) → options.format ≡ NeedsForm → TellsLineAndNeeds options.profile name bytes j old new → TellsFont options name (judged bytes j) old new
-tells_needs options name bytes j old new is tells = record { told = needs tells.needs; has = rw is tells.have; written = rw is tells.written }
+tells_needs options name bytes j old new is tells = record { told = of_needs tells.needs; has = rw is tells.have; written = rw is tells.written }
+
+pub not_json : (format : Format) → (format ≡ Lines) ⊎ ((format ≡ Causes) ⊎ (format ≡ NeedsForm)) → format ≢ Json
+not_json format of json = elim of [ inl lines ↦ cc (lines, json) | inr other ↦ elim other [ inl is ↦ cc (is, json) | inr is ↦ cc (is, json) ] ]
 
 -- a fault is told in a line alone
 pub tells_fault : (options : ScanOptions) (name : List ℕ) (f : CommandFault) (old new : Option (List ℕ)) → options.format ≢ Json → Appends old new (line_of options.profile name (unread f)) → TellsFont options name (unread f) old new
@@ -128,8 +131,8 @@ tells_fault options name f old new other written =
     by_format : (format : Format) → options.format ≡ format → TellsFont options name (unread f) old new
     by_format Lines is = tells_line options name (unread f) old new is written
     by_format Json is = absurd (other is)
-    by_format Causes is = record { told = causes []; has = rw is no_causes; written = rw is (alone (line_of options.profile name (unread f)) old new written) }
-    by_format NeedsForm is = record { told = nothing; has = rw is tt; written = rw is (alone (line_of options.profile name (unread f)) old new written) }
+    by_format Causes is = record { told = of_causes []; has = rw is no_causes; written = rw is (alone (line_of options.profile name (unread f)) old new written) }
+    by_format NeedsForm is = record { told = no_more; has = rw is tt; written = rw is (alone (line_of options.profile name (unread f)) old new written) }
 
 pub line_and_needs : (profile : Profile) (name bytes : List ℕ) (j : Judgement) (old mid new : Option (List ℕ)) → Appends old mid (line_of profile name (judged [] j)) → TellsNeeds profile bytes mid new → TellsLineAndNeeds profile name bytes j old new
 line_and_needs profile name bytes j old mid new line tells = record { needs = tells.needs; have = tells.have; written = appends_both old mid new _ _ line tells.written }

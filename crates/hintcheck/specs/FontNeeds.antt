@@ -3,7 +3,10 @@ use Rattle.std.specs.Prelude.{ℕ, List, ◌++◌, codes, Option}
 use Rattle.std.specs.Fmt.{decimal}
 use Rattle.std.specs.Io.KnownBytes.{Appends}
 use Rattle.tt_font.specs.Reading.{FontData, Reads}
-use Rattle.hintcheck_needs.specs.Needs.{AreNeeds}
+use Rattle.hintcheck_needs.specs.Bounds.{name_of}
+use Rattle.hintcheck_needs.specs.Needs.{AreNeeds, need_of}
+use Rattle.hintcheck_needs.specs.declared.bound.Bound.{Bound}
+use Rattle.hintcheck_needs.specs.declared.bound.Bound.TheVariants.{StackElements, Storage, FunctionDefs, ControlValues}
 use Rattle.hintcheck_needs.specs.declared.font_needs.Needs.{Needs}
 use Rattle.hintcheck_needs.specs.declared.profile.Profile.TheVariants as judged_by
 use Rattle.hintcheck_words.specs.declared.words.Profile.{Profile}
@@ -16,17 +19,19 @@ HaveNeeds Strict bytes needs = (d : FontData) × Reads bytes d × AreNeeds judge
 HaveNeeds Symbolic bytes needs = (steps : ℕ) × (d : FontData) × Reads bytes d
     × AreNeeds (judged_by.Symbolic steps) d needs
 
--- the line of what a font needs, and of what it declares
+-- what a font needs of one number, and what it declares: `maxStorage 3 of 64`
+abbrev pub need_text : Needs → Bound → List ℕ
+need_text n bound = name_of bound ++ (codes " " ++ (decimal (need_of n bound).least
+    ++ (codes " of " ++ decimal (need_of n bound).declared)))
+
+-- one that comes after another
+unfoldable pub next_need : Needs → Bound → List ℕ
+next_need n bound = codes ", " ++ need_text n bound
+
+-- the line of what a font needs
 abbrev pub needs_line : Needs → List ℕ
-needs_line n = codes "  needs maxStackElements " ++ (decimal n.stack_elements.least
-    ++ (codes " of " ++ (decimal n.stack_elements.declared
-    ++ (codes ", maxStorage " ++ (decimal n.storage.least
-    ++ (codes " of " ++ (decimal n.storage.declared
-    ++ (codes ", maxFunctionDefs " ++ (decimal n.function_defs.least
-    ++ (codes " of " ++ (decimal n.function_defs.declared
-    ++ (codes ", control values " ++ (decimal n.control_values.least
-    ++ (codes " of " ++ (decimal n.control_values.declared
-    ++ codes "\n"))))))))))))))))
+needs_line n = codes "  needs " ++ (need_text n StackElements ++ (next_need n Storage
+    ++ (next_need n FunctionDefs ++ (next_need n ControlValues ++ codes "\n"))))
 
 -- the line of what the font in the bytes needs was printed
 pub record TellsNeeds (profile : Profile) (bytes : List ℕ) (old new : Option (List ℕ))

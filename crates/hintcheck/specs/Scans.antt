@@ -131,9 +131,9 @@ pub record TellsLineAndNeeds (profile : Profile) (name bytes : List ℕ) (judgem
 
 -- what is told of a font file after its line: nothing, causes, or what it needs
 pub data Told : Type 0 where
-  nothing : Told
-  causes : List Refused → Told
-  needs : Needs → Told
+  no_more : Told
+  of_causes : List Refused → Told
+  of_needs : Needs → Told
 
 -- A font file that was scanned: its name, what came of it, and what is told beside.
 pub record Scanned : Type 0 where
@@ -144,18 +144,18 @@ pub record Scanned : Type 0 where
 -- in the form Causes the causes are told, in the form Needs what the font needs by this profile, if
 -- there is one, and in other forms nothing
 abbrev pub HasTold : Format → Profile → Answer → Told → Type 0
-HasTold Causes profile answer (causes rs) = AreCauses (refused_of answer) rs
-HasTold NeedsForm profile (judged bytes judgement) (needs n) = HaveNeeds profile bytes n
-HasTold NeedsForm profile (unread reported) nothing = Unit {0}
-HasTold Lines profile answer nothing = Unit {0}
-HasTold Json profile answer nothing = Unit {0}
+HasTold Causes profile answer (of_causes rs) = AreCauses (refused_of answer) rs
+HasTold NeedsForm profile (judged bytes judgement) (of_needs n) = HaveNeeds profile bytes n
+HasTold NeedsForm profile (unread reported) no_more = Unit {0}
+HasTold Lines profile answer no_more = Unit {0}
+HasTold Json profile answer no_more = Unit {0}
 HasTold other profile answer told = ⊥
 
 -- what is told of a font file in lines of its own
 abbrev pub told_lines : Answer → Told → List ℕ
-told_lines answer nothing = []
-told_lines answer (causes rs) = cause_lines (post_of_answer answer) (refused_of answer) rs
-told_lines answer (needs n) = needs_line n
+told_lines answer no_more = []
+told_lines answer (of_causes rs) = cause_lines (post_of_answer answer) (refused_of answer) rs
+told_lines answer (of_needs n) = needs_line n
 
 -- what is printed of a font file in this form, where this is its line, where these are further lines
 -- and this is its object

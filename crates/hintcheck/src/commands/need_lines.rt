@@ -5,11 +5,11 @@ ghost use Rattle.std.specs.Io.KnownBytes.{Appends};
 ghost use Rattle.tt_stream.specs.Streams.{CountsPrintFailure};
 ghost use Rattle.hintcheck.specs.CommandFaults.{IsFaultOfLines};
 ghost use Rattle.hintcheck.specs.Commands.{TellsFailure};
-ghost use Rattle.hintcheck.specs.FontNeeds.{HaveNeeds, TellsNeeds, needs_line};
+ghost use Rattle.hintcheck.specs.FontNeeds.{HaveNeeds, TellsNeeds, need_text, needs_line, next_need};
 
 use super::faults::CommandFault;
 use hintcheck_fonts::symbolic_verdict::USUAL_STEPS;
-use hintcheck_needs::{self as needed, Needs, needs_in};
+use hintcheck_needs::{self as needed, Bound, Need, Needs, needs_in};
 use hintcheck_words::Profile;
 use std::alloc::Global;
 use tt_family::Budget;
@@ -42,29 +42,40 @@ fn needs_by(
     }
 }
 
+/// Prints what a font needs of one number, and what it declares.
+fn print_need<O: Sink>(out: &mut O, needs: &Needs, bound: Bound) -> Result<(), PrintFailed>
+    ensures written { OnOk result
+        (Appends (O.contents out.old) (O.contents out.new) (need_text needs.now bound)) }
+    ensures failures { CountsPrintFailure result (O.failures out.old) (O.failures out.new) }
+{
+    let name = bound.name();
+    let Need { least, declared } = needs.of(bound);
+    write!(out, "{name} {least} of {declared}")
+}
+
+/// Prints what a font needs of a number that comes after another.
+#[tactic(auto, unfolding(crate::specs::FontNeeds::next_need))]
+fn print_next<O: Sink>(out: &mut O, needs: &Needs, bound: Bound) -> Result<(), PrintFailed>
+    ensures written { OnOk result
+        (Appends (O.contents out.old) (O.contents out.new) (next_need needs.now bound)) }
+    ensures failures { CountsPrintFailure result (O.failures out.old) (O.failures out.new) }
+{
+    write!(out, ", ")?;
+    print_need(out, needs, bound)
+}
+
 /// Prints the line of what a font needs, and of what it declares.
 fn print_line<O: Sink>(out: &mut O, needs: &Needs) -> Result<(), PrintFailed>
     ensures written { OnOk result
         (Appends (O.contents out.old) (O.contents out.new) (needs_line needs.now)) }
     ensures failures { CountsPrintFailure result (O.failures out.old) (O.failures out.new) }
 {
-    let stack = needs.stack_elements;
-    let storage = needs.storage;
-    let functions = needs.function_defs;
-    let values = needs.control_values;
-    writeln!(
-        out,
-        "  needs maxStackElements {} of {}, maxStorage {} of {}, maxFunctionDefs {} of {}, \
-        control values {} of {}",
-        stack.least,
-        stack.declared,
-        storage.least,
-        storage.declared,
-        functions.least,
-        functions.declared,
-        values.least,
-        values.declared
-    )
+    write!(out, "  needs ")?;
+    print_need(out, needs, Bound::StackElements)?;
+    print_next(out, needs, Bound::Storage)?;
+    print_next(out, needs, Bound::FunctionDefs)?;
+    print_next(out, needs, Bound::ControlValues)?;
+    writeln!(out, "")
 }
 
 /// Prints the line of what the font in these bytes needs by this profile. The search for each verdict

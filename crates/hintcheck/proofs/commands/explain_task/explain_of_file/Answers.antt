@@ -3,17 +3,17 @@ use Rattle.hintcheck.specs.Commands.{status_of}
 use Rattle.hintcheck.proofs.ObjectFaults.{lines_fault, lines_printed}
 use Rattle.hintcheck.proofs.commands.explain_task.explain_of_file.Goals as goal
 
-pub returns-in-Lines-clause-printed : goal.returns-in-Lines-clause-printed
-returns-in-Lines-clause-printed g c =
-    IfOk-weaker c.explain_in_lines.result _ _ (λ status few. lines_printed c.args.format c.args.name.now c.args.word.now c.args.offset c.args.budget c.args.profile status _ _ c.in-Lines.is) c.explain_in_lines.ensures.status
+pub returns-clause-printed : goal.returns-clause-printed
+returns-clause-printed g c =
+    IfOk-weaker c.explain_in_lines.result _ _ (λ status few. lines_printed c.args.format c.args.name.now c.args.word.now c.args.offset c.args.budget c.args.profile status _ _ c.in_default.not-Json) c.explain_in_lines.ensures.status
 
-pub returns-in-Lines-clause-told : goal.returns-in-Lines-clause-told
-returns-in-Lines-clause-told g c =
-    IfErr-weaker c.explain_in_lines.result _ _ (λ told is of. lines_printed c.args.format c.args.name.now c.args.word.now c.args.offset c.args.budget c.args.profile (status_of told) _ _ c.in-Lines.is) c.explain_in_lines.ensures.faults
+pub returns-clause-told : goal.returns-clause-told
+returns-clause-told g c =
+    IfErr-weaker c.explain_in_lines.result _ _ (λ told is of. lines_printed c.args.format c.args.name.now c.args.word.now c.args.offset c.args.budget c.args.profile (status_of told) _ _ c.in_default.not-Json) c.explain_in_lines.ensures.faults
 
-pub returns-in-Lines-clause-faults : goal.returns-in-Lines-clause-faults
-returns-in-Lines-clause-faults g c =
-    IfErr-weaker c.explain_in_lines.result _ _ (λ told is. lines_fault c.args.format c.args.word.now c.args.offset c.args.budget told c.in-Lines.is is) c.explain_in_lines.ensures.faults
+pub returns-clause-faults : goal.returns-clause-faults
+returns-clause-faults g c =
+    IfErr-weaker c.explain_in_lines.result _ _ (λ told is. lines_fault c.args.format c.args.word.now c.args.offset c.args.budget told c.in_default.not-Json is) c.explain_in_lines.ensures.faults
 
 pub returns-in-Json-clause-printed : goal.returns-in-Json-clause-printed
 returns-in-Json-clause-printed g c = IfOk-weaker c.explain_in_object.result _ _ (λ status printed. rw c.in-Json.is printed) c.explain_in_object.ensures.printed

@@ -1,8 +1,7 @@
-use Rattle.std.proofs.Common.{inl, inr}
 use Rattle.std.proofs.lemmas.Result.{IfErr-weaker, on_ok_weaker}
 use Rattle.hintcheck.proofs.ScannedLines.{fault_line}
 use Rattle.hintcheck.proofs.TellingFaults.{object_told}
-use Rattle.hintcheck.proofs.ToldCauses.{tells_fault, tells_line, tells_object}
+use Rattle.hintcheck.proofs.ToldCauses.{not_json, tells_fault, tells_object}
 use Rattle.hintcheck.specs.Scans.{unread}
 use Rattle.hintcheck.proofs.commands.scan_task.tell_unread.Goals as goal
 
@@ -12,10 +11,7 @@ returns-in_ok-writeln-in-Lines-clause-written g c =
     let old = contents c.args.out.now in
     let new = contents c.writeln.new.self in
     let written = fault_line c.args.options.profile c.args.name.now c.args.fault.now old new c.requires c.in_ok-writeln-in-Lines.ensures.written in
-    elim c.in-Lines.is [
-      | inl is ↦ tells_line c.args.options c.args.name.now (unread c.args.fault.now) old new is written
-      | inr is ↦ tells_fault c.args.options c.args.name.now c.args.fault.now old new is written
-    ]
+    tells_fault c.args.options c.args.name.now c.args.fault.now old new (not_json c.args.options.format c.in-Lines.is) written
 
 pub returns-in-Json-clause-written : goal.returns-in-Json-clause-written
 returns-in-Json-clause-written g c =
