@@ -9,6 +9,7 @@ pub mod KnownFaults
 pub mod ScannedLines
 pub mod ScanFaults
 pub mod PlaceLemmas
+pub mod SiteLemmas
 pub mod ExplanationLemmas
 pub mod ProgramsBefore
 pub mod TellingFaults

@@ -2,18 +2,17 @@
 use Rattle.std.specs.Prelude.{◌↔◌, IsTrue, option_map, slice_get}
 use Rattle.std.specs.Fmt.{decimal}
 use Rattle.std.specs.Str.Parse.{AllDigits, ParsesUnsigned, digits_value}
-use Rattle.std.proofs.Common.{◌≡◌, ℕ, zero, suc, ◌<◌, ◌^◌, List, Bool, true, false, Option, None, Some, Result, Ok, Err, IfSome, IfNone, length, get_or, refl, ap, sym, subst, arith, rules, ◌∙◌}
+use Rattle.std.proofs.Common.{◌≡◌, ◌≢◌, ◌≤◌, ℕ, zero, suc, ◌<◌, ◌^◌, List, Bool, true, false, Option, None, Some, Result, Ok, Err, IfSome, IfNone, length, get_or, refl, ap, sym, subst, arith, rules, ◌∙◌}
 use Rattle.std.proofs.lemmas.Fmt.{decimal_digit, first_decimal, digits_decimal, decimal-digits_value, decimal_nonempty}
 use Rattle.std.proofs.lemmas.Str.Parse.{IsNumeralModel, numerals_by_value, tells_digits, not_in_digits, parse_plain}
 use Rattle.std.specs.Result.{OkIff, result_ok}
 use Rattle.std.proofs.lemmas.Option.{slice_get_within}
 use Rattle.tt_font.specs.Reading.{FontData, GlyphData}
 use Rattle.hintcheck_fonts.specs.FontPrograms.{IsFontInRange}
-use Rattle.hintcheck.specs.Listing.{Calls, IsNoName, IsOf16Bits, IsPlain, Names, program_in}
+use Rattle.hintcheck.specs.Listing.{Calls, IsNameOf, IsNoName, IsOf16Bits, IsPlain, Names, program_in}
 use Rattle.hintcheck.specs.Listing.{by_name, by_glyph_name}
 use Rattle.tt_names.specs.Names.{IsFirstNamed, NamesNone}
 use Rattle.tt_names.specs.Post.{post_of}
-use Rattle.tt_cert.specs.Names.{text_of}
 use Rattle.tt_cert.specs.declared.name.Name.{Name}
 use Rattle.tt_cert.specs.declared.name.Name.TheVariants as name
 
@@ -22,28 +21,31 @@ own = numerals_by_value (AllDigits 10) tells_digits
 
 -- the decimal digits of a number are such a text
 
-only_zero : (n : ℕ) → n < 2 ^ 16 → get_or (decimal n) 0 0 ≡ 48 → length (decimal n) ≡ 1
+only_zero : (n : ℕ) → n < 2 ^ 32 → get_or (decimal n) 0 0 ≡ 48 → length (decimal n) ≡ 1
 only_zero zero small e = subst (λ ds. length ds ≡ 1) (sym (decimal_digit 0 (omega arith))) refl
 only_zero (suc n) small e = let h = first_decimal (suc n) (omega arith) (omega arith) in absurd (omega arith)
 
-pub plain_decimal : (n : ℕ) → n < 2 ^ 16 → IsPlain (decimal n)
+pub no_letter : (c n : ℕ) → (48 ≤ c → c ≤ 57 → ⊥) → n < 2 ^ 32 → get_or (decimal n) 0 0 ≢ c
+no_letter c n other small = not_in_digits own (decimal n) c (digits_decimal own n (omega arith)) (λ h. other h.0 h.1) 0 (decimal_nonempty n (omega arith))
+
+plain_decimal : (n : ℕ) → n < 2 ^ 32 → IsPlain (decimal n)
 plain_decimal n small = record {
-  unsigned = not_in_digits own (decimal n) 43 (digits_decimal own n (omega arith)) (λ h. absurd (omega arith)) 0 (decimal_nonempty n (omega arith));
+  unsigned = no_letter 43 n (λ low high. omega arith) small;
   first = only_zero n small;
 }
 
 -- such a text is read as the number that it is
 
-pub read_plain : {E : Type 0} (s : List ℕ) (r : Result ℕ E) → IsPlain s → ParsesUnsigned 16 10 s r → IfSome (result_ok r) (λ n. s ≡ decimal n)
+pub read_plain : {E : Type 0} (s : List ℕ) (r : Result ℕ E) → IsPlain s → ParsesUnsigned 32 10 s r → IfSome (result_ok r) (λ n. s ≡ decimal n)
 read_plain {E} s (Ok n) plain parsed =
-    let h : OkIff {E = E} (Ok n) (AllDigits 10 s × (0 < length s) × (digits_value 10 s < 2 ^ 16)) (digits_value 10 s) = parse_plain own {E = E} 16 s (Ok n) parsed plain.unsigned in
-    let few : digits_value 10 s < 2 ^ 16 = h.0.2 in
+    let h : OkIff {E = E} (Ok n) (AllDigits 10 s × (0 < length s) × (digits_value 10 s < 2 ^ 32)) (digits_value 10 s) = parse_plain own {E = E} 32 s (Ok n) parsed plain.unsigned in
+    let few : digits_value 10 s < 2 ^ 32 = h.0.2 in
     let e : decimal (digits_value 10 s) ≡ s = decimal-digits_value own s h.0.0 h.0.1 plain.first (omega arith) in
     sym (subst (λ m. decimal m ≡ s) (sym h.1) e)
 read_plain s (Err e) plain parsed = search rules
 
 -- so no other text is the digits of a number
-pub not_plain : (s t : List ℕ) (b : Bool) → (IsTrue b ↔ IsPlain s) → b ≡ false → s ≡ t → (n : ℕ) → n < 2 ^ 16 → t ≡ decimal n → ⊥
+pub not_plain : (s t : List ℕ) (b : Bool) → (IsTrue b ↔ IsPlain s) → b ≡ false → s ≡ t → (n : ℕ) → n < 2 ^ 32 → t ≡ decimal n → ⊥
 not_plain s t b test isnt same n small e =
     let yes : b ≡ true = test.1 (subst IsPlain (sym (same ∙ e)) (plain_decimal n small)) in cc
 
@@ -60,14 +62,14 @@ of_16_bits d few (name.Glyph id) p e = let h = number_below d.glyphs id (slice_g
 
 -- what a word is read as
 abbrev pub IsReadAs : List ℕ → Option Name → Type 0
-IsReadAs word read = (called : Name) → IsOf16Bits called → word ≡ text_of called → read ≡ Some called
+IsReadAs word read = (called : Name) → IsOf16Bits called → IsNameOf word called → read ≡ Some called
 
 -- which program a word means
 abbrev pub IsMeant : List ℕ → List ℕ → Option Name → Type 0
 IsMeant bytes word meant = (called : Name) → IsOf16Bits called → Calls bytes word called → meant ≡ Some called
 
 -- a word that is a program's name means that program
-pub name_is_meant : (bytes word : List ℕ) (read : Option Name) (called : Name) → IsReadAs word read → read ≡ Some called → IsOf16Bits called → word ≡ text_of called
+pub name_is_meant : (bytes word : List ℕ) (read : Option Name) (called : Name) → IsReadAs word read → read ≡ Some called → IsOf16Bits called → IsNameOf word called
     → IsMeant bytes word (Some called)
 name_is_meant bytes word read called is found bits text other small (by_name e) = let same : read ≡ Some other = is other small e in cc
 name_is_meant bytes word read called is found bits text other small (by_glyph_name id is_glyph nameless first) = absurd (nameless called bits text)

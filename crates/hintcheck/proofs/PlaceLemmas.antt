@@ -1,15 +1,11 @@
 -- Where an instruction of a program begins.
-use Rattle.std.proofs.Common.{◌≡◌, ◌≢◌, ◌∙◌, ℕ, ◌<◌, ◌+◌, List, [], ◌∷◌, ◌++◌, IfSome, Option, None, Some, length, subst, take, drop, refl, sym, ap, arith}
-use Rattle.std.specs.List.{concat, AllByRecursion}
+use Rattle.std.proofs.Common.{◌≡◌, ◌≢◌, ◌∙◌, ℕ, ◌<◌, ◌+◌, List, [], ◌∷◌, ◌++◌, length, take, drop, refl, sym, ap, arith}
+use Rattle.std.specs.List.{concat}
 use Rattle.std.proofs.lemmas.List.{length-append, length-drop, length-take-le, take-append-drop}
 use Rattle.std.proofs.Math.Seq.{take-append_seam}
-use Rattle.tt_code.specs.Cut.{CanBeCut, CannotBeCut, Instruction, IsCut, IsInstruction, instruction_at}
-use Rattle.tt_code.proofs.CutLemmas.{prefix_of_cut, size_is}
-use Rattle.tt_code.proofs.StructureLaws.{found_iff_stands}
-use Rattle.tt_font.specs.Reading.{FontData}
-use Rattle.tt_cert.specs.declared.name.Name.{Name}
-use Rattle.hintcheck.specs.Explanations.{BeginsInstruction, HasPlace, HasPlaceIn}
-use Rattle.hintcheck.specs.Listing.{program_in}
+use Rattle.tt_code.specs.Cut.{CanBeCut, CannotBeCut}
+use Rattle.tt_code.proofs.CutLemmas.{size_is}
+use Rattle.hintcheck.specs.Explanations.{BeginsInstruction}
 
 -- bytes that are left have a length
 some_left : (rest : List ℕ) → rest ≢ [] → 0 < length rest
@@ -45,24 +41,3 @@ begins_after program offset within cut =
 -- where they can't, none does
 pub none_begins : (program : List ℕ) (offset end : ℕ) → CannotBeCut (take offset program) end → BeginsInstruction program offset → ⊥
 none_begins program offset end uncut b = let cut = cut_before program offset b in uncut.uncut cut.0 cut.1
-
--- the instruction of a cut program is there
-pub instruction_there : (program : List ℕ) (is : List Instruction) (offset : ℕ) → IsCut program is → BeginsInstruction program offset → instruction_at is offset ≢ None
-instruction_there program is offset cut b = go (prefix_of_cut b.before is b.rest b.begins.each cut.each (b.begins.joined ∙ sym cut.joined))
-  where
-    go : ((q : List Instruction) × (is ≡ b.before ++ q) × AllByRecursion IsInstruction q × (b.rest ≡ concat q)) → instruction_at is offset ≢ None
-    go ([], e, each, left) = absurd (b.left left)
-    go (i ∷ q, e, each, left) = λ none.
-        let found : instruction_at is offset ≡ Some i = (found_iff_stands is offset i cut.each).1 (record { before = b.before; after = q; whole = e; offset = b.reached }) in
-        let wrong : None ≡ Some i = sym none ∙ found in cc
-
--- the place that is asked for is one of the program that was cut
-pub place_there : (program : List ℕ) (is main : List Instruction) (offset : Option ℕ) → IsCut program is → main ≡ is → HasPlace program offset
-    → IfSome offset (λ at. instruction_at main at ≢ None)
-place_there program is main None cut same place = tt
-place_there program is main (Some at) cut same place = rw same (instruction_there program is at cut place)
-
--- the font's program of the name has the place
-pub place_in : (d : FontData) (called : Name) (program : List ℕ) (offset : Option ℕ) → program_in d called ≡ Some program → HasPlace program offset → HasPlaceIn d called offset
-place_in d called program offset there place other e =
-    let same : program ≡ other = cc in subst (λ p. HasPlace p offset) same place

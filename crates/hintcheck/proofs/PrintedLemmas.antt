@@ -32,7 +32,7 @@ pub prints_for_verdict : (q : Request) (status : â„•) (old new : Option (List â„
 prints_for_verdict (bare maxp cvt points contours program budget profile) status old new for_verdict printed = printed
 prints_for_verdict (verdict font budget profile) status old new for_verdict printed = printed
 prints_for_verdict (scan fonts options expected) status old new for_verdict printed = absurd for_verdict
-prints_for_verdict (explain font program offset budget profile format) status old new for_verdict printed = absurd for_verdict
+prints_for_verdict (explain font program place options) status old new for_verdict printed = absurd for_verdict
 prints_for_verdict (find font certificate budget) status old new for_verdict printed = printed
 prints_for_verdict (check font certificate budget) status old new for_verdict printed = printed
 prints_for_verdict (list font program detail) status old new for_verdict printed = absurd for_verdict

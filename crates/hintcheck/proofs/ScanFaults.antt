@@ -10,15 +10,15 @@ use Rattle.hintcheck.specs.declared.commands.faults.CommandFault.TheVariants as 
 -- neither a scan nor the explanation of one program is asked for
 abbrev pub IsNoScan : Request → Type 0
 IsNoScan (scan fonts options expected) = ⊥
-IsNoScan (explain font (Some program) offset budget profile format) = ⊥
+IsNoScan (explain font (Some program) place options) = ⊥
 IsNoScan other = Unit {0}
 
 fault_of_scan : (q : Request) → IsNoScan q → IsFaultOfRequest q fault.ScanFault → ⊥
 fault_of_scan (bare maxp cvt points contours program budget profile) no_scan is = is.0
 fault_of_scan (verdict font budget profile) no_scan is = is.0
 fault_of_scan (scan fonts options expected) no_scan is = no_scan
-fault_of_scan (explain font None offset budget profile format) no_scan is = is.0
-fault_of_scan (explain font (Some program) offset budget profile format) no_scan is = no_scan
+fault_of_scan (explain font None place options) no_scan is = is.0
+fault_of_scan (explain font (Some program) place options) no_scan is = no_scan
 fault_of_scan (find font certificate budget) no_scan is = elim is.0 [ inl e ↦ cc | inr other ↦ other.1 ]
 fault_of_scan (check font certificate budget) no_scan is = is.0
 fault_of_scan (list font program detail) no_scan is = elim is [ inl reading ↦ reading | inr some ↦ some.1 ]
@@ -28,8 +28,8 @@ unfinished_scan : (q : Request) → IsNoScan q → IsFaultOfRequest q fault.Scan
 unfinished_scan (bare maxp cvt points contours program budget profile) no_scan is = is.0
 unfinished_scan (verdict font budget profile) no_scan is = is.0
 unfinished_scan (scan fonts options expected) no_scan is = no_scan
-unfinished_scan (explain font None offset budget profile format) no_scan is = is.0
-unfinished_scan (explain font (Some program) offset budget profile format) no_scan is = no_scan
+unfinished_scan (explain font None place options) no_scan is = is.0
+unfinished_scan (explain font (Some program) place options) no_scan is = no_scan
 unfinished_scan (find font certificate budget) no_scan is = elim is.0 [ inl e ↦ cc | inr other ↦ other.1 ]
 unfinished_scan (check font certificate budget) no_scan is = is.0
 unfinished_scan (list font program detail) no_scan is = elim is [ inl reading ↦ reading | inr some ↦ some.1 ]
@@ -54,7 +54,7 @@ pub verdict_no_scan : (q : Request) → IsForVerdict q → IsNoScan q
 verdict_no_scan (bare maxp cvt points contours program budget profile) is = tt
 verdict_no_scan (verdict font budget profile) is = tt
 verdict_no_scan (scan fonts options expected) is = is
-verdict_no_scan (explain font program offset budget profile format) is = absurd is
+verdict_no_scan (explain font program place options) is = absurd is
 verdict_no_scan (find font certificate budget) is = tt
 verdict_no_scan (check font certificate budget) is = tt
 verdict_no_scan (list font program detail) is = tt

@@ -143,6 +143,7 @@ fault_line profile name fault.MaxpWord old new is written = absurd is
 fault_line profile name fault.ProgramWord old new is written = absurd is
 fault_line profile name fault.ProgramName old new is written = absurd is
 fault_line profile name (fault.OffsetWord told) old new is written = absurd is
+fault_line profile name fault.NoOffset old new is written = absurd is
 fault_line profile name fault.ClassWord old new is written = absurd is
 fault_line profile name fault.ExpectedWord old new is written = absurd is
 fault_line profile name fault.FontWord old new is written = absurd is

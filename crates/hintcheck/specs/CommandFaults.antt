@@ -5,6 +5,7 @@ use Rattle.tt_font.specs.FileFaults.{font_fault}
 use Rattle.tt_font.specs.declared.fault.FontFault.TheVariants.{OutOfMemory}
 use Rattle.hintcheck_words.specs.HexWords.{IsHexWord, Spells}
 use Rattle.hintcheck_words.specs.Requests.{Request, bare, check, explain, find, is_taken, list, meaning, scan, upgrade, verdict}
+use Rattle.hintcheck_words.specs.declared.words.ExplainOptions.{ExplainOptions}
 use Rattle.hintcheck_words.specs.declared.words.FailOn.TheVariants.{Unknown}
 use Rattle.hintcheck_words.specs.declared.words.Format.{Format}
 use Rattle.hintcheck_words.specs.declared.words.Format.TheVariants.{Json, Lines}
@@ -16,6 +17,8 @@ use Rattle.hintcheck.specs.Explanations.{HoldPlace}
 use Rattle.hintcheck.specs.KnownRefusals.{IsExpectable, IsFirstBadLine}
 use Rattle.hintcheck.specs.Listing.{HoldNoSuchProgram}
 use Rattle.hintcheck.specs.Neighbours.{HoldNoSuchPlace}
+use Rattle.hintcheck.specs.SiteWords.{AskForSite, IsNoSite}
+use Rattle.tt_symbolic_check.specs.declared.refusal.Site.{Site}
 use Rattle.hintcheck.specs.declared.commands.faults.CommandFault.{CommandFault}
 use Rattle.hintcheck.specs.declared.commands.faults.Container.TheVariants.{Other}
 use Rattle.hintcheck.specs.declared.commands.faults.Numbered.{Numbered}
@@ -250,58 +253,64 @@ abbrev pub IsFaultOfFileListing : List ℕ → CommandFault → Type 0
 IsFaultOfFileListing word reported =
     IsFaultOfReading reported ⊎ ((bytes : List ℕ) × IsFaultOfListing bytes word reported)
 
--- Why the program with this name of the font in these bytes isn't explained, where this offset is
+-- Why the program with this name of the font in these bytes isn't explained, where this site is
 -- asked for or none.
-abbrev pub IsFaultOfExplaining : List ℕ → List ℕ → Option ℕ → CommandFault → Type 0
-IsFaultOfExplaining bytes word offset (fault.Font numbered) = IsFaultOfFont bytes numbered
-IsFaultOfExplaining bytes word offset fault.ProgramName = HoldNoSuchProgram bytes word
-IsFaultOfExplaining bytes word offset (fault.OffsetWord told) =
-    HoldNoSuchPlace bytes word offset told
-IsFaultOfExplaining bytes word offset fault.OutOfMemory = Unit {0}
-IsFaultOfExplaining bytes word offset fault.Budget = Unit {0}
-IsFaultOfExplaining bytes word offset other =
-    HoldPlace bytes word offset × IsFaultOfPrinting other
+abbrev pub IsFaultOfExplaining : List ℕ → List ℕ → Option Site → CommandFault → Type 0
+IsFaultOfExplaining bytes word site (fault.Font numbered) = IsFaultOfFont bytes numbered
+IsFaultOfExplaining bytes word site fault.ProgramName = HoldNoSuchProgram bytes word
+IsFaultOfExplaining bytes word site (fault.OffsetWord told) = HoldNoSuchPlace bytes word site told
+IsFaultOfExplaining bytes word site fault.OutOfMemory = Unit {0}
+IsFaultOfExplaining bytes word site fault.Budget = Unit {0}
+IsFaultOfExplaining bytes word site other = HoldPlace bytes word site × IsFaultOfPrinting other
 
 -- why the program with this name of a font file isn't explained
-abbrev pub IsFaultOfFileExplaining : List ℕ → Option ℕ → CommandFault → Type 0
-IsFaultOfFileExplaining word offset reported =
+abbrev pub IsFaultOfFileExplaining : List ℕ → Option Site → CommandFault → Type 0
+IsFaultOfFileExplaining word site reported =
     IsFaultOfReading reported
-    ⊎ ((bytes : List ℕ) × IsFaultOfExplaining bytes word offset reported)
+    ⊎ ((bytes : List ℕ) × IsFaultOfExplaining bytes word site reported)
 
 -- Why no program with this name of a font file is explained within this budget, if there is one.
-pub record IsUnexplained (word : List ℕ) (offset budget : Option ℕ) (reported : CommandFault)
-    : Type 0 where
+pub record IsUnexplained (word : List ℕ) (site : Option Site) (budget : Option ℕ)
+    (reported : CommandFault) : Type 0 where
   pub of_file : IsFaultOfFontFile reported
-  pub why : IsFaultOfFileExplaining word offset reported
+  pub why : IsFaultOfFileExplaining word site reported
   pub within : IsWithin budget reported
 
 -- there is an object to be printed: that of an explanation, or of a font file's fault
-abbrev pub HasObject : List ℕ → Option ℕ → Option ℕ → Type 0
-HasObject word offset budget = ((bytes : List ℕ) × HoldPlace bytes word offset)
-    ⊎ ((reported : CommandFault) × IsUnexplained word offset budget reported)
+abbrev pub HasObject : List ℕ → Option Site → Option ℕ → Type 0
+HasObject word site budget = ((bytes : List ℕ) × HoldPlace bytes word site)
+    ⊎ ((reported : CommandFault) × IsUnexplained word site budget reported)
 
 -- Why the program with this name of a font file isn't explained by an object: there is no such
 -- program, or no such place in it; memory ran out; the object isn't printed; or it tells a font
 -- file's fault, which gives the same exit status.
-abbrev pub IsFaultOfObject : List ℕ → Option ℕ → Option ℕ → CommandFault → Type 0
-IsFaultOfObject word offset budget fault.ProgramName =
+abbrev pub IsFaultOfObject : List ℕ → Option Site → Option ℕ → CommandFault → Type 0
+IsFaultOfObject word site budget fault.ProgramName =
     (bytes : List ℕ) × HoldNoSuchProgram bytes word
-IsFaultOfObject word offset budget (fault.OffsetWord told) =
-    (bytes : List ℕ) × HoldNoSuchPlace bytes word offset told
-IsFaultOfObject word offset budget fault.OutOfMemory = Unit {0}
-IsFaultOfObject word offset budget fault.ScanFault = (reported : CommandFault)
-    × IsUnexplained word offset budget reported × (status_of reported ≡ 2)
-IsFaultOfObject word offset budget fault.ScanUnfinished = (reported : CommandFault)
-    × IsUnexplained word offset budget reported × (status_of reported ≡ 3)
-IsFaultOfObject word offset budget other =
-    HasObject word offset budget × IsFaultOfPrinting other
+IsFaultOfObject word site budget (fault.OffsetWord told) =
+    (bytes : List ℕ) × HoldNoSuchPlace bytes word site told
+IsFaultOfObject word site budget fault.OutOfMemory = Unit {0}
+IsFaultOfObject word site budget fault.ScanFault = (reported : CommandFault)
+    × IsUnexplained word site budget reported × (status_of reported ≡ 2)
+IsFaultOfObject word site budget fault.ScanUnfinished = (reported : CommandFault)
+    × IsUnexplained word site budget reported × (status_of reported ≡ 3)
+IsFaultOfObject word site budget other =
+    HasObject word site budget × IsFaultOfPrinting other
 
 -- why the program with this name of a font file isn't explained in this form
-abbrev pub IsFaultOfExplainingAs : Format → List ℕ → Option ℕ → Option ℕ → CommandFault → Type 0
-IsFaultOfExplainingAs Json word offset budget reported =
-    IsFaultOfObject word offset budget reported
-IsFaultOfExplainingAs other word offset budget reported =
-    IsFaultOfFileExplaining word offset reported × IsWithin budget reported
+abbrev pub IsFaultOfExplainingAs : Format → List ℕ → Option Site → Option ℕ → CommandFault
+    → Type 0
+IsFaultOfExplainingAs Json word site budget reported =
+    IsFaultOfObject word site budget reported
+IsFaultOfExplainingAs other word site budget reported =
+    IsFaultOfFileExplaining word site reported × IsWithin budget reported
+
+-- Why the program with this name of a font file isn't explained with these options at the site that
+-- the words ask for: their word is that of none; or it isn't explained at that one.
+abbrev pub IsFaultOfAsked : ExplainOptions → List ℕ → Option (List ℕ) → CommandFault → Type 0
+IsFaultOfAsked options word place reported = (reported ≡ fault.NoOffset × IsNoSite place)
+    ⊎ ((site : Option Site) × AskForSite place site
+    × IsFaultOfExplainingAs options.format word site options.budget reported)
 
 -- why the causes for which programs of a font file are refused aren't told: there is no verdict on
 -- it, or a text isn't printed
@@ -316,10 +325,10 @@ IsFaultOfRequest (verdict font budget profile) reported =
     IsFaultOfFontFile reported × IsWithin budget reported
 IsFaultOfRequest (scan fonts options expected) reported =
     IsFaultOfScanning options expected reported
-IsFaultOfRequest (explain font None offset budget profile format) reported =
-    IsFaultOfFontFile reported × IsWithin budget reported
-IsFaultOfRequest (explain font (Some program) offset budget profile format) reported =
-    IsFaultOfExplainingAs format program offset budget reported
+IsFaultOfRequest (explain font None place options) reported =
+    IsFaultOfFontFile reported × IsWithin options.budget reported
+IsFaultOfRequest (explain font (Some program) place options) reported =
+    IsFaultOfAsked options program place reported
 IsFaultOfRequest (find font certificate budget) reported =
     IsFaultOfFinding font certificate reported × IsWithin budget reported
 IsFaultOfRequest (check font certificate budget) reported =
@@ -329,15 +338,15 @@ IsFaultOfRequest (upgrade old new) reported = IsFaultOfUpgrading old new reporte
 
 -- The words of `bare` have no fault; those of `scan` have none, as `HasNoFaultOfScan` says; those
 -- of `find` and of `upgrade` are two different ones; and those of `explain` name a program of some
--- font, and an instruction of it by an offset, if any.
+-- font, and an instruction by a site, if any.
 abbrev pub HasNoFault : Request → Type 0
 HasNoFault (bare maxp cvt points contours program budget profile) =
     SpellNoFault maxp (unwrap_or program [])
 HasNoFault (verdict font budget profile) = Unit {0}
 HasNoFault (scan fonts options expected) = HasNoFaultOfScan options fonts expected
-HasNoFault (explain font None offset budget profile format) = Unit {0}
-HasNoFault (explain font (Some program) offset budget profile format) =
-    (bytes : List ℕ) × HoldPlace bytes program offset
+HasNoFault (explain font None place options) = Unit {0}
+HasNoFault (explain font (Some program) place options) =
+    (site : Option Site) × AskForSite place site × (bytes : List ℕ) × HoldPlace bytes program site
 HasNoFault (find font certificate budget) = font ≢ certificate
 HasNoFault (check font certificate budget) = Unit {0}
 HasNoFault (list font program detail) = Unit {0}

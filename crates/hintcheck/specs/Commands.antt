@@ -126,7 +126,7 @@ abbrev pub IsForVerdict : Request → Type 0
 IsForVerdict (bare maxp cvt points contours program budget profile) = Unit {0}
 IsForVerdict (verdict font budget profile) = Unit {0}
 IsForVerdict (scan fonts options expected) = ⊥
-IsForVerdict (explain font program offset budget profile format) = ⊥
+IsForVerdict (explain font program place options) = ⊥
 IsForVerdict (find font certificate budget) = Unit {0}
 IsForVerdict (check font certificate budget) = Unit {0}
 IsForVerdict (list font program detail) = ⊥

@@ -7,10 +7,13 @@ use Rattle.tt_font.specs.Reading.{FontData, GlyphData, Reads}
 use Rattle.tt_abs.specs.Failures.{reason_of}
 use Rattle.tt_abs.specs.declared.refusal.Refusal.{Refusal}
 use Rattle.tt_abs.specs.declared.refusal.Refusal.TheVariants as fault
+use Rattle.tt_abs.specs.declared.spot.Spot.{Spot}
+use Rattle.tt_abs.specs.declared.spot.Spot.TheVariants as spot
+use Rattle.tt_symbolic_check.specs.declared.refusal.Site.{Site}
 use Rattle.hintcheck_explain.specs.declared.asked.Explained.{Explained}
 use Rattle.hintcheck_explain.specs.declared.asked.Explained.TheVariants as explained
 use Rattle.hintcheck_fonts.specs.FontPrograms.{cvt_subject, font_of, font_subject, glyph_subject}
-use Rattle.hintcheck.specs.Listing.{Calls, Names, program_in}
+use Rattle.hintcheck.specs.Listing.{Calls, Names}
 use Rattle.hintcheck_fonts.specs.Programs.{EndsWith, HasLeastFamily, IsRefusal, Subject}
 use Rattle.hintcheck_report.specs.Places.{reported_at}
 use Rattle.hintcheck_report.specs.declared.refused.Refused.{Refused}
@@ -90,23 +93,26 @@ pub record BeginsInstruction (program : List ℕ) (offset : ℕ) : Type 0 where
   pub reached : size before ≡ offset
   pub left : rest ≢ []
 
--- where an offset is asked for, an instruction of the program begins there
-abbrev pub HasPlace : List ℕ → Option ℕ → Type 0
-HasPlace program offset = IfSome offset (BeginsInstruction program)
+-- the bytes of the program that holds a place of this spot, where the font's program of these bytes
+-- is explained
+abbrev pub bytes_at : FontData → List ℕ → Spot → List ℕ
+bytes_at d program spot.Main = program
+bytes_at d program spot.Font = d.fpgm
+bytes_at d program spot.Prep = d.prep
 
--- The bytes hold a font, and the word is the name of a program of it; where an offset is asked for,
--- an instruction of that program begins there.
-pub record HoldPlace (bytes word : List ℕ) (offset : Option ℕ) : Type 0 where
+-- where a site is asked for, an instruction of the program that holds it begins there
+abbrev pub HasSite : FontData → List ℕ → Option Site → Type 0
+HasSite d program site =
+    IfSome site (λ at. BeginsInstruction (bytes_at d program at.spot) at.offset)
+
+-- The bytes hold a font, and the word is the name of a program of it; where a site is asked for, an
+-- instruction of that program, or of the font program or the CVT program, begins there.
+pub record HoldPlace (bytes word : List ℕ) (site : Option Site) : Type 0 where
   pub font : FontData
   pub reads : Reads bytes font
   pub program : List ℕ
   pub named : Names bytes word font program
-  pub place : HasPlace program offset
-
--- where an offset is asked for, an instruction of the font's program of this name begins there
-abbrev pub HasPlaceIn : FontData → Name → Option ℕ → Type 0
-HasPlaceIn d called offset =
-    (program : List ℕ) → program_in d called ≡ Some program → HasPlace program offset
+  pub place : HasSite font program site
 
 -- whether the program is accepted: it has its least family, or it is refused so
 abbrev pub IsAnswered : Subject → Explained → Type 0

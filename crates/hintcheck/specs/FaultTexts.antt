@@ -40,6 +40,8 @@ command_fault_text fault.MaxpWord = Some (codes "words: MAXP")
 command_fault_text fault.ProgramWord = Some (codes "words: PROGRAM")
 command_fault_text fault.ProgramName =
     Some (codes "words: PROGRAM: f, p, g and the number of a glyph, or its name")
+command_fault_text fault.NoOffset =
+    Some (codes "words: OFFSET: a number, alone or after f: or p:")
 command_fault_text (fault.OffsetWord told) = Some (codes "words: OFFSET" ++ neighbours_text told)
 command_fault_text fault.ClassWord = Some (codes "words: CLASS")
 command_fault_text fault.ExpectedWord = Some (codes "words: FILE: a font of the scan")

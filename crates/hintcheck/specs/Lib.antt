@@ -17,6 +17,7 @@ pub mod FontNeeds
 pub mod RefusalClasses
 pub mod Representation
 pub mod Scans
+pub mod SiteWords
 pub mod JsonObjects
 pub mod KnownRefusals
 pub mod ExpectedScans

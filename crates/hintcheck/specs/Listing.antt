@@ -37,14 +37,21 @@ program_in d name.Font = Some d.fpgm
 program_in d name.Cvt = Some d.prep
 program_in d (name.Glyph id) = option_map (λ g. g.program) (slice_get d.glyphs id)
 
+-- The word is the name of this program: as programs are printed; or that of the table that holds the
+-- font program or the CVT program. (OpenType specification, `fpgm` and `prep`.)
+pub data IsNameOf (word : List ℕ) : Name → Type 0 where
+  printed : (called : Name) → word ≡ text_of called → IsNameOf word called
+  font_table : word ≡ codes "fpgm" → IsNameOf word name.Font
+  cvt_table : word ≡ codes "prep" → IsNameOf word name.Cvt
+
 -- the word is the name of no program, whichever font has it
 abbrev pub IsNoName : List ℕ → Type 0
-IsNoName word = (called : Name) → IsOf16Bits called → word ≢ text_of called
+IsNoName word = (called : Name) → IsOf16Bits called → IsNameOf word called → ⊥
 
--- The word calls the program of this name in the font in these bytes: it is that name; or it is the
+-- The word calls the program of this name in the font in these bytes: it is a name of it; or it is the
 -- name of no program, and the program is that of the first glyph that has it as its name.
 pub data Calls (bytes word : List ℕ) (called : Name) : Type 0 where
-  by_name : word ≡ text_of called → Calls bytes word called
+  by_name : IsNameOf word called → Calls bytes word called
   by_glyph_name : (id : ℕ) → called ≡ name.Glyph id → IsNoName word
       → IsFirstNamed (post_of bytes) word id → Calls bytes word called
 

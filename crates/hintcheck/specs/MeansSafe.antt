@@ -1,5 +1,5 @@
 -- What the exit statuses 0 and 1 mean: what was asked for is safe, or refused.
-use Rattle.std.specs.Prelude.{◌≡◌, ◌↔◌, ◌+◌, ◌≤◌, ◌<◌, ℕ, All, Contains, List, [], None, Option, Some, length, true, unwrap_or}
+use Rattle.std.specs.Prelude.{◌≡◌, ◌↔◌, ◌⊎◌, ◌+◌, ◌≤◌, ◌<◌, ℕ, All, Contains, List, [], None, Option, Some, length, true, unwrap_or}
 use Rattle.tt_code.specs.declared.reason.ReasonClass.TheVariants.{PossibleFault}
 use Rattle.tt_font.specs.Reading.{FontData, GlyphData, Reads}
 use Rattle.hintcheck_words.specs.HexWords.{Spells}
@@ -24,6 +24,7 @@ use Rattle.hintcheck.specs.SymbolicExplanations.{HoldSymbolicAcceptedProgram, Ho
 use Rattle.hintcheck.specs.SymbolicAnswers.{SpellGlyph, SpellSymbolicSafeGlyph, SpellSymbolicVerdict}
 use Rattle.hintcheck_fonts.specs.FontAnswers.{HoldRefusedFont, HoldSafeFont, HoldSymbolicRefusedFont, HoldSymbolicSafeFont, IsSymbolicVerdictOn, IsVerdictOn}
 use Rattle.hintcheck_fonts.specs.Verdicts.{Judgement}
+use Rattle.hintcheck_report.specs.ReasonNumbers.{IsReasonWord}
 use Rattle.hintcheck_report.specs.declared.refused.Refused.{Refused}
 
 -- The words spell a `maxp` table and a glyph program, which is safe in a font of only this glyph.
@@ -109,17 +110,17 @@ IsSafeScan options fonts (Some file) = HoldOnlyKnownFonts options fonts
 -- has, so that these can't be named here. For `scan` this holds for each of the names; where it
 -- fails for possible faults alone, no more than that the verdict on each has none of them; where it
 -- names a file of known refusals, that the verdict on each refuses no others. For `explain`, some
--- bytes hold a font whose program of this name is accepted; without a name, a safe font. A listing
--- and an upgrade tell nothing of safety.
+-- bytes hold a font whose program of this name is accepted; without a name, a safe font, unless the
+-- font's word is the number of a reason. A listing and an upgrade tell nothing of safety.
 abbrev pub IsSafeRequest : Request → Type 0
 IsSafeRequest (bare maxp cvt points contours program budget profile) =
     SpellSafeBy profile maxp cvt points contours (unwrap_or program [])
 IsSafeRequest (verdict font budget profile) = (bytes : List ℕ) × HoldSafeBy profile bytes
 IsSafeRequest (scan fonts options expected) = IsSafeScan options fonts expected
-IsSafeRequest (explain font None offset budget profile format) =
-    (bytes : List ℕ) × HoldSafeBy profile bytes
-IsSafeRequest (explain font (Some program) offset budget profile format) =
-    (bytes : List ℕ) × HoldAcceptedBy profile bytes program
+IsSafeRequest (explain font None place options) =
+    IsReasonWord font ⊎ ((bytes : List ℕ) × HoldSafeBy options.profile bytes)
+IsSafeRequest (explain font (Some program) place options) =
+    (bytes : List ℕ) × HoldAcceptedBy options.profile bytes program
 IsSafeRequest (find font certificate budget) = (bytes : List ℕ) × HoldSafeFont bytes
 IsSafeRequest (check font certificate budget) = (bytes : List ℕ) × HoldSafeFont bytes
 IsSafeRequest (list font program detail) = Unit {0}
@@ -222,7 +223,7 @@ IsVerdictAsked (find font certificate budget) judgement =
 IsVerdictAsked (check font certificate budget) judgement =
     (bytes : List ℕ) × IsCheckOn bytes judgement
 IsVerdictAsked (scan fonts options expected) judgement = ⊥
-IsVerdictAsked (explain font program offset budget profile format) judgement = ⊥
+IsVerdictAsked (explain font program place options) judgement = ⊥
 IsVerdictAsked (list font program detail) judgement = ⊥
 IsVerdictAsked (upgrade old new) judgement = ⊥
 
@@ -266,10 +267,10 @@ IsRefusedRequest (bare maxp cvt points contours program budget profile) =
     SpellRefusedBy profile maxp cvt points contours (unwrap_or program [])
 IsRefusedRequest (verdict font budget profile) = (bytes : List ℕ) × HoldRefusedBy profile bytes
 IsRefusedRequest (scan fonts options expected) = IsRefusedScan options fonts expected
-IsRefusedRequest (explain font None offset budget profile format) =
-    (bytes : List ℕ) × HoldRefusedBy profile bytes
-IsRefusedRequest (explain font (Some program) offset budget profile format) =
-    (bytes : List ℕ) × HoldUnacceptedBy profile bytes program
+IsRefusedRequest (explain font None place options) =
+    (bytes : List ℕ) × HoldRefusedBy options.profile bytes
+IsRefusedRequest (explain font (Some program) place options) =
+    (bytes : List ℕ) × HoldUnacceptedBy options.profile bytes program
 IsRefusedRequest (find font certificate budget) = (bytes : List ℕ) × HoldRefusedFont bytes
 IsRefusedRequest (check font certificate budget) = (bytes : List ℕ) × HoldFont bytes
 IsRefusedRequest (list font program detail) = (bytes : List ℕ) × HoldUnlistedProgram bytes program

@@ -4,8 +4,9 @@ use Rattle.std.specs.Prelude.{◌≡◌, ◌<◌, codes, IfSome, List, [], ◌++
 use Rattle.std.specs.Fmt.{decimal}
 use Rattle.tt_code.specs.Table.{name_of}
 use Rattle.tt_font.specs.Reading.{FontData, Reads}
-use Rattle.hintcheck.specs.Explanations.{BeginsInstruction, HasPlace}
+use Rattle.hintcheck.specs.Explanations.{BeginsInstruction, HasSite, bytes_at}
 use Rattle.hintcheck.specs.Listing.{Names}
+use Rattle.tt_symbolic_check.specs.declared.refusal.Site.{Site}
 use Rattle.hintcheck.specs.declared.commands.faults.CommandFault.{CommandFault}
 use Rattle.hintcheck.specs.declared.commands.faults.CommandFault.TheVariants as fault
 use Rattle.hintcheck.specs.declared.neighbours.Neighbour.{Neighbour}
@@ -46,25 +47,27 @@ AreAround program offset (around.Behind before) =
     IsLastBefore program offset before × NoneAfter program offset
 AreAround program offset around.Nowhere = (k : ℕ) → BeginsInstruction program k → ⊥
 
--- An offset is asked for at which no instruction of the program begins, and these are around it.
-pub record LacksPlace (program : List ℕ) (offset : Option ℕ) (told : Neighbours) : Type 0 where
-  pub none : HasPlace program offset → ⊥
-  pub told_of : IfSome offset (λ at. AreAround program at told)
+-- A site is asked for at which no instruction begins, and these are around it, where the font's
+-- program of these bytes is explained.
+pub record LacksSite (d : FontData) (program : List ℕ) (site : Option Site) (told : Neighbours)
+    : Type 0 where
+  pub none : HasSite d program site → ⊥
+  pub told_of : IfSome site (λ at. AreAround (bytes_at d program at.spot) at.offset told)
 
--- The bytes hold a font, and the word is the name of a program of it; an offset is asked for at
--- which none of its instructions begins, and these are around it.
-pub record HoldNoSuchPlace (bytes word : List ℕ) (offset : Option ℕ)
-    (told : Neighbours) : Type 0 where
+-- The bytes hold a font, and the word is the name of a program of it; a site is asked for at which no
+-- instruction begins, and these are around it.
+pub record HoldNoSuchPlace (bytes word : List ℕ) (site : Option Site) (told : Neighbours)
+    : Type 0 where
   pub font : FontData
   pub reads : Reads bytes font
   pub program : List ℕ
   pub named : Names bytes word font program
-  pub lacks : LacksPlace program offset told
+  pub lacks : LacksSite font program site told
 
--- why an offset can't be asked for in a program
-abbrev pub IsFaultOfOffset : List ℕ → Option ℕ → CommandFault → Type 0
-IsFaultOfOffset program offset (fault.OffsetWord told) = LacksPlace program offset told
-IsFaultOfOffset program offset other = ⊥
+-- why a site can't be asked for, where the font's program of these bytes is explained
+abbrev pub IsFaultOfSite : FontData → List ℕ → Option Site → CommandFault → Type 0
+IsFaultOfSite d program site (fault.OffsetWord told) = LacksSite d program site told
+IsFaultOfSite d program site other = ⊥
 
 -- the name of a code, `?` where it has none
 unfoldable pub code_name : ℕ → List ℕ

@@ -1,8 +1,12 @@
 -- What is printed for what the words of a command line ask for.
-use Rattle.std.specs.Prelude.{◌≡◌, ◌≢◌, ℕ, List, [], None, Option, Some}
+use Rattle.std.specs.Prelude.{◌≡◌, ◌≢◌, ◌⊎◌, ℕ, List, [], None, Option, Some}
+use Rattle.std.specs.Fmt.{decimal}
 use Rattle.std.specs.Io.KnownBytes.{Appends}
+use Rattle.tt_code.specs.Refusals.{number_of}
+use Rattle.tt_code.specs.declared.reason.Reason.{Reason}
 use Rattle.hintcheck_words.specs.Requests.{Request, bare, check, explain, find, list, meaning, scan, upgrade, verdict}
 use Rattle.hintcheck_words.specs.declared.words.Detail.{Detail}
+use Rattle.hintcheck_words.specs.declared.words.ExplainOptions.{ExplainOptions}
 use Rattle.hintcheck_words.specs.declared.words.Format.{Format}
 use Rattle.hintcheck_words.specs.declared.words.Format.TheVariants.{Json}
 use Rattle.hintcheck_words.specs.declared.words.Profile.{Profile}
@@ -17,8 +21,11 @@ use Rattle.hintcheck.specs.Explanations.{status_of_explained}
 use Rattle.hintcheck.specs.JsonObjects.{explanation_object, unread_object}
 use Rattle.hintcheck.specs.Listing.{HoldListedProgram, HoldToldProgram}
 use Rattle.hintcheck.specs.MeansSafe.{HoldExplainedBy, IsVerdictAsked}
+use Rattle.hintcheck.specs.SiteWords.{AskForSite}
+use Rattle.tt_symbolic_check.specs.declared.refusal.Site.{Site}
 use Rattle.hintcheck.specs.Scans.{IsOfScan}
 use Rattle.hintcheck.specs.Texts.{upgraded_line, verdict_text}
+use Rattle.hintcheck_explain.specs.Texts.{WritesFirst, reason_line}
 use Rattle.hintcheck_explain.specs.declared.asked.Explained.{Explained}
 use Rattle.hintcheck_fonts.specs.Upgrades.{IsNumberOfPrograms}
 use Rattle.hintcheck_fonts.specs.Verdicts.{Judgement}
@@ -29,7 +36,7 @@ abbrev pub profile_of : Request → Profile
 profile_of (bare maxp cvt points contours program budget profile) = profile
 profile_of (verdict font budget profile) = profile
 profile_of (scan fonts options expected) = options.profile
-profile_of (explain font program offset budget profile format) = profile
+profile_of (explain font program place options) = options.profile
 profile_of other = Strict
 
 -- The lines of the verdict that is asked for were written, where the written bytes are known: of
@@ -58,24 +65,32 @@ PrintsUpgrade old new =
 -- status: some bytes hold a font, and the word is the name of a program of it, of which the object
 -- tells what is answered by this profile; or it tells why the font file's program isn't explained.
 -- The lines in it are left unspecified.
-pub data PrintsExplanation (font word : List ℕ) (offset budget : Option ℕ) (profile : Profile)
+pub data PrintsExplanation (font word : List ℕ) (site : Option Site) (options : ExplainOptions)
     : ℕ → Option (List ℕ) → Option (List ℕ) → Type 0 where
   explained : (bytes text : List ℕ) (e : Explained) (old new : Option (List ℕ))
-      → HoldExplainedBy profile bytes word e
+      → HoldExplainedBy options.profile bytes word e
       → Appends old new
-      (explanation_object font profile word (called_of (post_of bytes) e) e text)
-      → PrintsExplanation font word offset budget profile (status_of_explained e) old new
+      (explanation_object font options.profile word (called_of (post_of bytes) e) e text)
+      → PrintsExplanation font word site options (status_of_explained e) old new
   unexplained : (reported : CommandFault) (old new : Option (List ℕ))
-      → IsUnexplained word offset budget reported
-      → Appends old new (unread_object font profile reported)
-      → PrintsExplanation font word offset budget profile (status_of reported) old new
+      → IsUnexplained word site options.budget reported
+      → Appends old new (unread_object font options.profile reported)
+      → PrintsExplanation font word site options (status_of reported) old new
 
 -- an explanation in this form was written; lines are left unspecified
-abbrev pub PrintsExplanationAs : Format → List ℕ → List ℕ → Option ℕ → Option ℕ → Profile → ℕ
+abbrev pub PrintsExplanationAs : Format → List ℕ → List ℕ → Option Site → ExplainOptions → ℕ
     → Option (List ℕ) → Option (List ℕ) → Type 0
-PrintsExplanationAs Json font word offset budget profile status old new =
-    PrintsExplanation font word offset budget profile status old new
-PrintsExplanationAs other font word offset budget profile status old new = Unit {0}
+PrintsExplanationAs Json font word site options status old new =
+    PrintsExplanation font word site options status old new
+PrintsExplanationAs other font word site options status old new = Unit {0}
+
+-- What a reason means was written, its number and its text first, where the written bytes are known:
+-- that of the reason whose number the word is. The status is 0.
+pub record PrintsReason (word : List ℕ) (status : ℕ) (old new : Option (List ℕ)) : Type 0 where
+  pub reason : Reason
+  pub number : word ≡ decimal (number_of reason)
+  pub told : status ≡ 0
+  pub written : WritesFirst (reason_line reason) old new
 
 -- What was asked for is answered in these lines; those that explain one program are left
 -- unspecified, beside the object in which they may be.
@@ -86,10 +101,11 @@ Prints (verdict font budget profile) status old new =
     PrintsVerdict (verdict font budget profile) status old new
 Prints (scan fonts options expected) status old new =
     PrintsScanning options fonts expected status old new
-Prints (explain font None offset budget profile format) status old new =
-    PrintsCauses profile status old new
-Prints (explain font (Some program) offset budget profile format) status old new =
-    PrintsExplanationAs format font program offset budget profile status old new
+Prints (explain font None place options) status old new =
+    PrintsReason font status old new ⊎ PrintsCauses options.profile status old new
+Prints (explain font (Some program) place options) status old new =
+    (site : Option Site) × AskForSite place site
+    × PrintsExplanationAs options.format font program site options status old new
 Prints (find font certificate budget) status old new =
     PrintsVerdict (find font certificate budget) status old new
 Prints (check font certificate budget) status old new =

@@ -16,6 +16,7 @@ mod expectation;
 mod explain_font;
 mod explain_lines;
 mod explain_object;
+mod explain_reason;
 mod explain_task;
 pub mod faults;
 mod files;
@@ -30,14 +31,17 @@ mod upgrade_task;
 mod verdict_lines;
 mod verdict_task;
 
+use crate::asked_site::asked_site;
 use bare_task::{BareWords, bare_verdict, word_or_empty};
 use check_task::check_verdict;
 use explain_font::explain_of_font;
+use explain_lines::ExplainRequest;
+use explain_reason::{reason_called, tell_reason};
 use explain_task::explain_of_file;
 use faults::CommandFault;
 use find_task::find_verdict;
 use hintcheck_fonts::report::Verdict;
-use hintcheck_words::{Format, Profile, Task, TaskFault, read_words};
+use hintcheck_words::{ExplainOptions, Profile, Task, TaskFault, read_words};
 use list_task::list_of_file;
 use scan_task::scan_fonts;
 use std::alloc::AllocError;
@@ -61,9 +65,8 @@ fn profile_of_task(task: &Task) -> Profile
     ensures { result ≡ profile_of (asked task.now) }
 {
     match task {
-        Task::Bare { profile, .. }
-        | Task::Verdict { profile, .. }
-        | Task::Explain { profile, .. } => *profile,
+        Task::Bare { profile, .. } | Task::Verdict { profile, .. } => *profile,
+        Task::Explain { options, .. } => options.profile,
         Task::Scan { options, .. } => options.profile,
         Task::Find { .. } | Task::Check { .. } | Task::List { .. } | Task::Upgrade { .. } =>
             Profile::Strict,
@@ -121,39 +124,52 @@ fn verdict_on<R: Files + AllocGlobal>(rt: &R, task: &Task) -> Result<Verdict, Co
     }
 }
 
-/// Explains by a profile the program of the font file with the first name that the second one names,
-/// in this form, or without it why the font's programs are refused, and returns the exit status.
+/// Explains the program of the font file with the first name that the second one names, at the site
+/// that the third one asks for. Without a program it tells what the reason means whose number the
+/// first name is, or why the font's programs are refused. Returns the exit status.
 fn tell_explanation<R: Files + AllocGlobal, O: Sink>(
     rt: &R,
     font: &str,
     program: &Option<String>,
-    offset: Option<u32>,
-    budget: Option<u64>,
-    profile: Profile,
-    format: Format,
+    place: &Option<String>,
+    options: ExplainOptions,
     out: &mut O,
 ) -> Result<u8, CommandFault>
     ensures status { IfOk result (λ status. status ≤ 1) }
     ensures safe { IfOk result (λ status. status ≡ 0 → IsSafeRequest (explain font.now
-        (option_map (λ s. string_bytes s) program.now) offset budget profile format)) }
+        (option_map (λ s. string_bytes s) program.now)
+        (option_map (λ s. string_bytes s) place.now) options)) }
     ensures refused { IfOk result (λ status. status ≡ 1 → IsRefusedRequest (explain font.now
-        (option_map (λ s. string_bytes s) program.now) offset budget profile format)) }
+        (option_map (λ s. string_bytes s) program.now)
+        (option_map (λ s. string_bytes s) place.now) options)) }
     ensures printed { IfOk result (λ status. Prints (explain font.now
-        (option_map (λ s. string_bytes s) program.now) offset budget profile format)
+        (option_map (λ s. string_bytes s) program.now)
+        (option_map (λ s. string_bytes s) place.now) options)
         status (O.contents out.old) (O.contents out.new)) }
     ensures scanned { IfErr result (λ fault. IsOfScan fault → Prints (explain font.now
-        (option_map (λ s. string_bytes s) program.now) offset budget profile format)
+        (option_map (λ s. string_bytes s) program.now)
+        (option_map (λ s. string_bytes s) place.now) options)
         (status_of fault) (O.contents out.old) (O.contents out.new)) }
     ensures failures { TellsFailure result (O.failures out.old) (O.failures out.new) }
     ensures faults { IfErr result (IsFaultOfTask (explain font.now
-        (option_map (λ s. string_bytes s) program.now) offset budget profile format)) }
+        (option_map (λ s. string_bytes s) program.now)
+        (option_map (λ s. string_bytes s) place.now) options)) }
     ensures none { OnOk result (HasNoFault (explain font.now
-        (option_map (λ s. string_bytes s) program.now) offset budget profile format)) }
+        (option_map (λ s. string_bytes s) program.now)
+        (option_map (λ s. string_bytes s) place.now) options)) }
 {
-    match program {
-        None => explain_of_font(rt, font, budget, profile, out),
-        Some(word) => explain_of_file(rt, font, word, offset, budget, profile, format, out),
-    }
+    let Some(word) = program else {
+        return match reason_called(font) {
+            Some(reason) => tell_reason(reason, out),
+            None => explain_of_font(rt, font, options.budget, options.profile, out),
+        };
+    };
+    let request = ExplainRequest {
+        word,
+        site: asked_site(place)?,
+        options,
+    };
+    explain_of_file(rt, font, request, out)
 }
 
 /// Does the task, prints the answer to `out`, and what counts the fonts of a scan to `err`; returns
@@ -185,11 +201,9 @@ fn do_task<R: Files + AllocGlobal, O: Sink, E: Sink>(
         Task::Explain {
             font,
             program,
-            offset,
-            budget,
-            profile,
-            format,
-        } => tell_explanation(rt, font, program, *offset, *budget, *profile, *format, out),
+            place,
+            options,
+        } => tell_explanation(rt, font, program, place, *options, out),
         Task::List {
             font,
             program,
@@ -208,8 +222,8 @@ fn do_task<R: Files + AllocGlobal, O: Sink, E: Sink>(
 /// # Errors
 /// `Write` exactly where a write to `out` failed; `Usage` for words that the command line doesn't
 /// take; `MaxpWord` and `ProgramWord` for a word that spells no bytes; `ProgramName` for one that
-/// names no program of the font; `OffsetWord` for an offset at which none of the program's
-/// instructions begins; `ClassWord` where a scan is to fail for reasons of a class that doesn't
+/// names no program of the font; `NoOffset` for one that spells no offset, and `OffsetWord` for an
+/// offset at which no instruction begins; `ClassWord` where a scan is to fail for reasons of a class that doesn't
 /// exist; `ExpectedWord` and `FontWord` where a font can't be in a scan with its file of known
 /// refusals, and `KnownLine` for the first line of that file that names none; `ScanFault` and
 /// `ScanUnfinished` where a font of a scan has a fault, which its line tells, or one of which a

@@ -4,10 +4,9 @@ ghost use Rattle.std.specs.Prelude.{◌≡◌, ◌≤◌, IfErr, IfOk, IfSome, N
 ghost use Rattle.tt_abs.specs.Entries.{Ascends};
 ghost use Rattle.tt_abs.specs.Settings.{setting_of};
 ghost use Rattle.tt_abs.specs.StateFlow.{FunctionsFit};
-ghost use Rattle.hintcheck_explain.specs.Faults.{AsksForInstruction};
 ghost use Rattle.hintcheck.specs.Commands.{TellsFailure};
 ghost use Rattle.hintcheck.specs.CommandFaults.{IsEndOfWork, IsFaultOfExplaining, IsFaultOfExplanation, IsFaultOfLines, IsWithin};
-ghost use Rattle.hintcheck.specs.Explanations.{HasPlace, HasPlaceIn, HoldAcceptedProgram, HoldExplained, HoldPlace, HoldRefusedProgram, IsAnswered, IsRefusedIn, IsReportOf, TellsProgram, status_of_explained};
+ghost use Rattle.hintcheck.specs.Explanations.{HoldAcceptedProgram, HoldExplained, HoldPlace, HoldRefusedProgram, IsAnswered, IsRefusedIn, IsReportOf, TellsProgram, status_of_explained};
 ghost use Rattle.hintcheck_fonts.specs.FontPrograms.{IsFontInRange};
 ghost use Rattle.hintcheck.specs.Listing.{program_in};
 ghost use Rattle.hintcheck_fonts.specs.ProgramVerdicts.{IsSubjectOf};
@@ -17,11 +16,11 @@ ghost use Rattle.hintcheck_fonts.specs.declared.session.Outcome.{Outcome as AnyO
 ghost use Rattle.hintcheck_fonts.specs.Representation.ProgramOrder.{IsNext, next_program, stage_of, start_at, with_start};
 ghost use Rattle.hintcheck_fonts.specs.Representation.SessionStages.{IsAt, KeepsKnown};
 
-use crate::asked_offset::check_offset;
+use crate::asked_site::check_site;
 use crate::commands::faults::CommandFault;
 use crate::font_file::font_in;
 use crate::instruction_list::named_program;
-use hintcheck_explain::{Asked, Explained, explain, explain_unread};
+use hintcheck_explain::{Asked, Explained, Site, explain, explain_unread};
 use hintcheck_fonts::finding::Finding;
 use hintcheck_fonts::program::{Search, cut};
 use hintcheck_fonts::programs::{FontPrograms, Next, Programs};
@@ -43,7 +42,6 @@ fn explain_in<O: Sink>(
 ) -> Result<Explained, CommandFault>
     requires ascends { Ascends setting.now.start.now }
     requires fits { FunctionsFit (setting_of setting.now) setting.now.start.now }
-    requires place { AsksForInstruction setting.now asked }
     ensures answered { (x : Subject) → IsSubjectOf x setting.now → x.name ≡ asked.program
         → IfOk result (IsAnswered x) }
     ensures failures { TellsFailure result (O.failures out.old) (O.failures out.new) }
@@ -85,13 +83,12 @@ fn tell_next<O: Sink>(
     alloc: Global,
     programs: &FontPrograms<'_>,
     next: Next<'_>,
-    offset: Option<u32>,
+    site: Option<Site>,
     budget: &mut Budget,
     out: &mut O,
 ) -> Result<Explained, CommandFault>
     requires next { IsNext programs.now.font.now (stage_of programs.now) next }
     requires known { KeepsKnown programs.now.font.now (stage_of programs.now) }
-    requires place { HasPlace next.bytes.now offset }
     ensures answered { (x : Subject)
         → next_program programs.now.font.now (stage_of programs.now) ≡ Some x → IfOk result
         (IsAnswered (with_start x (start_at (stage_of programs.now)))) }
@@ -100,7 +97,7 @@ fn tell_next<O: Sink>(
 {
     let asked = Asked {
         program: next.name,
-        offset,
+        site,
     };
     match cut(alloc, next.bytes) {
         Ok(program) => {
@@ -200,14 +197,13 @@ fn explain_judged<'a, O: Sink>(
     programs: &mut FontPrograms<'a>,
     judge: &mut Finding,
     called: Name,
-    offset: Option<u32>,
+    site: Option<Site>,
     budget: &mut Budget,
     out: &mut O,
 ) -> Result<Explained, CommandFault>
     requires range { IsFontInRange programs.old.font.now }
     requires start { stage_of programs.old ≡ at_start }
     requires there { is_some (program_in programs.old.font.now called) ≡ true }
-    requires place { HasPlaceIn programs.old.font.now called offset }
     ensures tells { IfOk result (TellsProgram programs.old.font.now called) }
     ensures failures { TellsFailure result (O.failures out.old) (O.failures out.new) }
     ensures faults { IfErr result IsFaultOfExplanation }
@@ -216,7 +212,7 @@ fn explain_judged<'a, O: Sink>(
         return tell_unchecked(refused, out);
     }
     let next = programs.next().unwrap();
-    tell_next(alloc, programs, next, offset, budget, out)
+    tell_next(alloc, programs, next, site, budget, out)
 }
 
 /// Explains the font's program of this name, and returns whether it is accepted.
@@ -224,28 +220,19 @@ fn explain_named<O: Sink>(
     alloc: Global,
     font: &Font<'_>,
     called: Name,
-    offset: Option<u32>,
+    site: Option<Site>,
     budget: &mut Budget,
     out: &mut O,
 ) -> Result<Explained, CommandFault>
     requires range { IsFontInRange font.now }
     requires there { is_some (program_in font.now called) ≡ true }
-    requires place { HasPlaceIn font.now called offset }
     ensures tells { IfOk result (TellsProgram font.now called) }
     ensures failures { TellsFailure result (O.failures out.old) (O.failures out.new) }
     ensures faults { IfErr result IsFaultOfExplanation }
 {
     let mut programs = Programs::new(font);
     let mut judge = Finding::new(alloc, Search::Verdict);
-    explain_judged(
-        alloc,
-        &mut programs,
-        &mut judge,
-        called,
-        offset,
-        budget,
-        out,
-    )
+    explain_judged(alloc, &mut programs, &mut judge, called, site, budget, out)
 }
 
 /// Explains one program of the font in these bytes, the one that the word names, as
@@ -254,20 +241,20 @@ pub(crate) fn explain_word<O: Sink>(
     alloc: Global,
     font: &[u8],
     word: &str,
-    offset: Option<u32>,
+    site: Option<Site>,
     budget: &mut Budget,
     out: &mut O,
 ) -> Result<Explained, CommandFault>
     ensures answered { IfOk result (HoldExplained font.now word.now) }
     ensures failures { TellsFailure result (O.failures out.old) (O.failures out.new) }
-    ensures faults { IfErr result (IsFaultOfExplaining font.now word.now offset) }
-    ensures none { OnOk result (HoldPlace font.now word.now offset) }
+    ensures faults { IfErr result (IsFaultOfExplaining font.now word.now site) }
+    ensures none { OnOk result (HoldPlace font.now word.now site) }
 {
     let read = font_in(alloc, font)?;
     match named_program(alloc, font, &read, word)? {
         Some(named) => {
-            check_offset(named.bytes, offset)?;
-            explain_named(alloc, &read, named.name, offset, budget, out)
+            check_site(&read, named.bytes, site)?;
+            explain_named(alloc, &read, named.name, site, budget, out)
         }
         None => Err(CommandFault::ProgramName),
     }
@@ -282,42 +269,43 @@ pub(crate) fn explained_program<O: Sink>(
     alloc: Global,
     font: &[u8],
     word: &str,
-    offset: Option<u32>,
+    site: Option<Site>,
     budget: Option<u64>,
     out: &mut O,
 ) -> Result<Explained, CommandFault>
     ensures answered { IfOk result (HoldExplained font.now word.now) }
     ensures failures { TellsFailure result (O.failures out.old) (O.failures out.new) }
     ensures faults { IfErr result
-        (λ fault. IsFaultOfExplaining font.now word.now offset fault × IsWithin budget fault) }
-    ensures none { OnOk result (HoldPlace font.now word.now offset) }
+        (λ fault. IsFaultOfExplaining font.now word.now site fault × IsWithin budget fault) }
+    ensures none { OnOk result (HoldPlace font.now word.now site) }
 {
     let Some(most) = budget else {
-        return match explain_word(alloc, font, word, offset, &mut Budget::unlimited(), out) {
+        return match explain_word(alloc, font, word, site, &mut Budget::unlimited(), out) {
             // No program has so many points.
             Err(CommandFault::Budget) => Err(CommandFault::OutOfMemory),
             explained => explained,
         };
     };
-    explain_word(alloc, font, word, offset, &mut Budget::of(most), out)
+    explain_word(alloc, font, word, site, &mut Budget::of(most), out)
 }
 
 /// Explains one program of the font in these bytes, the one that the word names, and returns the
 /// exit status: 0 accepted; 1 where it is refused, or isn't checked since the font program or the
-/// CVT program is refused. With an offset the explanation tells what is known there. At most this
-/// many points are made, where they are bounded: also for the programs before the named one, and for
-/// the searches with greater limits by which a refused one is explained.
+/// CVT program is refused. With a site the explanation tells what is known there: at an instruction
+/// of the program, or of the font program or the CVT program where this program calls a function
+/// that one defines. At most this many points are made, where they are bounded: also for the programs
+/// before the named one, and for the searches with greater limits by which a refused one is explained.
 ///
 /// # Errors
 /// The faults of `Font::read`; `ProgramName` where the word is the name of none of the font's
-/// programs; `OffsetWord` where no instruction of the program begins at the offset, whether or not
-/// the program is checked; `Write` exactly where a write to `out` failed; `OutOfMemory`; `Budget`,
+/// programs; `OffsetWord` where no instruction begins at the site, whether or not the program is
+/// checked or comes there; `Write` exactly where a write to `out` failed; `OutOfMemory`; `Budget`,
 /// where points are bounded and more were to be made.
 pub fn explain_program<O: Sink>(
     alloc: Global,
     font: &[u8],
     word: &str,
-    offset: Option<u32>,
+    site: Option<Site>,
     budget: Option<u64>,
     out: &mut O,
 ) -> Result<u8, CommandFault>
@@ -327,9 +315,9 @@ pub fn explain_program<O: Sink>(
     ensures refused { IfOk result (λ status. status ≡ 1 → HoldRefusedProgram font.now word.now) }
     ensures failures { TellsFailure result (O.failures out.old) (O.failures out.new) }
     ensures faults { IfErr result
-        (λ fault. IsFaultOfExplaining font.now word.now offset fault × IsWithin budget fault) }
-    ensures none { OnOk result (HoldPlace font.now word.now offset) }
+        (λ fault. IsFaultOfExplaining font.now word.now site fault × IsWithin budget fault) }
+    ensures none { OnOk result (HoldPlace font.now word.now site) }
 {
-    let explained = explained_program(alloc, font, word, offset, budget, out)?;
+    let explained = explained_program(alloc, font, word, site, budget, out)?;
     Ok(exit_status(explained))
 }

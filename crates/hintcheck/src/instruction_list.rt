@@ -8,7 +8,7 @@ ghost use Rattle.tt_code.specs.Cut.{IsInstruction};
 ghost use Rattle.tt_stream.specs.Streams.{CountsPrintFailure};
 ghost use Rattle.hintcheck.specs.CommandFaults.{IsFaultOfLines, IsFaultOfListing};
 ghost use Rattle.hintcheck.specs.Commands.{TellsFailure};
-ghost use Rattle.hintcheck.specs.Listing.{Calls, CannotBeListed, HoldListedProgram, HoldNoSuchProgram, HoldToldProgram, HoldUnlistedProgram, IsListed, IsOf16Bits, IsPlain, Names, TellsUnlisted, last_line, line_of, lines_of, program_in, refused_in, shown_name};
+ghost use Rattle.hintcheck.specs.Listing.{Calls, CannotBeListed, HoldListedProgram, HoldNoSuchProgram, HoldToldProgram, HoldUnlistedProgram, IsListed, IsNameOf, IsOf16Bits, IsPlain, Names, TellsUnlisted, last_line, line_of, lines_of, program_in, refused_in, shown_name};
 ghost use Rattle.tt_cert.specs.Names.{text_of};
 
 use crate::commands::faults::CommandFault;
@@ -42,18 +42,28 @@ fn is_plain(text: &[u8]) -> bool
     }
 }
 
-/// Returns the number of 16 bits that the text spells in decimal digits, with no sign and no
+/// Returns the number of 32 bits that the text spells in decimal digits, with no sign and no
 /// needless zero in front, if it spells one.
+pub(crate) fn read_decimal(text: &str) -> Option<u32>
+    ensures read { IfSome result (λ number. text.now ≡ decimal number) }
+    ensures range { IfSome result (λ number. number < 2 ^ 32) }
+    ensures each { (number : ℕ) → number < 2 ^ 32 → text.now ≡ decimal number
+        → result ≡ Some number }
+{
+    if !is_plain(text.as_bytes()) {
+        return None;
+    }
+    text.parse::<u32>().ok()
+}
+
+/// Returns the number of 16 bits that the text spells likewise, if it spells one.
 pub(crate) fn read_number(text: &str) -> Option<u16>
     ensures read { IfSome result (λ number. text.now ≡ decimal number) }
     ensures range { IfSome result (λ number. number < 2 ^ 16) }
     ensures each { (number : ℕ) → number < 2 ^ 16 → text.now ≡ decimal number
         → result ≡ Some number }
 {
-    if !is_plain(text.as_bytes()) {
-        return None;
-    }
-    text.parse::<u16>().ok()
+    u16::try_from(read_decimal(text)?).ok()
 }
 
 /// Returns the program's name that the word spells, as names are printed, if it spells one.
@@ -66,6 +76,21 @@ pub(crate) fn read_name(word: &str) -> Option<Name>
         "f" => Some(Name::Font),
         "p" => Some(Name::Cvt),
         _ => Some(Name::Glyph(read_number(word.strip_prefix("g")?)?)),
+    }
+}
+
+/// Returns the program that the word names, as names are printed or by the table that holds it, if it
+/// names one.
+fn named_by(word: &str) -> Option<Name>
+    ensures read { IfSome result (IsNameOf word.now) }
+    ensures range { IfSome result IsOf16Bits }
+    ensures each { (name : Name) → IsOf16Bits name → IsNameOf word.now name
+        → result ≡ Some name }
+{
+    match word {
+        "fpgm" => Some(Name::Font),
+        "prep" => Some(Name::Cvt),
+        _ => read_name(word),
     }
 }
 
@@ -94,7 +119,7 @@ fn meant_program(alloc: Global, bytes: &[u8], word: &str) -> Result<Option<Name>
     ensures each { IfOk result (λ meant. (called : Name) → IsOf16Bits called
         → Calls bytes.now word.now called → meant ≡ Some called) }
 {
-    if let Some(name) = read_name(word) {
+    if let Some(name) = named_by(word) {
         return Ok(Some(name));
     }
     let names = GlyphNames::of(alloc, bytes)?;

@@ -2,7 +2,7 @@
 //! bytes, what a program says and why it is refused, and the command.
 #![tactic(auto)]
 
-mod asked_offset;
+mod asked_site;
 mod causes;
 mod commands;
 mod explanation;
@@ -16,6 +16,7 @@ mod symbolic_explanation;
 pub use commands::faults::{CommandFault, Container, Unopened};
 pub use commands::{command, try_command, verdict_of};
 pub use explanation::explain_program;
+pub use hintcheck_explain::Site;
 pub use hintcheck_fonts::{
     CheckFontFault, FindFontFault, Name, Outcome, Place, Refused, Session, UpgradeFault, Verdict,
     VerdictFault, bare, bare_symbolic, bare_symbolic_within, bare_within, check_font,
@@ -23,8 +24,8 @@ pub use hintcheck_fonts::{
     verdict_symbolic_within, verdict_within,
 };
 pub use hintcheck_words::{
-    Detail, FailOn, Format, Profile, ScanOptions, Task, TaskFault, WordFault, read_words,
-    word_bytes,
+    Detail, ExplainOptions, FailOn, Format, Profile, ScanOptions, Task, TaskFault, WordFault,
+    read_words, word_bytes,
 };
 pub use instruction_list::list_program;
 pub use neighbours::{Neighbour, Neighbours};

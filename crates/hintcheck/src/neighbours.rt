@@ -4,7 +4,7 @@ ghost use Rattle.std.specs.Prelude.{◌≡◌, ◌<◌, ◌^◌, length, MatchOp
 ghost use Rattle.hintcheck.specs.Explanations.{BeginsInstruction};
 ghost use Rattle.hintcheck.specs.Neighbours.{AreAround, IsFirstAfter, IsInstructionOf, IsLastBefore, NoneAfter, NoneBefore, code_name};
 
-use crate::asked_offset::begins_instruction;
+use crate::asked_site::begins_instruction;
 use std::fmt;
 use tt_code::name;
 

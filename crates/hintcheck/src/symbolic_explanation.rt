@@ -7,12 +7,12 @@ ghost use Rattle.hintcheck.specs.Explanations.{HoldPlace};
 ghost use Rattle.hintcheck_fonts.specs.FontPrograms.{IsFontInRange};
 ghost use Rattle.hintcheck.specs.SymbolicExplanations.{HoldSymbolicAcceptedProgram, HoldSymbolicExplained, HoldSymbolicRefusedProgram, TellsSymbolicProgram, first_against, keeps_from as keeps_from_it};
 
-use crate::asked_offset::check_offset;
+use crate::asked_site::check_site;
 use crate::commands::faults::CommandFault;
 use crate::explanation::{exit_status, explain_uncut, tell_unchecked};
 use crate::font_file::font_in;
 use crate::instruction_list::{Named, named_program};
-use hintcheck_explain::{Asked, Explained, explain_symbolic};
+use hintcheck_explain::{Asked, Explained, Site, explain_symbolic};
 use hintcheck_fonts::bare_program::empty_program;
 use hintcheck_fonts::program::cut;
 use hintcheck_fonts::report::{Name, Refused};
@@ -149,7 +149,7 @@ fn explain_named<O: Sink>(
     alloc: Global,
     font: &Font<'_>,
     named: Named<'_>,
-    offset: Option<u32>,
+    site: Option<Site>,
     steps: u64,
     out: &mut O,
 ) -> Result<Explained, CommandFault>
@@ -161,10 +161,10 @@ fn explain_named<O: Sink>(
 {
     let asked = Asked {
         program: named.name,
-        offset,
+        site,
     };
     let mut judge = SymbolicCheck::new(alloc, steps);
-    judge.explain(named.name, Question { offset });
+    judge.explain(named.name, Question { site });
     let Ok(refused) = refused_programs(alloc, font, &mut judge) else {
         return Err(CommandFault::OutOfMemory);
     };
@@ -186,20 +186,20 @@ fn explain_word<O: Sink>(
     alloc: Global,
     font: &[u8],
     word: &str,
-    offset: Option<u32>,
+    site: Option<Site>,
     steps: u64,
     out: &mut O,
 ) -> Result<Explained, CommandFault>
     ensures answered { IfOk result (HoldSymbolicExplained font.now word.now) }
     ensures failures { TellsFailure result (O.failures out.old) (O.failures out.new) }
-    ensures faults { IfErr result (IsFaultOfExplaining font.now word.now offset) }
-    ensures none { OnOk result (HoldPlace font.now word.now offset) }
+    ensures faults { IfErr result (IsFaultOfExplaining font.now word.now site) }
+    ensures none { OnOk result (HoldPlace font.now word.now site) }
 {
     let read = font_in(alloc, font)?;
     match named_program(alloc, font, &read, word)? {
         Some(named) => {
-            check_offset(named.bytes, offset)?;
-            explain_named(alloc, &read, named, offset, steps, out)
+            check_site(&read, named.bytes, site)?;
+            explain_named(alloc, &read, named, site, steps, out)
         }
         None => Err(CommandFault::ProgramName),
     }
@@ -214,17 +214,17 @@ pub(crate) fn explained_program_symbolic<O: Sink>(
     alloc: Global,
     font: &[u8],
     word: &str,
-    offset: Option<u32>,
+    site: Option<Site>,
     steps: Option<u64>,
     out: &mut O,
 ) -> Result<Explained, CommandFault>
     ensures answered { IfOk result (HoldSymbolicExplained font.now word.now) }
     ensures failures { TellsFailure result (O.failures out.old) (O.failures out.new) }
     ensures faults { IfErr result
-        (λ fault. IsFaultOfExplaining font.now word.now offset fault × IsWithin None fault) }
-    ensures none { OnOk result (HoldPlace font.now word.now offset) }
+        (λ fault. IsFaultOfExplaining font.now word.now site fault × IsWithin None fault) }
+    ensures none { OnOk result (HoldPlace font.now word.now site) }
 {
-    match explain_word(alloc, font, word, offset, steps.unwrap_or(USUAL_STEPS), out) {
+    match explain_word(alloc, font, word, site, steps.unwrap_or(USUAL_STEPS), out) {
         // A search by steps makes no points.
         Err(CommandFault::Budget) => Err(CommandFault::OutOfMemory),
         explained => explained,
@@ -234,7 +234,7 @@ pub(crate) fn explained_program_symbolic<O: Sink>(
 /// Explains one program of the font in these bytes by the symbolic profile, the one that the word
 /// names, and returns the exit status: 0 where the verdict on the font by symbolic states refuses
 /// neither it nor one before it; 1 where it is refused, or isn't checked since the font program or
-/// the CVT program is refused. With an offset the explanation tells what the search knows there. The
+/// the CVT program is refused. With a site the explanation tells what the search knows there. The
 /// search makes at most so many steps for the font, where they are bounded, and otherwise as many as
 /// that of `verdict_symbolic`; a program for which they are too few is refused.
 ///
@@ -244,7 +244,7 @@ pub fn explain_program_symbolic<O: Sink>(
     alloc: Global,
     font: &[u8],
     word: &str,
-    offset: Option<u32>,
+    site: Option<Site>,
     steps: Option<u64>,
     out: &mut O,
 ) -> Result<u8, CommandFault>
@@ -255,9 +255,9 @@ pub fn explain_program_symbolic<O: Sink>(
         (λ status. status ≡ 1 → HoldSymbolicRefusedProgram font.now word.now) }
     ensures failures { TellsFailure result (O.failures out.old) (O.failures out.new) }
     ensures faults { IfErr result
-        (λ fault. IsFaultOfExplaining font.now word.now offset fault × IsWithin None fault) }
-    ensures none { OnOk result (HoldPlace font.now word.now offset) }
+        (λ fault. IsFaultOfExplaining font.now word.now site fault × IsWithin None fault) }
+    ensures none { OnOk result (HoldPlace font.now word.now site) }
 {
-    let explained = explained_program_symbolic(alloc, font, word, offset, steps, out)?;
+    let explained = explained_program_symbolic(alloc, font, word, site, steps, out)?;
     Ok(exit_status(explained))
 }

@@ -12,7 +12,8 @@ ghost use Rattle.hintcheck_fonts.specs.FontAnswers.{HoldRefusedFont, HoldSafeFon
 ghost use Rattle.hintcheck_fonts.specs.SymbolicVerdicts.{IsSymbolicVerdict};
 ghost use Rattle.hintcheck_c.specs.Answers.{AnswersCheck, AnswersCheckFault, AnswersFontFault, AnswersSymbolicVerdict, AnswersVerdict, IsFaultOfCheck, IsFaultOfVerdict};
 ghost use Rattle.hintcheck_c.specs.MayHint.{AnswersMayHint, AnswersMayHintSymbolic, HoldSafeGlyph, HoldSymbolicSafeGlyphs};
-ghost use Rattle.hintcheck_c.specs.ReasonTexts.{IsReasonNumber, c_string};
+ghost use Rattle.hintcheck_c.specs.ReasonTexts.{c_string};
+ghost use Rattle.hintcheck_report.specs.ReasonNumbers.{IsReasonNumber};
 ghost use Rattle.tt_font.specs.Reading.{FontData, Reads};
 
 mod answer;
@@ -26,8 +27,9 @@ use hintcheck_fonts::{
     Budget, CheckFontFault, Verdict, VerdictFault, check_font_within, verdict_symbolic_within,
     verdict_within,
 };
+use hintcheck_report::reason_of;
 use hinted::{answer_hinting, answer_no_hinting, judge_hinting, judge_hinting_symbolic};
-use reason::{TEXT_SIZE, c_string_of, reason_of};
+use reason::{TEXT_SIZE, c_string_of};
 pub use refusal::HintcheckRefusal;
 use std::alloc::Global;
 use tt_stream::Bytes;

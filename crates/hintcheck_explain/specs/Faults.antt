@@ -1,8 +1,6 @@
--- What explaining tells of failed writes, of what the search found, and of the offset that is asked
--- for.
-use Rattle.std.specs.Prelude.{◌≡◌, ◌≢◌, ℕ, IfSome, None, Result, Ok, Err}
+-- What explaining tells of failed writes, and of what the search found.
+use Rattle.std.specs.Prelude.{◌≡◌, ℕ, Result, Ok, Err}
 use Rattle.tt_abs.specs.declared.setting.Setting.{Setting as Subject}
-use Rattle.tt_code.specs.Cut.{instruction_at}
 use Rattle.tt_abs.specs.Failures.{reason_of}
 use Rattle.tt_abs.specs.declared.failed.Failed.{Failed}
 use Rattle.tt_abs.specs.declared.spot.Spot.{Spot}
@@ -13,7 +11,6 @@ use Rattle.tt_cert.specs.declared.name.Name.{Name}
 use Rattle.tt_stream.specs.Streams.{CountsPrintFailure}
 use Rattle.hintcheck_report.specs.Places.{reported_at}
 use Rattle.hintcheck_report.specs.declared.refused.Refused.{Refused}
-use Rattle.hintcheck_explain.specs.declared.asked.Asked.{Asked}
 use Rattle.hintcheck_explain.specs.declared.asked.Explained.{Explained}
 use Rattle.hintcheck_explain.specs.declared.asked.Explained.TheVariants as explained
 use Rattle.hintcheck_explain.specs.declared.asked.ExplainFault.{ExplainFault}
@@ -44,7 +41,3 @@ pub record HasRefusal (x : Subject) (called : Name) (r : Refused) : Type 0 where
 abbrev pub IsAnsweredFor : Subject → Name → Explained → Type 0
 IsAnsweredFor x called explained.Accepted = HasLeast x
 IsAnsweredFor x called (explained.Refused r) = HasRefusal x called r
-
--- where an offset is asked for, an instruction of the program begins there
-abbrev pub AsksForInstruction : Subject → Asked → Type 0
-AsksForInstruction x asked = IfSome asked.offset (λ offset. instruction_at x.main.now offset ≢ None)

@@ -1,18 +1,28 @@
 //! What is asked for, and what comes of it.
 
-use hintcheck_report::Refused;
+use hintcheck_report::{Place, Refused};
 use std::alloc::AllocError;
 use thiserror::Error;
 use tt_abs::Exhausted;
 use tt_cert::Name;
 use tt_stream::PrintFailed;
+use tt_symbolic_check::Site;
 
-/// A program, and the place in it that is asked for.
+/// A program, and the site that is asked for.
 #[derive(Clone, Copy, Debug, PartialEq, Eq)]
 pub struct Asked {
     pub program: Name,
-    /// The offset of an instruction of the program, where what is known there is asked for.
-    pub offset: Option<u32>,
+    /// Where what is known is asked for, if it is: in the program, or in a function that the font
+    /// program or the CVT program defines, as this program calls it.
+    pub site: Option<Site>,
+}
+
+impl Asked {
+    /// Returns the place that is asked for, if one is, as it is printed.
+    pub(crate) fn place(self) -> Option<Place> {
+        let Site { spot, offset } = self.site?;
+        Some(Place::at(self.program, spot, offset))
+    }
 }
 
 /// Whether the program that was explained is accepted or refused.

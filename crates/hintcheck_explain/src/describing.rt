@@ -375,7 +375,7 @@ impl fmt::Display for WayText<'_> {
                 let code = self.scene.code;
                 write!(
                     f,
-                    "The byte {code:02x} is the code of no instruction that is followed."
+                    "The byte 0x{code:02x} is the code of no instruction that is followed."
                 )
             }
             _ => Ok(()),

@@ -4,7 +4,7 @@ ghost use Rattle.std.specs.Prelude.{IfOk};
 ghost use Rattle.tt_abs.specs.Entries.{Ascends};
 ghost use Rattle.tt_abs.specs.Settings.{setting_of};
 ghost use Rattle.tt_abs.specs.StateFlow.{FunctionsFit};
-ghost use Rattle.hintcheck_explain.specs.Faults.{AsksForInstruction, IsAnsweredFor, TellsFailure};
+ghost use Rattle.hintcheck_explain.specs.Faults.{IsAnsweredFor, TellsFailure};
 
 use crate::accepted::tell_accepted;
 use crate::asked::{Asked, ExplainFault, Explained};
@@ -19,21 +19,19 @@ use tt_abs::{Failed, Refusal, Setting, Spot};
 use tt_family::Budget;
 use tt_find::explore;
 use tt_stream::Sink;
+use tt_symbolic_check::Site;
 
-/// Prints what is known at an offset of the subject's program, and the instructions around it.
-fn tell_place<O: Sink>(
+/// Prints what is known at a site of the subject, and the instructions around it.
+fn tell_site<O: Sink>(
     alloc: Global,
     subject: &ExploredProgram<'_>,
-    offset: u32,
+    site: Site,
     out: &mut O,
 ) -> Result<(), ExplainFault>
     ensures failures { TellsFailure result (O.failures out.old) (O.failures out.new) }
 {
-    let place = Place {
-        program: subject.name,
-        offset,
-    };
-    let listing = Excerpt::around(Code::Cut(subject.setting.main), place);
+    let place = Place::at(subject.name, site.spot, site.offset);
+    let listing = Excerpt::around(Code::Cut(subject.code(site.spot)), place);
     writeln!(out, "What is known at {place}:")?;
     tell_contexts(alloc, subject, place, out)?;
     writeln!(out, "{listing}")?;
@@ -50,8 +48,8 @@ fn explain_accepted<O: Sink>(
     ensures failures { TellsFailure result (O.failures out.old) (O.failures out.new) }
 {
     tell_accepted(subject, out)?;
-    match asked.offset {
-        Some(offset) => tell_place(alloc, subject, offset, out),
+    match asked.site {
+        Some(site) => tell_site(alloc, subject, site, out),
         None => Ok(()),
     }
 }
@@ -68,16 +66,15 @@ fn explain_refused<O: Sink>(
 ) -> Result<(), ExplainFault>
     ensures failures { TellsFailure result (O.failures out.old) (O.failures out.new) }
 {
-    match asked.offset {
-        Some(offset) => tell_place(alloc, subject, offset, out),
+    match asked.site {
+        Some(site) => tell_site(alloc, subject, site, out),
         None => tell_refusal(alloc, subject, spot, offset, failed, out),
     }
 }
 
 /// Explains a program that could be cut and is structured: how much it takes, or why it is refused.
-/// Where an offset is asked for, at which an instruction of the program has to begin, it tells what
-/// is known there, and of a refusal only its place and its reason. At most as many points are made as
-/// the budget allows.
+/// Where a site is asked for, it tells what is known there, and of a refusal only its place and its
+/// reason. At most as many points are made as the budget allows.
 ///
 /// # Errors
 /// `Write` where the text wasn't printed; `Exhausted`.
@@ -90,7 +87,6 @@ pub fn explain<O: Sink>(
 ) -> Result<Explained, ExplainFault>
     requires ascends { Ascends setting.now.start.now }
     requires fits { FunctionsFit (setting_of setting.now) setting.now.start.now }
-    requires place { AsksForInstruction setting.now asked }
     ensures answered { IfOk result (IsAnsweredFor setting.now asked.program) }
     ensures failures { TellsFailure result (O.failures out.old) (O.failures out.new) }
 {

@@ -78,7 +78,7 @@ impl fmt::Display for InstructionText<'_> {
                 let data = Data { push: *push, bytes };
                 write!(f, "{name}{data}")
             }
-            Effect::NoEntry => write!(f, "? (code {code:02x})"),
+            Effect::NoEntry => write!(f, "? (code 0x{code:02x})"),
             _ => write!(f, "{name}"),
         }
     }

@@ -104,16 +104,12 @@ impl<'a> Legend<'a> {
             cell,
         }
     }
-
-    /// Returns whether no symbol is named.
-    pub(crate) fn is_empty(&self) -> bool {
-        self.named.is_empty()
-    }
 }
 
+/// The range of each symbol that is named, in a line of its own if there is one.
 impl fmt::Display for Legend<'_> {
     fn fmt<W: fmt::Write>(&self, f: &mut fmt::Formatter<W>) -> fmt::Result {
-        let mut before = "where ";
+        let mut before = "\nwhere ";
         for (place, named) in self.named.as_slice().iter().enumerate() {
             let name = SymbolName(place);
             let range = Bounded {

@@ -131,7 +131,7 @@ fn least_number(
 }
 
 /// Prints how much of a limit a program needs that is refused for this reason, if it passes one and
-/// no offset is asked for.
+/// no site is asked for.
 pub(crate) fn tell_needs<O: Sink>(
     alloc: Global,
     setting: &Setting<'_>,
@@ -147,7 +147,7 @@ pub(crate) fn tell_needs<O: Sink>(
     let Some(limit) = limit_of(reason) else {
         return Ok(());
     };
-    if asked.offset.is_some() {
+    if asked.site.is_some() {
         return Ok(());
     }
     match fault_with(alloc, setting, limit, u16::MAX, budget)? {

@@ -3,10 +3,10 @@
 ghost use Rattle.hintcheck_explain.specs.Faults.{TellsFailure};
 
 use crate::asked::ExplainFault;
-use crate::calls::Calls;
+use crate::calls::OpenCalls;
 use crate::effect_text::tell_effect;
 use crate::explored_program::ExploredProgram;
-use crate::knowledge::Knowledge;
+use crate::knowledge::{StateText, tell_state};
 use crate::view::View;
 use hintcheck_report::{Place, program_at};
 use std::alloc::Global;
@@ -28,15 +28,15 @@ fn tell_context<O: Sink>(
     ensures failures { TellsFailure result (O.failures out.old) (O.failures out.new) }
 {
     let frames = subject.frames(alloc, point.0)?;
-    let calls = Calls {
-        program: subject.name,
-        frames: frames.as_slice(),
-        functions: state.functions(),
-    };
-    let knowledge = Knowledge::of(subject.setting, state);
     tell_effect(subject.instruction_at(point), View::Strict(state), out)?;
-    writeln!(out, "{calls}")?;
-    writeln!(out, "{knowledge}")?;
+    let open = OpenCalls::Strict(frames.as_slice());
+    tell_state(
+        subject.name,
+        subject.setting,
+        open,
+        StateText::Strict(state),
+        out,
+    )?;
     Ok(())
 }
 

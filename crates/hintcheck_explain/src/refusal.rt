@@ -8,13 +8,13 @@ ghost use Rattle.hintcheck_explain.specs.Representation.Causes.{IsCause, IsCaseO
 
 use crate::arrivals::{Edge, Ways, depths_at, edges_of};
 use crate::asked::ExplainFault;
-use crate::calls::Calls;
+use crate::calls::OpenCalls;
 use crate::cause::{tell_cause, trouble_of_program};
 use crate::describing::Scene;
 use crate::effect_text::tell_effect;
 use crate::excerpt::{Code, Excerpt};
 use crate::explored_program::ExploredProgram;
-use crate::knowledge::Knowledge;
+use crate::knowledge::{StateText, tell_state};
 use crate::origin::origin_of;
 use crate::origin_text::OriginText;
 use crate::route::{Route, branches_to};
@@ -128,20 +128,15 @@ fn tell_knowledge<O: Sink>(
 ) -> Result<(), PrintFailed>
     ensures failures { CountsPrintFailure result (O.failures out.old) (O.failures out.new) }
 {
-    let calls = Calls {
-        program: subject.name,
-        frames: case.frames.as_slice(),
-        functions: case.state.functions(),
-    };
-    let knowledge = Knowledge::of(subject.setting, case.state);
+    let open = OpenCalls::Strict(case.frames.as_slice());
+    let state = StateText::Strict(case.state);
     let point = case.point;
     let ways = Ways {
         subject,
         edges,
         point,
     };
-    writeln!(out, "{calls}")?;
-    writeln!(out, "{knowledge}")?;
+    tell_state(subject.name, subject.setting, open, state, out)?;
     writeln!(out, "{ways}")
 }
 

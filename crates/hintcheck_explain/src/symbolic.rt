@@ -5,14 +5,14 @@ ghost use Rattle.hintcheck_explain.specs.Faults.{TellsFailure};
 
 use crate::accepted::count_instructions;
 use crate::asked::{Asked, ExplainFault};
+use crate::calls::OpenCalls;
 use crate::cause::{tell_cause, trouble_of_program};
 use crate::describing::Scene;
 use crate::effect_text::tell_effect;
 use crate::excerpt::{Code, Excerpt};
+use crate::knowledge::{StateText, tell_state};
 use crate::legend::Legend;
-use crate::symbolic_calls::SymbolicCalls;
 use crate::symbolic_case::{instruction_at, trouble_of};
-use crate::symbolic_knowledge::SymbolicKnowledge;
 use crate::symbolic_origin::{SymbolOriginText, code_of};
 use crate::trouble::Trouble;
 use crate::view::{View, symbolic_cell};
@@ -86,7 +86,7 @@ fn tell_accepted<O: Sink>(searched: Searched<'_>, out: &mut O) -> Result<(), Pri
 }
 
 /// Prints the open calls of a state of the search, and what is known in it.
-fn tell_state<O: Sink>(
+fn tell_known<O: Sink>(
     alloc: Global,
     searched: Searched<'_>,
     known: &KnownState,
@@ -96,23 +96,13 @@ fn tell_state<O: Sink>(
 {
     let state = &known.state;
     let legend = Legend::of(alloc, state)?;
-    let calls = SymbolicCalls {
-        program: searched.name,
-        state,
-        legend: &legend,
-    };
-    let knowledge = SymbolicKnowledge {
-        limits: searched.setting.limits,
-        cvt: searched.setting.cvt,
-        state,
-        legend: &legend,
-    };
-    writeln!(out, "{calls}")?;
-    writeln!(out, "{knowledge}")?;
+    let open = OpenCalls::Symbolic(state.calls.as_slice(), &legend);
+    let text = StateText::Symbolic(state, &legend);
+    tell_state(searched.name, searched.setting, open, text, out)?;
     Ok(())
 }
 
-/// Prints what the first states know that came to the offset that is asked for.
+/// Prints what the first states know that came to the place that is asked for.
 fn tell_states<O: Sink>(
     alloc: Global,
     searched: Searched<'_>,
@@ -128,24 +118,20 @@ fn tell_states<O: Sink>(
             View::Symbolic(state),
             out,
         )?;
-        tell_state(alloc, searched, known, out)?;
+        tell_known(alloc, searched, known, out)?;
     }
     Ok(())
 }
 
-/// Prints what is known at an offset of the program, and the instructions around it.
+/// Prints what is known at a place, and the instructions around it.
 fn tell_place<O: Sink>(
     alloc: Global,
     searched: Searched<'_>,
-    offset: u32,
+    place: Place,
     out: &mut O,
 ) -> Result<(), ExplainFault>
     ensures failures { TellsFailure result (O.failures out.old) (O.failures out.new) }
 {
-    let place = Place {
-        program: searched.name,
-        offset,
-    };
     let listing = searched.listing(place);
     writeln!(out, "What is known at {place}:")?;
     match searched.insight {
@@ -214,21 +200,21 @@ fn tell_case<O: Sink>(
     tell_cause(scene, reason, trouble, out)?;
     tell_effect(instruction, view, out)?;
     tell_origin(searched, known, trouble, out)?;
-    tell_state(alloc, searched, known, out)
+    tell_known(alloc, searched, known, out)
 }
 
-/// Prints where and why a program is refused, and explains it unless an offset is asked for.
+/// Prints where and why a program is refused, and explains it unless a place is asked for.
 fn tell_refused<O: Sink>(
     alloc: Global,
     searched: Searched<'_>,
     refused: Refused,
-    offset: Option<u32>,
+    place: Option<Place>,
     out: &mut O,
 ) -> Result<(), ExplainFault>
     ensures failures { TellsFailure result (O.failures out.old) (O.failures out.new) }
 {
     writeln!(out, "{refused}")?;
-    if offset.is_some() {
+    if place.is_some() {
         return Ok(());
     }
     tell_case(alloc, searched, refused.reason, out)?;
@@ -238,7 +224,7 @@ fn tell_refused<O: Sink>(
 }
 
 /// Explains what the symbolic profile answers for a program that could be cut and is structured: how
-/// much an accepted one takes, or why it is refused. Where an offset is asked for, it tells what the
+/// much an accepted one takes, or why it is refused. Where a site is asked for, it tells what the
 /// search knows there, and of a refusal only its place and its reason.
 ///
 /// # Errors
@@ -259,11 +245,11 @@ pub fn explain_symbolic<O: Sink>(
         insight,
     };
     match refused {
-        Some(refused) => tell_refused(alloc, searched, refused, asked.offset, out)?,
+        Some(refused) => tell_refused(alloc, searched, refused, asked.place(), out)?,
         None => tell_accepted(searched, out)?,
     }
-    match asked.offset {
-        Some(offset) => tell_place(alloc, searched, offset, out),
+    match asked.place() {
+        Some(place) => tell_place(alloc, searched, place, out),
         None => Ok(()),
     }
 }

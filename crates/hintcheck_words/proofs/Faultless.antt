@@ -19,7 +19,7 @@ use Rattle.clap.specs.declared.builder.value_parser.ValueParser.TheVariants as v
 use Rattle.clap.proofs.ValueTestLemmas.{accepts-Accepts}
 use Rattle.clap.proofs.SimpleLemmas.{is_nil}
 use Rattle.clap.proofs.WalkLemmas.{both}
-use Rattle.hintcheck_words.specs.Requests.{HasFlag, HasLongNumberIfAny, HasNumber, HasNumberIfAny, request_of}
+use Rattle.hintcheck_words.specs.Requests.{HasFlag, HasLongNumberIfAny, HasNumber, request_of}
 use Rattle.hintcheck_words.proofs.Rows.{FitsRule, RowFits, RowsFit, all_found, are_distinct, both_empty, defaults_fit, found_passes, is_not, not_any, own_ids, takes_value, true_or_false}
 use Rattle.hintcheck_words.proofs.Walks.{Fits, HelpsIfAbove, IsNotHelp, TakesValues, settled_fits, walk_fits}
 
@@ -143,12 +143,6 @@ value_if_any s rows p id a level n = go (find (λ r. bytes_eq r.id id) rows) ref
 
 number_of : (rows : List Row) (most : ℕ) (id : Text) (ignore_case : Bool) → HasValue (vp.Signed (pos 0) (pos most)) ignore_case (one_of id rows) → HasNumber most rows id
 number_of rows most id ignore_case v = record { text = v.text; found = v.found; number = v.passed }
-
-pub number_if_any : (s : Shape) (rows : List Row) (most : ℕ) (id : Text) (a : Rule) → LevelRows s rows → IsNumberRule s.rules most id a → HasNumberIfAny most rows id
-number_if_any s rows most id a level n = elim (value_if_any s rows (vp.Signed (pos 0) (pos most)) id a level n) [
-  | inl none ↦ inl none
-  | inr value ↦ inr (number_of rows most id a.ignore_case value)
-]
 
 pub long_number_if_any : (s : Shape) (rows : List Row) (id : Text) (a : Rule) → LevelRows s rows → IsLongNumberRule s.rules id a → HasLongNumberIfAny rows id
 long_number_if_any s rows id a level n = elim (value_if_any s rows (vp.Unsigned 0 18446744073709551615) id a level n) [

@@ -10,7 +10,7 @@ use Rattle.clap.specs.Walk.{Row, Rule, Text, arg_by_id}
 use Rattle.clap.proofs.OnLiterals.{clap_on_literals}
 use Rattle.hintcheck_words.specs.CommandLine.{hintcheck}
 use Rattle.hintcheck_words.specs.Requests.{IsReadable, met, request_of, requests}
-use Rattle.hintcheck_words.proofs.Faultless.{IsFlagRule, IsLine, IsLongNumberRule, IsNumberRule, flag_among, level_at, line_names, long_number_if_any, number_among, number_if_any, subcommand_at}
+use Rattle.hintcheck_words.proofs.Faultless.{IsFlagRule, IsLine, IsLongNumberRule, IsNumberRule, flag_among, level_at, line_names, long_number_if_any, number_among, subcommand_at}
 use Rattle.std.specs.Prelude.{drop, true, unwrap_or}
 
 abbrev first_or : {X : Type 0} → X → List X → X
@@ -142,10 +142,6 @@ scan_needs : IsFlagRule scan_built.rules (codes "NEEDS") (rule_at scan_built (co
 unfolding hintcheck scan_built rule_at clap_on_literals
 scan_needs = record { found = refl; named = refl; parser = refl }
 
-explain_offset : IsNumberRule explain_built.rules 4294967295 (codes "OFFSET") (rule_at explain_built (codes "OFFSET"))
-unfolding hintcheck explain_built rule_at clap_on_literals
-explain_offset = record { found = refl; named = refl; parser = refl }
-
 explain_points : IsLongNumberRule explain_built.rules (codes "POINTS") (rule_at explain_built (codes "POINTS"))
 unfolding hintcheck explain_built rule_at clap_on_literals
 explain_points = record { found = refl; named = refl; parser = refl }
@@ -209,7 +205,6 @@ meets_one words name rows e found =
       of_explain = λ explain.
           let at_explain = level_at (built hintcheck) name (codes "explain") rows explain_built named explain explain_found in
           record {
-            offset = number_if_any explain_built rows 4294967295 (codes "OFFSET") (rule_at explain_built (codes "OFFSET")) at_explain explain_offset;
             points = long_number_if_any explain_built rows (codes "POINTS") (rule_at explain_built (codes "POINTS")) at_explain explain_points;
             symbolic = flag_among explain_built rows (codes "SYMBOLIC") (rule_at explain_built (codes "SYMBOLIC")) at_explain explain_symbolic;
             json = flag_among explain_built rows (codes "JSON") (rule_at explain_built (codes "JSON")) at_explain explain_json;

@@ -11,7 +11,7 @@ use Rattle.clap.specs.Words.{Row, Text, all_of, matched_of, one_of, one_text, ra
 use Rattle.clap.specs.declared.parser.matches.Found.{Found}
 use Rattle.clap.proofs.WalkLemmas.{find_row, one_text-rows}
 use Rattle.clap.proofs.CallerReads.{signed_reads}
-use Rattle.hintcheck_words.specs.Requests.{HasFlag, HasLongNumberIfAny, HasNumber, HasNumberIfAny, flag_in, number_in, optional_number_in}
+use Rattle.hintcheck_words.specs.Requests.{HasFlag, HasLongNumberIfAny, HasNumber, flag_in, number_in, optional_number_in}
 
 pub text_or_empty : (o : Option (Bor (List ℕ))) (empty : Bor (List ℕ)) → empty.now ≡ [] → (unwrap_or o empty).now ≡ unwrap_or (option_map (λ s. s.now) o) []
 text_or_empty None empty e = e
@@ -26,16 +26,7 @@ number_read {E} G bits most rows id n h few parses reads = go n (reads (without_
     go None r some = absurd (let bad = some.1 in cc)
     go (Some x) r some = (x, refl, (parses (without_minus h.text) (Ok x) r).1 ∙ ap (λ (o : Option (List ℕ)). digits_value 10 (without_leading_plus (unwrap_or o []))) (sym h.found))
 
--- the same of an argument that may be left out
-pub optional_number_read : {E : Type 0} (G : List ℕ → Result ℕ E → Type 0) (bits most : ℕ) (rows : List Row) (id : Text) (n : Option ℕ) (h : HasNumberIfAny most rows id) → most < 2 ^ bits
-    → ((t : List ℕ) (r : Result ℕ E) → G t r → ParsesUnsigned bits 10 t r) → (one_of id rows ≡ None → n ≡ None) → ((t : List ℕ) → one_of id rows ≡ Some t → ReadsOne G t n)
-    → n ≡ optional_number_in rows id
-optional_number_read G bits most rows id n (inl none) few parses absent reads = absent none ∙ rw none refl
-optional_number_read G bits most rows id n (inr h) few parses absent reads =
-    let read = number_read G bits most rows id n h few parses reads in
-    read.1 ∙ ap (λ (x : ℕ). Some x) read.2 ∙ rw h.found refl
-
--- the same of a number of 64 bits
+-- the same of a number of 64 bits, of an argument that may be left out
 pub long_number_read : {E : Type 0} (G : List ℕ → Result ℕ E → Type 0) (rows : List Row) (id : Text) (n : Option ℕ) (h : HasLongNumberIfAny rows id)
     → ((t : List ℕ) (r : Result ℕ E) → G t r → ParsesUnsigned 64 10 t r) → (one_of id rows ≡ None → n ≡ None) → ((t : List ℕ) → one_of id rows ≡ Some t → ReadsOne G t n)
     → n ≡ optional_number_in rows id

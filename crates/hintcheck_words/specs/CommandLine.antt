@@ -28,10 +28,6 @@ needed id = record (new_rule id) { required = true }
 abbrev pub needed_number : Text → Rule
 needed_number id = record (needed id) { parser = Some (parser.Signed (pos 0) (pos 65535)) }
 
--- an argument that may be left out, and is a number of 32 bits otherwise
-abbrev pub optional_number : Text → Rule
-optional_number id = record (new_rule id) { parser = Some (parser.Signed (pos 0) (pos 4294967295)) }
-
 -- an option of this long name, which may be left out, and takes a number of 64 bits otherwise
 abbrev pub number_option : Text → Text → Rule
 number_option id name = record (new_rule id) {
@@ -115,7 +111,7 @@ scan = with_rule (with_rule (with_rule (with_rule (with_rule (with_rule (with_ru
 abbrev pub explain : App
 explain = with_rule (with_rule (with_rule (with_rule (with_rule (with_rule
     (new_app (codes "explain")) (needed (codes "FONT"))) (optional (codes "PROGRAM")))
-    (optional_number (codes "OFFSET"))) (points (codes "POINTS"))) symbolic) json
+    (optional (codes "OFFSET"))) (points (codes "POINTS"))) symbolic) json
 
 -- the subcommand `find`, which writes the certificate of a font file
 abbrev pub find : App

@@ -10,6 +10,7 @@ use Rattle.clap.specs.declared.parser.matches.ArgMatches.{ArgMatches}
 use Rattle.hintcheck_words.specs.CommandLine.{hintcheck}
 use Rattle.hintcheck_words.specs.declared.words.Detail.{Detail}
 use Rattle.hintcheck_words.specs.declared.words.Detail.TheVariants as detail
+use Rattle.hintcheck_words.specs.declared.words.ExplainOptions.{ExplainOptions}
 use Rattle.hintcheck_words.specs.declared.words.FailOn.{FailOn}
 use Rattle.hintcheck_words.specs.declared.words.FailOn.TheVariants as fail_on
 use Rattle.hintcheck_words.specs.declared.words.Format.{Format}
@@ -35,7 +36,7 @@ pub data Request : Type 0 where
   bare : Text → ℕ → ℕ → ℕ → Option Text → Option ℕ → Profile → Request
   verdict : Text → Option ℕ → Profile → Request
   scan : List Text → ScanOptions → Option Text → Request
-  explain : Text → Option Text → Option ℕ → Option ℕ → Profile → Format → Request
+  explain : Text → Option Text → Option Text → ExplainOptions → Request
   find : Text → Text → Option ℕ → Request
   check : Text → Text → Option ℕ → Request
   list : Text → Text → Detail → Request
@@ -71,10 +72,6 @@ pub record HasNumber (most : ℕ) (rows : List Row) (id : Text) : Type 0 where
   pub text : Text
   pub found : one_of id rows ≡ Some (without_minus text)
   pub number : IsSignedIn (pos 0) (pos most) text
-
--- an argument got no text, or that of a number up to this one
-abbrev pub HasNumberIfAny : ℕ → List Row → Text → Type 0
-HasNumberIfAny most rows id = (one_of id rows ≡ None) ⊎ HasNumber most rows id
 
 -- an argument got the text of a number of 64 bits
 pub record HasLongNumber (rows : List Row) (id : Text) : Type 0 where
@@ -146,7 +143,11 @@ explain_request rows =
     if flag_in rows (codes "JSON") && not (is_some (optional_in rows (codes "PROGRAM")))
     then json_request rows
     else explain (text_in rows (codes "FONT")) (optional_in rows (codes "PROGRAM"))
-    (optional_number_in rows (codes "OFFSET")) (points_in rows) (profile_in rows) (format_in rows)
+    (optional_in rows (codes "OFFSET")) (record {
+      budget = points_in rows;
+      profile = profile_in rows;
+      format = format_in rows;
+    })
 
 -- what `verdict` asks for, by what its arguments got
 unfoldable pub verdict_request : List Row → Request
@@ -235,9 +236,8 @@ pub record IsReadableScan (rows : List Row) : Type 0 where
   pub causes : HasFlag rows (codes "CAUSES")
   pub needs : HasFlag rows (codes "NEEDS")
 
--- the offset of `explain` is a number, where it is given, and its options can be read
+-- the options of `explain` can be read
 pub record IsReadableExplain (rows : List Row) : Type 0 where
-  pub offset : HasNumberIfAny 4294967295 rows (codes "OFFSET")
   pub points : HasPoints rows
   pub symbolic : HasFlag rows (codes "SYMBOLIC")
   pub json : HasFlag rows (codes "JSON")
@@ -266,9 +266,9 @@ asked (task.Verdict font budget profile) = verdict (string_bytes font) budget pr
 asked (task.Scan fonts options expected) =
     scan (map (λ s. string_bytes s) fonts.items) options
     (option_map (λ s. string_bytes s) expected)
-asked (task.Explain font program offset budget profile format) =
-    explain (string_bytes font) (option_map (λ s. string_bytes s) program) offset budget profile
-    format
+asked (task.Explain font program place options) =
+    explain (string_bytes font) (option_map (λ s. string_bytes s) program)
+    (option_map (λ s. string_bytes s) place) options
 asked (task.Find font certificate budget) =
     find (string_bytes font) (string_bytes certificate) budget
 asked (task.Check font certificate budget) =

@@ -5,4 +5,6 @@ mod hex_words;
 mod words;
 
 pub use hex_words::{WordFault, word_bytes};
-pub use words::{Detail, FailOn, Format, Profile, ScanOptions, Task, TaskFault, read_words};
+pub use words::{
+    Detail, ExplainOptions, FailOn, Format, Profile, ScanOptions, Task, TaskFault, read_words,
+};

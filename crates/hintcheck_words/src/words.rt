@@ -2,8 +2,8 @@
 
 ghost use Rattle.std.specs.Prelude.{◌≡◌, ◌∷◌, [], IfErr, IfOk, Some, codes, is_some, false, map, option_map, string_bytes};
 ghost use Rattle.clap.specs.Words.{app_of, new_app, rule_of, subcommand_rows_of};
-ghost use Rattle.hintcheck_words.specs.CommandLine.{bare, causes as causes_rule, expect as expect_rule, explain, fail_on as fail_on_rule, flag, hintcheck, json as json_rule, list, needed as needed_rule, needs as needs_rule, needed_number as number_rule, numbers as numbers_rule, of_texts, of_texts_and_points, optional_number as optional_rule, points as points_rule, scan, symbolic as symbolic_rule, verdict};
-ghost use Rattle.hintcheck_words.specs.Requests.{HasFlag, HasLongNumberIfAny, HasNumber, HasNumberIfAny, HasPoints, IsMemoryIfTaken, IsReadable, IsReadableBare, IsReadableExplain, IsReadableScan, IsReadableVerdict, MeetsSubcommand, TellsFault, asked, bare_request, check_request, detail_in, explain_request, fail_on_in, fail_on_named, faults_in, find_request, flag_in, format_in, json_request, list_request, meaning, met, number_in, optional_in, optional_number_in, profile_in, request_of, rows_in, scan_format_in, scan_request, text_in, texts_in, texts_of, verdict_request};
+ghost use Rattle.hintcheck_words.specs.CommandLine.{bare, causes as causes_rule, expect as expect_rule, explain, fail_on as fail_on_rule, flag, hintcheck, json as json_rule, list, needed as needed_rule, needs as needs_rule, needed_number as number_rule, numbers as numbers_rule, of_texts, of_texts_and_points, optional as optional_rule, points as points_rule, scan, symbolic as symbolic_rule, verdict};
+ghost use Rattle.hintcheck_words.specs.Requests.{HasFlag, HasLongNumberIfAny, HasNumber, HasPoints, IsMemoryIfTaken, IsReadable, IsReadableBare, IsReadableExplain, IsReadableScan, IsReadableVerdict, MeetsSubcommand, TellsFault, asked, bare_request, check_request, detail_in, explain_request, fail_on_in, fail_on_named, faults_in, find_request, flag_in, format_in, json_request, list_request, meaning, met, number_in, optional_in, optional_number_in, profile_in, request_of, rows_in, scan_format_in, scan_request, text_in, texts_in, texts_of, verdict_request};
 
 use clap::error::ErrorKind;
 use clap::{Arg, ArgAction, ArgMatches, Command, value_parser};
@@ -67,6 +67,17 @@ pub struct ScanOptions {
     pub format: Format,
 }
 
+/// How a program of a font file is explained.
+#[derive(Clone, Copy, Debug, PartialEq, Eq)]
+pub struct ExplainOptions {
+    /// How many points may be made; None where that isn't limited.
+    pub budget: Option<u64>,
+    /// By which profile it is checked.
+    pub profile: Profile,
+    /// The form in which the explanation is printed: lines or an object of JSON.
+    pub format: Format,
+}
+
 /// What the words ask for.
 #[derive(Debug, Drop)]
 pub enum Task {
@@ -111,14 +122,11 @@ pub enum Task {
         font: String,
         /// Which program it is; None where it is left out.
         program: Option<String>,
-        /// At which of its offsets; None where it is left out, as it is without a program.
-        offset: Option<u32>,
-        /// How many points may be made; None where that isn't limited.
-        budget: Option<u64>,
-        /// By which profile it is checked.
-        profile: Profile,
-        /// The form in which the explanation is printed: lines or an object of JSON.
-        format: Format,
+        /// The word of the place in it, or in a function that it calls; None where it is left out.
+        /// Without a program it is of no use.
+        place: Option<String>,
+        /// How it is explained.
+        options: ExplainOptions,
     },
     /// Writes the certificate of a font file to another file.
     Find {
@@ -337,7 +345,7 @@ fn bare_command<'a>(alloc: Global) -> Result<Command<'a>, AllocError>
         .arg(needed_number(alloc, "CVT", "How many control values there are"))?
         .arg(needed_number(alloc, "POINTS", "How many points the glyph has"))?
         .arg(needed_number(alloc, "CONTOURS", "How many contours the glyph has"))?
-        .arg(Arg::new(alloc, "PROGRAM").help("The program, in hexadecimal digits"))?
+        .arg(optional(alloc, "PROGRAM", "The program, in hexadecimal digits"))?
         .arg(symbolic_option(alloc))?
         .arg(points_option(
             alloc,
@@ -475,14 +483,12 @@ fn scan_command<'a>(alloc: Global) -> Result<Command<'a>, AllocError>
         .arg(needs_option(alloc))
 }
 
-/// Makes the argument that is an offset, which may be left out.
-fn offset_argument<'a>(alloc: Global) -> Arg<'a>
-    ensures rule { rule_of result ≡ optional_rule (codes "OFFSET") }
+/// Makes an argument that may be left out.
+fn optional<'a>(alloc: Global, id: &'a str, help: &'a str) -> Arg<'a>
+    ensures rule { rule_of result ≡ optional_rule id.entry.now }
     ensures local { result.global ≡ false }
 {
-    Arg::new(alloc, "OFFSET")
-        .value_parser(value_parser!(u32))
-        .help("An offset in it; without one, where it is refused")
+    Arg::new(alloc, id).help(help)
 }
 
 /// Makes the subcommand `explain`.
@@ -492,13 +498,23 @@ fn offset_argument<'a>(alloc: Global) -> Arg<'a>
 fn explain_command<'a>(alloc: Global) -> Result<Command<'a>, AllocError>
     ensures { IfOk result (λ c. app_of c ≡ explain) }
 {
-    let (font, font_help) = FONT;
     plain_command(alloc, EXPLAIN)
-        .arg(needed(alloc, font, font_help))?
-        .arg(Arg::new(alloc, "PROGRAM").help(
+        .arg(needed(
+            alloc,
+            "FONT",
+            "The name of the font file; or, alone, the number of a reason, as 28",
+        ))?
+        .arg(optional(
+            alloc,
+            "PROGRAM",
             "The program: f, p, g12 or a glyph's name; without it, causes of the font's refusals",
         ))?
-        .arg(offset_argument(alloc))?
+        .arg(optional(
+            alloc,
+            "OFFSET",
+            "An offset in it, or, as f:366 or p:12, in a function that it calls; without it, where \
+            it is refused",
+        ))?
         .arg(points_option(
             alloc,
             "POINTS",
@@ -602,14 +618,6 @@ fn number(values: &ArgMatches<'_>, id: &str) -> u16
     ensures { result ≡ number_in (rows_in values.now) id.now }
 {
     values.get_one::<u16>(id).unwrap()
-}
-
-/// Returns the number that the words give the argument, if they give one.
-fn optional_number(values: &ArgMatches<'_>, id: &str) -> Option<u32>
-    requires { HasNumberIfAny 4294967295 (rows_in values.now) id.now }
-    ensures { result ≡ optional_number_in (rows_in values.now) id.now }
-{
-    values.get_one::<u32>(id)
 }
 
 /// Returns the limit of the points that the words give the option, if they give one.
@@ -777,10 +785,12 @@ fn explain_task(alloc: Global, values: &ArgMatches<'_>) -> Result<Task, AllocErr
     Ok(Task::Explain {
         font: text(alloc, values, "FONT")?,
         program: optional_text(alloc, values, "PROGRAM")?,
-        offset: optional_number(values, "OFFSET"),
-        budget: points(values, "POINTS"),
-        profile: asked_profile(values),
-        format: asked_format(values),
+        place: optional_text(alloc, values, "OFFSET")?,
+        options: ExplainOptions {
+            budget: points(values, "POINTS"),
+            profile: asked_profile(values),
+            format: asked_format(values),
+        },
     })
 }
 

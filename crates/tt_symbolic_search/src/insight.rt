@@ -3,6 +3,7 @@
 use crate::origins::Origins;
 use crate::track::Track;
 use std::alloc::{AllocError, Global};
+use tt_abs::{Kind, Spot};
 use tt_symbolic_check::Site;
 use tt_symbolic_state::State;
 use tt_symbolic_state::cell::Cell;
@@ -10,8 +11,31 @@ use tt_symbolic_state::cell::Cell;
 /// What is asked of a program that is searched.
 #[derive(Clone, Copy, Debug, PartialEq, Eq)]
 pub struct Question {
-    /// The offset of an instruction of the main program, where what is known there is asked for.
-    pub offset: Option<u32>,
+    /// Where an instruction begins, of the main program or of a function that it calls, if what is
+    /// known there is asked for.
+    pub site: Option<Site>,
+}
+
+impl Question {
+    /// Whether what is known at this site of a program of this kind is asked for. The bodies of the
+    /// font program's functions are in the font program itself, and so are those of the CVT program's.
+    pub(crate) fn is_on(self, kind: Kind, site: Site) -> bool {
+        match self.site {
+            Some(asked) => {
+                asked.offset == site.offset && holder(kind, asked.spot) == holder(kind, site.spot)
+            }
+            None => false,
+        }
+    }
+}
+
+/// Returns in which program a place of this spot is: the main program also where that is the font
+/// program or the CVT program, and the place in one of its functions.
+fn holder(kind: Kind, spot: Spot) -> Spot {
+    match (kind, spot) {
+        (Kind::Font, Spot::Font) | (Kind::Cvt, Spot::Prep) => Spot::Main,
+        _ => spot,
+    }
 }
 
 /// Where a number comes from that isn't known, as far as the search tells.
@@ -81,7 +105,7 @@ pub struct Insight {
     pub checked: u64,
     /// The state that was refused; none where no instruction is refused.
     pub refused: Option<KnownState>,
-    /// The first states that came to the offset that was asked for.
+    /// The first states that came to the site that was asked for.
     pub seen: Vec<KnownState>,
     /// Whether more states came there.
     pub has_more: bool,

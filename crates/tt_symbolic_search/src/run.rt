@@ -16,7 +16,7 @@ use crate::waiting::Waiting;
 use crate::writes::Writes;
 use std::alloc::{AllocError, Global};
 use std::mem;
-use tt_abs::{Kind, Setting, Spot};
+use tt_abs::{Kind, Setting};
 use tt_code::Reason;
 use tt_symbolic::kept::Kept;
 use tt_symbolic::step::code_at;
@@ -36,7 +36,7 @@ const MOST_SPLITS: u32 = 4096;
 /// cell has are left out.
 const MOST_SPARE_SYMBOLS: usize = 256;
 
-/// How many of the states are kept that come to an offset which is asked for.
+/// How many of the states are kept that come to a site which is asked for.
 const MOST_SEEN: usize = 16;
 
 /// The code of EIF.
@@ -106,7 +106,7 @@ pub(crate) struct Run {
     depth: usize,
     /// The state before its last step, where the answer is to be explained.
     last: Option<Box<Track>>,
-    /// The first states that came to the offset that is asked for.
+    /// The first states that came to the site that is asked for.
     seen: Vec<Box<Track>>,
     /// Whether more states came there.
     has_more: bool,
@@ -320,8 +320,7 @@ impl Run {
         let Some(question) = task.question else {
             return Ok(());
         };
-        let place = Site::of(&track.state);
-        if place.spot == Spot::Main && question.offset == Some(place.offset) {
+        if question.is_on(task.setting.kind, Site::of(&track.state)) {
             self.see(task.alloc, track)?;
         }
         match &mut self.last {
@@ -333,7 +332,7 @@ impl Run {
         }
     }
 
-    /// Keeps a state that came to the offset that is asked for, if not many did before.
+    /// Keeps a state that came to the site that is asked for, if not many did before.
     fn see(&mut self, alloc: Global, track: &Track) -> Result<(), AllocError> {
         if self.seen.len() >= MOST_SEEN {
             self.has_more = true;

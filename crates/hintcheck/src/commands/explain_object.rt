@@ -13,7 +13,7 @@ ghost use Rattle.hintcheck.specs.Printed.{PrintsExplanation};
 ghost use Rattle.hintcheck.specs.Representation.ToldFaults.{fault_in_memory};
 ghost use Rattle.hintcheck.specs.Scans.{IsOfScan};
 
-use super::explain_lines::explain_by;
+use super::explain_lines::{ExplainRequest, explain_by};
 use super::faults::CommandFault;
 use super::files::file_bytes;
 use super::json_objects::{print_explanation_object, print_fault_object};
@@ -21,7 +21,6 @@ use super::scan_task::name_in;
 use crate::explanation::exit_status;
 use crate::glyph_names::called;
 use hintcheck_explain::Explained;
-use hintcheck_words::Profile;
 use std::alloc::{AllocError, Global};
 use std::rt::Files;
 use tt_names::GlyphNames;
@@ -69,28 +68,26 @@ fn refused_glyph(
     }
 }
 
-/// Explains by a profile one program of the font in these bytes, the one that the word names, in
-/// memory.
+/// Explains one program of the font in these bytes, in memory.
 ///
 /// # Errors
 /// As `explained_of_file` for a font that could be read, but never `Write`.
 fn explanation_in(
     alloc: Global,
     font: &[u8],
-    word: &str,
-    offset: Option<u32>,
-    budget: Option<u64>,
-    profile: Profile,
+    request: ExplainRequest<'_>,
 ) -> Result<Explanation, CommandFault>
-    ensures answered { IfOk result (λ e. HoldExplainedBy profile font.now word.now e.explained
+    ensures answered { IfOk result (λ e.
+        HoldExplainedBy request.entry.options.profile font.now request.entry.word.now e.explained
         × (option_map (λ s. string_bytes s) e.glyph ≡ called_of (post_of font.now) e.explained)) }
     ensures unwritten { IfErr result IsNoWriteFault }
-    ensures faults { IfErr result
-        (λ fault. IsFaultOfFileExplaining word.now offset fault × IsWithin budget fault) }
-    ensures none { OnOk result (HoldPlace font.now word.now offset) }
+    ensures faults { IfErr result (λ fault.
+        IsFaultOfFileExplaining request.entry.word.now request.entry.site fault
+        × IsWithin request.entry.options.budget fault) }
+    ensures none { OnOk result (HoldPlace font.now request.entry.word.now request.entry.site) }
 {
     let mut sink = Counted::new(Vec::new(alloc));
-    let explained = match explain_by(alloc, font, word, offset, budget, profile, &mut sink) {
+    let explained = match explain_by(alloc, font, request, &mut sink) {
         Ok(explained) => explained,
         Err(fault) => return Err(of_memory(fault)),
     };
@@ -107,43 +104,39 @@ fn explanation_in(
     })
 }
 
-/// Explains by a profile one program of the font file with this name, the one that the word names,
-/// in memory.
+/// Explains one program of the font file with this name, in memory.
 ///
 /// # Errors
 /// As `explained_of_file`, but never `Write`.
 fn explanation_of<R: Files + AllocGlobal>(
     rt: &R,
     name: &str,
-    word: &str,
-    offset: Option<u32>,
-    budget: Option<u64>,
-    profile: Profile,
+    request: ExplainRequest<'_>,
 ) -> Result<Explanation, CommandFault>
     ensures answered { IfOk result (λ e. (bytes : List ℕ)
-        × HoldExplainedBy profile bytes word.now e.explained
+        × HoldExplainedBy request.entry.options.profile bytes request.entry.word.now e.explained
         × (option_map (λ s. string_bytes s) e.glyph ≡ called_of (post_of bytes) e.explained)) }
     ensures unwritten { IfErr result IsNoWriteFault }
-    ensures faults { IfErr result
-        (λ fault. IsFaultOfFileExplaining word.now offset fault × IsWithin budget fault) }
-    ensures none { OnOk result ((bytes : List ℕ) × HoldPlace bytes word.now offset) }
+    ensures faults { IfErr result (λ fault.
+        IsFaultOfFileExplaining request.entry.word.now request.entry.site fault
+        × IsWithin request.entry.options.budget fault) }
+    ensures none { OnOk result
+        ((bytes : List ℕ) × HoldPlace bytes request.entry.word.now request.entry.site) }
 {
     let bytes = file_bytes(rt, name)?;
-    explanation_in(rt.alloc(), &bytes, word, offset, budget, profile)
+    explanation_in(rt.alloc(), &bytes, request)
 }
 
-/// Prints the object of an explanation: of the program that the word names in the font file with this
-/// name.
+/// Prints the object of the explanation of a program of the font file with this name.
 fn print_explanation<O: Sink>(
     alloc: Global,
     out: &mut O,
     name: &str,
-    profile: Profile,
-    word: &str,
+    request: ExplainRequest<'_>,
     told: &Explanation,
 ) -> Result<(), CommandFault>
     ensures written { OnOk result (Appends (O.contents out.old) (O.contents out.new)
-        (explanation_object name.now profile word.now
+        (explanation_object name.now request.entry.options.profile request.entry.word.now
         (option_map (λ s. string_bytes s) told.now.glyph) told.now.explained
         (string_bytes told.now.text))) }
     ensures failures { TellsFailure result (O.failures out.old) (O.failures out.new) }
@@ -151,14 +144,15 @@ fn print_explanation<O: Sink>(
 {
     let glyph = name_in(&told.glyph);
     let explained = told.explained;
+    let profile = request.options.profile;
+    let word = request.word;
     print_explanation_object(
         alloc, out, name, profile, word, glyph, explained, &told.text,
     )
 }
 
-/// Explains by a profile one program of the font file with this name, the one that the word names,
-/// in an object, and returns the exit status: 0 accepted; 1 refused, or not checked since one
-/// before it is refused.
+/// Explains one program of the font file with this name in an object, and returns the exit status: 0
+/// accepted; 1 refused, or not checked since one before it is refused.
 ///
 /// # Errors
 /// `ProgramName` and `OffsetWord` as `explain_program`; `Write` exactly where a write to `out`
@@ -167,33 +161,32 @@ fn print_explanation<O: Sink>(
 pub(super) fn explain_in_object<R: Files + AllocGlobal, O: Sink>(
     rt: &R,
     name: &str,
-    word: &str,
-    offset: Option<u32>,
-    budget: Option<u64>,
-    profile: Profile,
+    request: ExplainRequest<'_>,
     out: &mut O,
 ) -> Result<u8, CommandFault>
     ensures status { IfOk result (λ status. status ≤ 1) }
-    ensures accepted { IfOk result
-        (λ status. status ≡ 0 → (bytes : List ℕ) × HoldAcceptedBy profile bytes word.now) }
-    ensures refused { IfOk result
-        (λ status. status ≡ 1 → (bytes : List ℕ) × HoldUnacceptedBy profile bytes word.now) }
-    ensures printed { IfOk result (λ status. PrintsExplanation name.now word.now offset budget
-        profile status (O.contents out.old) (O.contents out.new)) }
+    ensures accepted { IfOk result (λ status. status ≡ 0 → (bytes : List ℕ)
+        × HoldAcceptedBy request.entry.options.profile bytes request.entry.word.now) }
+    ensures refused { IfOk result (λ status. status ≡ 1 → (bytes : List ℕ)
+        × HoldUnacceptedBy request.entry.options.profile bytes request.entry.word.now) }
+    ensures printed { IfOk result (λ status. PrintsExplanation name.now request.entry.word.now
+        request.entry.site request.entry.options status (O.contents out.old) (O.contents out.new)) }
     ensures told { IfErr result (λ fault. IsOfScan fault
-        → PrintsExplanation name.now word.now offset budget profile (status_of fault)
-        (O.contents out.old) (O.contents out.new)) }
+        → PrintsExplanation name.now request.entry.word.now request.entry.site request.entry.options
+        (status_of fault) (O.contents out.old) (O.contents out.new)) }
     ensures failures { TellsFailure result (O.failures out.old) (O.failures out.new) }
-    ensures faults { IfErr result (IsFaultOfObject word.now offset budget) }
-    ensures none { OnOk result ((bytes : List ℕ) × HoldPlace bytes word.now offset) }
+    ensures faults { IfErr result
+        (IsFaultOfObject request.entry.word.now request.entry.site request.entry.options.budget) }
+    ensures none { OnOk result
+        ((bytes : List ℕ) × HoldPlace bytes request.entry.word.now request.entry.site) }
 {
-    match explanation_of(rt, name, word, offset, budget, profile) {
+    match explanation_of(rt, name, request) {
         Ok(told) => {
-            print_explanation(rt.alloc(), out, name, profile, word, &told)?;
+            print_explanation(rt.alloc(), out, name, request, &told)?;
             Ok(exit_status(told.explained))
         }
         Err(fault) if fault.is_of_font_file() => {
-            print_fault_object(rt.alloc(), out, name, &fault, profile)?;
+            print_fault_object(rt.alloc(), out, name, &fault, request.options.profile)?;
             Err(fault.told())
         }
         Err(fault) => Err(fault),

@@ -162,6 +162,8 @@ pub enum CommandFault {
     ProgramWord,
     /// The word of the program is the name of none of the font's programs.
     ProgramName,
+    /// The word of the offset is none.
+    NoOffset,
     /// No instruction of the program begins at the offset; what is around it.
     OffsetWord(Neighbours),
     /// The word for which programs a scan is to fail names no class of reasons.
@@ -221,6 +223,9 @@ impl fmt::Display for CommandFault {
                     f,
                     "words: PROGRAM: f, p, g and the number of a glyph, or its name"
                 )
+            }
+            CommandFault::NoOffset => {
+                write!(f, "words: OFFSET: a number, alone or after f: or p:")
             }
             CommandFault::OffsetWord(told) => write!(f, "words: OFFSET{told}"),
             CommandFault::ClassWord => write!(f, "words: CLASS"),

@@ -4,7 +4,7 @@ use Rattle.std.specs.Io.KnownBytes.{Appends}
 use Rattle.std.proofs.lemmas.Result.{IfErr-weaker, IfOk-weaker, on_ok_weaker}
 use Rattle.hintcheck_words.specs.Requests.{asked}
 use Rattle.hintcheck_words.specs.declared.words.Detail.{Detail}
-use Rattle.hintcheck_words.specs.declared.words.Format.{Format}
+use Rattle.hintcheck_words.specs.declared.words.ExplainOptions.{ExplainOptions}
 use Rattle.hintcheck_words.specs.declared.words.Profile.{Profile}
 use Rattle.hintcheck_words.specs.declared.words.ScanOptions.{ScanOptions}
 use Rattle.hintcheck_words.specs.declared.words.Task.{Task}
@@ -16,13 +16,13 @@ use Rattle.hintcheck.proofs.PrintedLemmas.{prints_for_verdict, prints_upgrade, p
 use Rattle.hintcheck.proofs.ScanFaults.{passed_no_scan, printing_no_scan, task_no_scan, verdict_no_scan}
 use Rattle.hintcheck.proofs.commands.do_task.Goals as goal
 
-for_verdict : (t : Task) → ((fonts : Vec (String Global) Global) (options : ScanOptions) (expected : Option (String Global)) → t ≡ task.Scan fonts options expected → ⊥) → ((font : String Global) (program : Option (String Global)) (offset budget : Option ℕ) (profile : Profile) (format : Format) → t ≡ task.Explain font program offset budget profile format → ⊥)
+for_verdict : (t : Task) → ((fonts : Vec (String Global) Global) (options : ScanOptions) (expected : Option (String Global)) → t ≡ task.Scan fonts options expected → ⊥) → ((font : String Global) (program place : Option (String Global)) (options : ExplainOptions) → t ≡ task.Explain font program place options → ⊥)
     → ((font program : String Global) (detail : Detail) → t ≡ task.List font program detail → ⊥) → ((old new : String Global) → t ≡ task.Upgrade old new → ⊥) → IsForVerdict (asked t)
 unfolding asked
 for_verdict (task.Bare maxp cvt points contours program budget profile) scan explain other another = tt
 for_verdict (task.Verdict font budget profile) scan explain other another = tt
 for_verdict (task.Scan fonts options expected) scan explain other another = absurd (scan fonts options expected refl)
-for_verdict (task.Explain font program offset budget profile format) scan explain other another = absurd (explain font program offset budget profile format refl)
+for_verdict (task.Explain font program place options) scan explain other another = absurd (explain font program place options refl)
 for_verdict (task.Find font certificate budget) scan explain other another = tt
 for_verdict (task.Check font certificate budget) scan explain other another = tt
 for_verdict (task.List font program detail) scan explain other another = absurd (other font program detail refl)

@@ -1,15 +1,10 @@
 use Rattle.std.proofs.lemmas.Result.{IfOk-weaker}
 use Rattle.hintcheck.proofs.ExplanationLemmas.{word_told}
 use Rattle.hintcheck.proofs.NameLemmas.{named_few, of_some}
-use Rattle.hintcheck.proofs.PlaceLemmas.{place_in}
 use Rattle.hintcheck.proofs.explanation.explain_word.Goals as goal
 
-pub check_offset-requires : goal.check_offset-requires
-check_offset-requires g c = named_few c.in_ok-read.read c.in_ok-read.ensures.range c.args.font.now c.args.word.now c.in-Some.named.bytes.now (of_some _ _ _ c.in-Some.is c.in_ok-named.ensures.there)
-
-pub explain_named-requires-clause-place : goal.explain_named-requires-clause-place
-explain_named-requires-clause-place g c =
-    place_in c.in_ok-read.read c.in-Some.named.name c.in-Some.named.bytes.now c.args.offset (of_some _ _ _ c.in-Some.is c.in_ok-named.ensures.program) c.in_ok-check_offset-in-Some.ensures.begins
+pub check_site-requires-clause-few : goal.check_site-requires-clause-few
+check_site-requires-clause-few g c = named_few c.in_ok-read.read c.in_ok-read.ensures.range c.args.font.now c.args.word.now c.in-Some.named.bytes.now (of_some _ _ _ c.in-Some.is c.in_ok-named.ensures.there)
 
 pub returns-in-Some-clause-answered : goal.returns-in-Some-clause-answered
 returns-in-Some-clause-answered g c =

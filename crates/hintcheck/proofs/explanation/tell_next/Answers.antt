@@ -4,12 +4,7 @@ use Rattle.hintcheck_fonts.specs.Representation.ProgramOrder.{stage_of, start_at
 use Rattle.hintcheck_fonts.proofs.JudgeLaws.{uncut_is_refused}
 use Rattle.hintcheck_fonts.proofs.ProgramSteps.{uncut_next}
 use Rattle.hintcheck.proofs.ExplanationLemmas.{next_name, uncut_answered}
-use Rattle.hintcheck.proofs.PlaceLemmas.{place_there}
 use Rattle.hintcheck.proofs.explanation.tell_next.Goals as goal
-
-pub explain_in-requires-clause-place : goal.explain_in-requires-clause-place
-explain_in-requires-clause-place g c =
-    place_there c.args.next.bytes.now c.in-Ok.program c.setting.result.main.now c.args.offset c.in-Ok.ensures.cut.0 c.setting.ensures.main c.requires.place
 
 pub returns-in_ok-refused-in-Err-clause-answered : goal.returns-in_ok-refused-in-Err-clause-answered
 returns-in_ok-refused-in-Err-clause-answered g c = λ x next.

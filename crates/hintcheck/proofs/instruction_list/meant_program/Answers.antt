@@ -12,4 +12,4 @@ returns-clause-called c =
     subst (λ post. IfSome c.glyph_named.result (IsFirstNamed post c.args.word.now)) c.in_ok-names.ensures.post c.glyph_named.ensures.first in
     let same : c.map.result ≡ option_map name.Glyph c.glyph_named.result = search rules in
     subst (λ meant. IfSome meant (Calls c.args.bytes.now c.args.word.now)) (sym same)
-    (glyph_called c.args.bytes.now c.args.word.now c.read_name.result c.glyph_named.result c.read_name.ensures.each c.in_default.is first)
+    (glyph_called c.args.bytes.now c.args.word.now c.named_by.result c.glyph_named.result c.named_by.ensures.each c.in_default.is first)

@@ -2,8 +2,8 @@ use Rattle.std.proofs.lemmas.Result.{IfOk-weaker}
 use Rattle.hintcheck.proofs.NameLemmas.{named_few, of_some}
 use Rattle.hintcheck.proofs.symbolic_explanation.explain_word.Goals as goal
 
-pub check_offset-requires : goal.check_offset-requires
-check_offset-requires g c = named_few c.in_ok-read.read c.in_ok-read.ensures.range c.args.font.now c.args.word.now c.in-Some.named.bytes.now (of_some _ _ _ c.in-Some.is c.in_ok-named.ensures.there)
+pub check_site-requires-clause-few : goal.check_site-requires-clause-few
+check_site-requires-clause-few g c = named_few c.in_ok-read.read c.in_ok-read.ensures.range c.args.font.now c.args.word.now c.in-Some.named.bytes.now (of_some _ _ _ c.in-Some.is c.in_ok-named.ensures.there)
 
 pub explain_named-requires-clause-few : goal.explain_named-requires-clause-few
 explain_named-requires-clause-few g c = named_few c.in_ok-read.read c.in_ok-read.ensures.range c.args.font.now c.args.word.now c.in-Some.named.bytes.now (of_some _ _ _ c.in-Some.is c.in_ok-named.ensures.there)

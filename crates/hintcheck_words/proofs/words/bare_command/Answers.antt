@@ -10,7 +10,7 @@ returns c =
     let cvt_is : rule_of c.needed_number.result ≡ needed_number (codes "CVT") = search rules in
     let points_is : rule_of c.needed_number-2.result ≡ needed_number (codes "POINTS") = search rules in
     let contours_is : rule_of c.needed_number-3.result ≡ needed_number (codes "CONTOURS") = search rules in
-    let program_is : rule_of c.help.result ≡ optional (codes "PROGRAM") = search rules in
+    let program_is : rule_of c.optional.result ≡ optional (codes "PROGRAM") = search rules in
     let symbolic_is : rule_of c.symbolic_option.result ≡ symbolic = search rules in
     let limit_is : rule_of c.points_option.result ≡ points (codes "LIMIT") = search rules in
     IfOk-weaker c.arg-7.result _ _ (λ r h. h.shape (search rules) ∙ ap₂ with_rule

@@ -11,8 +11,8 @@ returns-in-Err-clause-unwritten c = subst IsNoWriteFault (sym c.of_memory.ensure
 pub returns-in-Err-clause-faults : goal.returns-in-Err-clause-faults
 returns-in-Err-clause-faults c =
     let (explaining, within) = c.in-Err.ensures.faults in
-    subst (λ (f : CommandFault). IsFaultOfFileExplaining c.args.word.now c.args.offset f × IsWithin c.args.budget f) (sym c.of_memory.ensures)
-    (memory_explaining c.args.word.now c.args.offset c.in-Err.fault (inr (c.args.font.now, explaining)), memory_within c.args.budget c.in-Err.fault within)
+    subst (λ (f : CommandFault). IsFaultOfFileExplaining c.args.request.word.now c.args.request.site f × IsWithin c.args.request.options.budget f) (sym c.of_memory.ensures)
+    (memory_explaining c.args.request.word.now c.args.request.site c.in-Err.fault (inr (c.args.font.now, explaining)), memory_within c.args.request.options.budget c.in-Err.fault within)
 
 pub returns-in_default-refused_glyph-clause-faults : goal.returns-in_default-refused_glyph-clause-faults
 returns-in_default-refused_glyph-clause-faults c = (inl tt, λ same. absurd cc)

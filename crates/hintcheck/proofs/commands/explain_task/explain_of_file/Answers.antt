@@ -5,15 +5,15 @@ use Rattle.hintcheck.proofs.commands.explain_task.explain_of_file.Goals as goal
 
 pub returns-clause-printed : goal.returns-clause-printed
 returns-clause-printed g c =
-    IfOk-weaker c.explain_in_lines.result _ _ (λ status few. lines_printed c.args.format c.args.name.now c.args.word.now c.args.offset c.args.budget c.args.profile status _ _ c.in_default.not-Json) c.explain_in_lines.ensures.status
+    IfOk-weaker c.explain_in_lines.result _ _ (λ status few. lines_printed c.args.request.options.format c.args.name.now c.args.request.word.now c.args.request.site c.args.request.options status _ _ c.in_default.not-Json) c.explain_in_lines.ensures.status
 
 pub returns-clause-told : goal.returns-clause-told
 returns-clause-told g c =
-    IfErr-weaker c.explain_in_lines.result _ _ (λ told is of. lines_printed c.args.format c.args.name.now c.args.word.now c.args.offset c.args.budget c.args.profile (status_of told) _ _ c.in_default.not-Json) c.explain_in_lines.ensures.faults
+    IfErr-weaker c.explain_in_lines.result _ _ (λ told is of. lines_printed c.args.request.options.format c.args.name.now c.args.request.word.now c.args.request.site c.args.request.options (status_of told) _ _ c.in_default.not-Json) c.explain_in_lines.ensures.faults
 
 pub returns-clause-faults : goal.returns-clause-faults
 returns-clause-faults g c =
-    IfErr-weaker c.explain_in_lines.result _ _ (λ told is. lines_fault c.args.format c.args.word.now c.args.offset c.args.budget told c.in_default.not-Json is) c.explain_in_lines.ensures.faults
+    IfErr-weaker c.explain_in_lines.result _ _ (λ told is. lines_fault c.args.request.options.format c.args.request.word.now c.args.request.site c.args.request.options.budget told c.in_default.not-Json is) c.explain_in_lines.ensures.faults
 
 pub returns-in-Json-clause-printed : goal.returns-in-Json-clause-printed
 returns-in-Json-clause-printed g c = IfOk-weaker c.explain_in_object.result _ _ (λ status printed. rw c.in-Json.is printed) c.explain_in_object.ensures.printed

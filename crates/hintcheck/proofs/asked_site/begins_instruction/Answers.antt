@@ -2,7 +2,7 @@ use Rattle.std.proofs.Common.{◌≡◌, ℕ, Bool, true, false, IfNone, IfSome,
 use Rattle.tt_code.specs.Cut.{CanBeCut, CannotBeCut}
 use Rattle.hintcheck.specs.Explanations.{BeginsInstruction}
 use Rattle.hintcheck.proofs.PlaceLemmas.{begins_after, begins_within, none_begins}
-use Rattle.hintcheck.proofs.asked_offset.begins_instruction.Goals as goal
+use Rattle.hintcheck.proofs.asked_site.begins_instruction.Goals as goal
 
 pub returns-then-program-offset : goal.returns-then-program-offset
 returns-then-program-offset c = (λ is. cc, λ begins. let within = begins_within c.args.program.now c.args.offset begins in absurd (omega arith))

@@ -1,9 +1,8 @@
--- proofs/listing/read_number/Answers.antt
 use Rattle.std.proofs.Common.{refl, subst, rules, arith}
 use Rattle.std.proofs.lemmas.Fmt.{parse-decimal}
 use Rattle.hintcheck.specs.Listing.{IsPlain}
 use Rattle.hintcheck.proofs.NameLemmas.{not_plain, read_plain}
-use Rattle.hintcheck.proofs.instruction_list.read_number.Goals as goal
+use Rattle.hintcheck.proofs.instruction_list.read_decimal.Goals as goal
 
 pub returns-then-not-is_plain-clause-each : goal.returns-then-not-is_plain-clause-each
 returns-then-not-is_plain-clause-each c = λ number small e.
@@ -16,4 +15,4 @@ returns-clause-read c =
 
 pub returns-clause-each : goal.returns-clause-each
 returns-clause-each c = λ number small e.
-    rw (c.ok.ensures.value, parse-decimal 16 number c.args.text.now c.parse.result small (omega arith) e c.parse.ensures.value.0) refl
+    rw (c.ok.ensures.value, parse-decimal 32 number c.args.text.now c.parse.result small (omega arith) e c.parse.ensures.value.0) refl
