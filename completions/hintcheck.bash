@@ -9,7 +9,7 @@ _hintcheck() {
     fi
     case $command in
         verdict) options='--symbolic --points --json --help' ;;
-        scan) options='--symbolic --points --fail-on --expect --json --causes --needs --help' ;;
+        scan) options='--symbolic --points --fail-on --expect --json --causes --needs --files-from --help' ;;
         find | check) options='--points --help' ;;
         explain) options='--symbolic --points --json --help' ;;
         bare) options='--symbolic --points --help' ;;

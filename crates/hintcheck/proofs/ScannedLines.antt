@@ -17,7 +17,7 @@ use Rattle.hintcheck.specs.FaultTexts.{command_fault_text}
 use Rattle.hintcheck.specs.RefusalClasses.{number_of_class}
 use Rattle.hintcheck.proofs.KnownScans.{noted_both, noted_none}
 use Rattle.hintcheck.specs.Representation.Expectations.{Expected, NotesScan, lines_of_answer, noted, scanned_lines}
-use Rattle.hintcheck.specs.Scans.{Answer, HasTold, IsAnswer, Scanned, TellsFont, counts_text, greatest_status, judged, left_out_text, line_of, status_of_answer, summary, text_of, unread}
+use Rattle.hintcheck.specs.Scans.{Answer, HasTold, IsAnswer, Scanned, TellsFont, counts_text, end_of_line, greatest_status, judged, left_out_text, line_of, status_of_answer, summary, text_of, unread}
 use Rattle.hintcheck.specs.Texts.{profile_text}
 use Rattle.hintcheck_fonts.specs.Verdicts.{Judgement}
 use Rattle.hintcheck.specs.declared.commands.faults.CommandFault.{CommandFault}
@@ -99,15 +99,15 @@ pub scans_all : {X : Type 0} (options : ScanOptions) (text : X → List ℕ) (xs
 scans_all options text xs i s old new u v within printed = subst (λ ys. NotesScan options (map text ys) s old new u v) (take_all i xs within) printed
 
 -- the line of a font of which glyph programs are refused, by its parts
-pub counts_written : (profile : Profile) (name : List ℕ) (programs possible undecided left : ℕ) (rs : List Refused) (o p q r s : Option (List ℕ)) → possible ≡ number_of_class PossibleFault rs
+pub counts_written : (profile : Profile) (programs possible undecided left : ℕ) (rs : List Refused) (o p q r s : Option (List ℕ)) → possible ≡ number_of_class PossibleFault rs
     → undecided ≡ number_of_class Undecided rs → left ≡ number_of_class LeftOut rs
-    → Appends o p (name ++ (codes ": refused: " ++ (decimal (length rs) ++ (codes " of " ++ (decimal programs ++ codes " programs ")))))
+    → Appends o p (codes ": refused: " ++ (decimal (length rs) ++ (codes " of " ++ (decimal programs ++ codes " programs "))))
     → Appends p q (codes "(" ++ (decimal possible ++ (codes " possible faults, " ++ (decimal undecided ++ codes " undecided")))) → Appends q r (left_out_text left) → Appends r s (codes ")" ++ (profile_text profile ++ codes "\n"))
-    → Appends o s (name ++ (codes ": refused: " ++ ((counts_text programs rs ++ profile_text profile) ++ codes "\n")))
-counts_written profile name programs possible undecided left rs o p q r s some_possible some_undecided some_left first second third fourth =
-    let a : List ℕ = name ++ (codes ": refused: " ++ (decimal (length rs) ++ (codes " of " ++ (decimal programs ++ codes " programs ")))) in
+    → Appends o s (codes ": refused: " ++ ((counts_text programs rs ++ profile_text profile) ++ codes "\n"))
+counts_written profile programs possible undecided left rs o p q r s some_possible some_undecided some_left first second third fourth =
+    let a : List ℕ = codes ": refused: " ++ (decimal (length rs) ++ (codes " of " ++ (decimal programs ++ codes " programs "))) in
     let b : List ℕ = codes "(" ++ (decimal possible ++ (codes " possible faults, " ++ (decimal undecided ++ codes " undecided"))) in
-    let text : ((a ++ b) ++ left_out_text left) ++ (codes ")" ++ (profile_text profile ++ codes "\n")) ≡ name ++ (codes ": refused: " ++ ((counts_text programs rs ++ profile_text profile) ++ codes "\n")) = rw (some_possible, some_undecided, some_left) (simp append_assoc) in
+    let text : ((a ++ b) ++ left_out_text left) ++ (codes ")" ++ (profile_text profile ++ codes "\n")) ≡ codes ": refused: " ++ ((counts_text programs rs ++ profile_text profile) ++ codes "\n") = rw (some_possible, some_undecided, some_left) (simp append_assoc) in
     subst (Appends o s) text (appends_both o r s _ _ (appends_both o q r _ _ (appends_both o p q a b first second) third) fourth)
 
 glyph_summary : (programs : ℕ) (rs : List Refused) (r : Refused) (id : ℕ) → Some r ≡ slice_get rs 0 → r.program ≡ Glyph id → summary programs rs ≡ codes "refused: " ++ counts_text programs rs
@@ -118,42 +118,42 @@ glyph_summary programs (x ∷ xs) r id first is =
     rw e refl
 
 -- the line of a font of which glyph programs are refused, by the first of them
-pub glyph_line : (profile : Profile) (name : List ℕ) (programs : ℕ) (v : Judgement) (rs shown : List Refused) (r : Refused) (id : ℕ) (old new : Option (List ℕ)) → Some r ≡ slice_get rs 0 → rs ≡ v.refused
-    → shown ≡ v.refused → programs ≡ v.programs → r.program ≡ Glyph id → Appends old new (name ++ (codes ": refused: " ++ ((counts_text programs shown ++ profile_text profile) ++ codes "\n")))
-    → Appends old new (line_of profile name (judged [] v))
-glyph_line profile name programs v rs shown r id old new first rs_are shown_are programs_are is written =
+pub glyph_line : (profile : Profile) (programs : ℕ) (v : Judgement) (rs shown : List Refused) (r : Refused) (id : ℕ) (old new : Option (List ℕ)) → Some r ≡ slice_get rs 0 → rs ≡ v.refused
+    → shown ≡ v.refused → programs ≡ v.programs → r.program ≡ Glyph id → Appends old new (codes ": refused: " ++ ((counts_text programs shown ++ profile_text profile) ++ codes "\n"))
+    → Appends old new (end_of_line profile (judged [] v))
+glyph_line profile programs v rs shown r id old new first rs_are shown_are programs_are is written =
     let e : summary v.programs v.refused ≡ codes "refused: " ++ counts_text v.programs v.refused =
     glyph_summary v.programs v.refused r id (subst (λ xs. Some r ≡ slice_get xs 0) rs_are first) is in
-    let all : Appends old new (name ++ (codes ": refused: " ++ ((counts_text programs v.refused ++ profile_text profile) ++ codes "\n"))) =
-    subst (λ xs. Appends old new (name ++ (codes ": refused: " ++ ((counts_text programs xs ++ profile_text profile) ++ codes "\n")))) shown_are written in
-    let w : Appends old new (name ++ (codes ": refused: " ++ ((counts_text v.programs v.refused ++ profile_text profile) ++ codes "\n"))) =
-    subst (λ n. Appends old new (name ++ (codes ": refused: " ++ ((counts_text n v.refused ++ profile_text profile) ++ codes "\n")))) programs_are all in
-    subst (λ text. Appends old new (name ++ (codes ": " ++ ((text ++ profile_text profile) ++ codes "\n")))) (sym e) w
+    let all : Appends old new (codes ": refused: " ++ ((counts_text programs v.refused ++ profile_text profile) ++ codes "\n")) =
+    subst (λ xs. Appends old new (codes ": refused: " ++ ((counts_text programs xs ++ profile_text profile) ++ codes "\n"))) shown_are written in
+    let w : Appends old new (codes ": refused: " ++ ((counts_text v.programs v.refused ++ profile_text profile) ++ codes "\n")) =
+    subst (λ n. Appends old new (codes ": refused: " ++ ((counts_text n v.refused ++ profile_text profile) ++ codes "\n"))) programs_are all in
+    subst (λ text. Appends old new (codes ": " ++ ((text ++ profile_text profile) ++ codes "\n"))) (sym e) w
 
 -- the line of a font file with a fault
-pub fault_line : (profile : Profile) (name : List ℕ) (f : CommandFault) (old new : Option (List ℕ)) → IsFaultOfFontFile f
-    → AppendsText (Some name ++? (Some (codes ": fault: ") ++? (command_fault_text f ++? Some (codes "\n")))) old new → Appends old new (line_of profile name (unread f))
-fault_line profile name (fault.Font numbered) old new is written = written
-fault_line profile name (fault.Unopened why) old new is written = written
-fault_line profile name fault.Read old new is written = written
-fault_line profile name fault.OutOfMemory old new is written = written
-fault_line profile name fault.Budget old new is written = written
-fault_line profile name (fault.Usage text) old new is written = absurd is
-fault_line profile name fault.MaxpWord old new is written = absurd is
-fault_line profile name fault.ProgramWord old new is written = absurd is
-fault_line profile name fault.ProgramName old new is written = absurd is
-fault_line profile name (fault.OffsetWord told) old new is written = absurd is
-fault_line profile name fault.NoOffset old new is written = absurd is
-fault_line profile name fault.ClassWord old new is written = absurd is
-fault_line profile name fault.ExpectedWord old new is written = absurd is
-fault_line profile name fault.FontWord old new is written = absurd is
-fault_line profile name (fault.KnownLine number) old new is written = absurd is
-fault_line profile name fault.CertificateWord old new is written = absurd is
-fault_line profile name fault.NewWord old new is written = absurd is
-fault_line profile name (fault.Form place) old new is written = absurd is
-fault_line profile name fault.NoCertificate old new is written = absurd is
-fault_line profile name fault.ScanFault old new is written = absurd is
-fault_line profile name fault.ScanUnfinished old new is written = absurd is
-fault_line profile name fault.Write old new is written = absurd is
-fault_line profile name fault.File old new is written = absurd is
-fault_line profile name fault.Text old new is written = absurd is
+pub fault_line : (profile : Profile) (f : CommandFault) (old new : Option (List ℕ)) → IsFaultOfFontFile f
+    → AppendsText (Some (codes ": fault: ") ++? (command_fault_text f ++? Some (codes "\n"))) old new → Appends old new (end_of_line profile (unread f))
+fault_line profile (fault.Font numbered) old new is written = written
+fault_line profile (fault.Unopened why) old new is written = written
+fault_line profile fault.Read old new is written = written
+fault_line profile fault.OutOfMemory old new is written = written
+fault_line profile fault.Budget old new is written = written
+fault_line profile (fault.Usage text) old new is written = absurd is
+fault_line profile fault.MaxpWord old new is written = absurd is
+fault_line profile fault.ProgramWord old new is written = absurd is
+fault_line profile fault.ProgramName old new is written = absurd is
+fault_line profile (fault.OffsetWord told) old new is written = absurd is
+fault_line profile fault.NoOffset old new is written = absurd is
+fault_line profile fault.ClassWord old new is written = absurd is
+fault_line profile fault.ExpectedWord old new is written = absurd is
+fault_line profile fault.FontWord old new is written = absurd is
+fault_line profile (fault.KnownLine number) old new is written = absurd is
+fault_line profile fault.CertificateWord old new is written = absurd is
+fault_line profile fault.NewWord old new is written = absurd is
+fault_line profile (fault.Form place) old new is written = absurd is
+fault_line profile fault.NoCertificate old new is written = absurd is
+fault_line profile fault.ScanFault old new is written = absurd is
+fault_line profile fault.ScanUnfinished old new is written = absurd is
+fault_line profile fault.Write old new is written = absurd is
+fault_line profile fault.File old new is written = absurd is
+fault_line profile fault.Text old new is written = absurd is

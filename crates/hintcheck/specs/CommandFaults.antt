@@ -7,6 +7,8 @@ use Rattle.hintcheck_words.specs.HexWords.{IsHexWord, Spells}
 use Rattle.hintcheck_words.specs.Requests.{Request, bare, check, explain, find, is_taken, list, meaning, scan, upgrade, verdict}
 use Rattle.hintcheck_words.specs.declared.words.ExplainOptions.{ExplainOptions}
 use Rattle.hintcheck_words.specs.declared.words.FailOn.TheVariants.{Unknown}
+use Rattle.hintcheck_words.specs.declared.words.FontWords.{FontWords}
+use Rattle.hintcheck_words.specs.declared.words.FontWords.TheVariants.{Fonts, Lists}
 use Rattle.hintcheck_words.specs.declared.words.Format.{Format}
 use Rattle.hintcheck_words.specs.declared.words.Format.TheVariants.{Json, Lines}
 use Rattle.hintcheck_words.specs.declared.words.ScanOptions.{ScanOptions}
@@ -17,6 +19,7 @@ use Rattle.hintcheck.specs.Explanations.{HoldPlace}
 use Rattle.hintcheck.specs.KnownRefusals.{IsExpectable, IsFirstBadLine}
 use Rattle.hintcheck.specs.Listing.{HoldNoSuchProgram}
 use Rattle.hintcheck.specs.Neighbours.{HoldNoSuchPlace}
+use Rattle.hintcheck.specs.ScannedNames.{HoldsOfNames}
 use Rattle.hintcheck.specs.SiteWords.{AskForSite, IsNoSite}
 use Rattle.tt_symbolic_check.specs.declared.refusal.Site.{Site}
 use Rattle.hintcheck.specs.declared.commands.faults.CommandFault.{CommandFault}
@@ -317,6 +320,11 @@ IsFaultOfAsked options word place reported = (reported ≡ fault.NoOffset × IsN
 abbrev pub IsFaultOfFontCauses : CommandFault → Type 0
 IsFaultOfFontCauses reported = IsFaultOfFontFile reported ⊎ IsFaultOfPrinting reported
 
+-- why the names of a scan's font files aren't known: a file that lists them isn't read
+abbrev pub IsFaultOfNaming : FontWords → CommandFault → Type 0
+IsFaultOfNaming Fonts reported = ⊥
+IsFaultOfNaming Lists reported = IsFaultOfReading reported
+
 -- Why what is asked for isn't answered.
 abbrev pub IsFaultOfRequest : Request → CommandFault → Type 0
 IsFaultOfRequest (bare maxp cvt points contours program budget profile) reported =
@@ -324,7 +332,7 @@ IsFaultOfRequest (bare maxp cvt points contours program budget profile) reported
 IsFaultOfRequest (verdict font budget profile) reported =
     IsFaultOfFontFile reported × IsWithin budget reported
 IsFaultOfRequest (scan fonts options expected) reported =
-    IsFaultOfScanning options expected reported
+    IsFaultOfNaming options.words reported ⊎ IsFaultOfScanning options expected reported
 IsFaultOfRequest (explain font None place options) reported =
     IsFaultOfFontFile reported × IsWithin options.budget reported
 IsFaultOfRequest (explain font (Some program) place options) reported =
@@ -343,7 +351,8 @@ abbrev pub HasNoFault : Request → Type 0
 HasNoFault (bare maxp cvt points contours program budget profile) =
     SpellNoFault maxp (unwrap_or program [])
 HasNoFault (verdict font budget profile) = Unit {0}
-HasNoFault (scan fonts options expected) = HasNoFaultOfScan options fonts expected
+HasNoFault (scan fonts options expected) =
+    HoldsOfNames options.words fonts (λ names. HasNoFaultOfScan options names expected)
 HasNoFault (explain font None place options) = Unit {0}
 HasNoFault (explain font (Some program) place options) =
     (site : Option Site) × AskForSite place site × (bytes : List ℕ) × HoldPlace bytes program site

@@ -16,6 +16,7 @@ pub mod FaultTexts
 pub mod FontNeeds
 pub mod RefusalClasses
 pub mod Representation
+pub mod ScannedNames
 pub mod Scans
 pub mod SiteWords
 pub mod JsonObjects

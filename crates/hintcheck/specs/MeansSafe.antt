@@ -20,6 +20,7 @@ use Rattle.hintcheck.specs.KnownRefusals.{AreLines, IsKnown, counts}
 use Rattle.hintcheck.specs.Listing.{HoldUnlistedProgram}
 use Rattle.hintcheck_fonts.specs.Programs.{HasGoodFamily, IsRefusal}
 use Rattle.hintcheck.specs.RefusalClasses.{number_of_class}
+use Rattle.hintcheck.specs.ScannedNames.{HoldsOfNames}
 use Rattle.hintcheck.specs.SymbolicExplanations.{HoldSymbolicAcceptedProgram, HoldSymbolicExplained, HoldSymbolicRefusedProgram}
 use Rattle.hintcheck.specs.SymbolicAnswers.{SpellGlyph, SpellSymbolicSafeGlyph, SpellSymbolicVerdict}
 use Rattle.hintcheck_fonts.specs.FontAnswers.{HoldRefusedFont, HoldSafeFont, HoldSymbolicRefusedFont, HoldSymbolicSafeFont, IsSymbolicVerdictOn, IsVerdictOn}
@@ -116,7 +117,8 @@ abbrev pub IsSafeRequest : Request → Type 0
 IsSafeRequest (bare maxp cvt points contours program budget profile) =
     SpellSafeBy profile maxp cvt points contours (unwrap_or program [])
 IsSafeRequest (verdict font budget profile) = (bytes : List ℕ) × HoldSafeBy profile bytes
-IsSafeRequest (scan fonts options expected) = IsSafeScan options fonts expected
+IsSafeRequest (scan fonts options expected) =
+    HoldsOfNames options.words fonts (λ names. IsSafeScan options names expected)
 IsSafeRequest (explain font None place options) =
     IsReasonWord font ⊎ ((bytes : List ℕ) × HoldSafeBy options.profile bytes)
 IsSafeRequest (explain font (Some program) place options) =
@@ -266,7 +268,8 @@ abbrev pub IsRefusedRequest : Request → Type 0
 IsRefusedRequest (bare maxp cvt points contours program budget profile) =
     SpellRefusedBy profile maxp cvt points contours (unwrap_or program [])
 IsRefusedRequest (verdict font budget profile) = (bytes : List ℕ) × HoldRefusedBy profile bytes
-IsRefusedRequest (scan fonts options expected) = IsRefusedScan options fonts expected
+IsRefusedRequest (scan fonts options expected) =
+    HoldsOfNames options.words fonts (λ names. IsRefusedScan options names expected)
 IsRefusedRequest (explain font None place options) =
     (bytes : List ℕ) × HoldRefusedBy options.profile bytes
 IsRefusedRequest (explain font (Some program) place options) =

@@ -21,6 +21,7 @@ use Rattle.hintcheck.specs.Explanations.{status_of_explained}
 use Rattle.hintcheck.specs.JsonObjects.{explanation_object, unread_object}
 use Rattle.hintcheck.specs.Listing.{HoldListedProgram, HoldToldProgram}
 use Rattle.hintcheck.specs.MeansSafe.{HoldExplainedBy, IsVerdictAsked}
+use Rattle.hintcheck.specs.ScannedNames.{HoldsOfNames}
 use Rattle.hintcheck.specs.SiteWords.{AskForSite}
 use Rattle.tt_symbolic_check.specs.declared.refusal.Site.{Site}
 use Rattle.hintcheck.specs.Scans.{IsOfScan}
@@ -100,7 +101,8 @@ Prints (bare maxp cvt points contours program budget profile) status old new =
 Prints (verdict font budget profile) status old new =
     PrintsVerdict (verdict font budget profile) status old new
 Prints (scan fonts options expected) status old new =
-    PrintsScanning options fonts expected status old new
+    HoldsOfNames options.words fonts
+    (λ names. PrintsScanning options names expected status old new)
 Prints (explain font None place options) status old new =
     PrintsReason font status old new ⊎ PrintsCauses options.profile status old new
 Prints (explain font (Some program) place options) status old new =

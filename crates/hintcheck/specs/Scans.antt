@@ -1,5 +1,6 @@
 -- What a scan prints: a line or an object for each font file, and the exit status that these have together.
-use Rattle.std.specs.Prelude.{◌≡◌, ℕ, zero, suc, All, codes, flat_map, List, [], ◌∷◌, ◌++◌, length, map, max, min, Option, unwrap_or}
+use Rattle.std.specs.Prelude.{◌≡◌, ℕ, zero, suc, All, codes, flat_map, if◌then◌else◌, List, [], ◌∷◌, ◌++◌, length, map, max, min, Option, unwrap_or}
+use Rattle.std.specs.Char.{is_ascii_control}
 use Rattle.std.specs.Fmt.{decimal}
 use Rattle.std.specs.Io.KnownBytes.{Appends}
 use Rattle.tt_code.specs.Refusals.{class_of}
@@ -20,6 +21,7 @@ use Rattle.hintcheck.specs.FaultTexts.{command_fault_text}
 use Rattle.hintcheck.specs.FontNeeds.{HaveNeeds, needs_line}
 use Rattle.hintcheck_needs.specs.declared.font_needs.Needs.{Needs}
 use Rattle.hintcheck.specs.JsonObjects.{beginning, fault_members, verdict_members}
+use Rattle.hintcheck.specs.Listing.{hex_digits}
 use Rattle.hintcheck.specs.MeansSafe.{IsVerdictBy}
 use Rattle.hintcheck.specs.RefusalClasses.{class_text, number_failing, number_of_class}
 use Rattle.hintcheck.specs.Texts.{profile_text}
@@ -86,9 +88,18 @@ answer_text profile (judged bytes judgement) =
 answer_text profile (unread reported) =
     codes "fault: " ++ unwrap_or (command_fault_text reported) []
 
+-- a byte of a name as a line shows it: a control byte by its digits, as `\x0a`, so that no name ends
+-- a line
+unfoldable pub shown_byte : ℕ → List ℕ
+shown_byte b = if is_ascii_control b then codes "\\x" ++ hex_digits (b ∷ []) else (b ∷ [])
+
+-- what follows the name of a font file in its line
+abbrev pub end_of_line : Profile → Answer → List ℕ
+end_of_line profile answer = codes ": " ++ (answer_text profile answer ++ codes "\n")
+
 -- the line of a font file with this name
 abbrev pub line_of : Profile → List ℕ → Answer → List ℕ
-line_of profile name answer = name ++ (codes ": " ++ (answer_text profile answer ++ codes "\n"))
+line_of profile name answer = flat_map shown_byte name ++ end_of_line profile answer
 
 -- an answer as members of an object
 abbrev pub answer_members : Answer → List ℕ

@@ -24,9 +24,11 @@ mod find_task;
 mod json_objects;
 mod known_refusals;
 mod list_task;
+mod listed_names;
 mod need_lines;
 mod scan_summary;
 mod scan_task;
+mod shown_names;
 mod upgrade_task;
 mod verdict_lines;
 mod verdict_task;
@@ -43,7 +45,7 @@ use find_task::find_verdict;
 use hintcheck_fonts::report::Verdict;
 use hintcheck_words::{ExplainOptions, Profile, Task, TaskFault, read_words};
 use list_task::list_of_file;
-use scan_task::scan_fonts;
+use scan_task::scan_words;
 use std::alloc::AllocError;
 use std::rt::Files;
 use tt_stream::Sink;
@@ -197,7 +199,7 @@ fn do_task<R: Files + AllocGlobal, O: Sink, E: Sink>(
             fonts,
             options,
             expected,
-        } => scan_fonts(rt, fonts, *options, expected, out, err),
+        } => scan_words(rt, fonts, *options, expected, out, err),
         Task::Explain {
             font,
             program,

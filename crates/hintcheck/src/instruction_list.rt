@@ -162,7 +162,7 @@ pub(crate) fn named_program<'a>(
 
 /// Bytes, two hexadecimal digits for each.
 #[derive(Drop)]
-struct Digits<'a>(&'a [u8]);
+pub(crate) struct Digits<'a>(pub &'a [u8]);
 
 impl fmt::Display for Digits<'_> {
     ghost use Rattle.std.specs.Prelude.{Some};

@@ -24,8 +24,8 @@ pub use hintcheck_fonts::{
     verdict_symbolic_within, verdict_within,
 };
 pub use hintcheck_words::{
-    Detail, ExplainOptions, FailOn, Format, Profile, ScanOptions, Task, TaskFault, WordFault,
-    read_words, word_bytes,
+    Detail, ExplainOptions, FailOn, FontWords, Format, Profile, ScanOptions, Task, TaskFault,
+    WordFault, read_words, word_bytes,
 };
 pub use instruction_list::list_program;
 pub use neighbours::{Neighbour, Neighbours};

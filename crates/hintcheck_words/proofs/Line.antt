@@ -142,6 +142,10 @@ scan_needs : IsFlagRule scan_built.rules (codes "NEEDS") (rule_at scan_built (co
 unfolding hintcheck scan_built rule_at clap_on_literals
 scan_needs = record { found = refl; named = refl; parser = refl }
 
+scan_lists : IsFlagRule scan_built.rules (codes "LISTS") (rule_at scan_built (codes "LISTS"))
+unfolding hintcheck scan_built rule_at clap_on_literals
+scan_lists = record { found = refl; named = refl; parser = refl }
+
 explain_points : IsLongNumberRule explain_built.rules (codes "POINTS") (rule_at explain_built (codes "POINTS"))
 unfolding hintcheck explain_built rule_at clap_on_literals
 explain_points = record { found = refl; named = refl; parser = refl }
@@ -201,6 +205,7 @@ meets_one words name rows e found =
             json = flag_among scan_built rows (codes "JSON") (rule_at scan_built (codes "JSON")) at_scan scan_json;
             causes = flag_among scan_built rows (codes "CAUSES") (rule_at scan_built (codes "CAUSES")) at_scan scan_causes;
             needs = flag_among scan_built rows (codes "NEEDS") (rule_at scan_built (codes "NEEDS")) at_scan scan_needs;
+            lists = flag_among scan_built rows (codes "LISTS") (rule_at scan_built (codes "LISTS")) at_scan scan_lists;
           };
       of_explain = λ explain.
           let at_explain = level_at (built hintcheck) name (codes "explain") rows explain_built named explain explain_found in

@@ -2,7 +2,7 @@
 --     hintcheck bare [--symbolic] [--points LIMIT] MAXP CVT POINTS CONTOURS [PROGRAM]
 --     hintcheck verdict [--symbolic] [--points POINTS] [--json] FONT
 --     hintcheck scan [--symbolic] [--points POINTS] [--fail-on CLASS] [--expect FILE] [--json]
---         [--causes] [--needs] FONT..
+--         [--causes] [--needs] [--files-from] FONT..
 --     hintcheck explain [--symbolic] [--points POINTS] [--json] FONT [PROGRAM] [OFFSET]
 --     hintcheck find [--points POINTS] FONT CERT
 --     hintcheck check [--points POINTS] FONT CERT
@@ -85,6 +85,10 @@ causes = flag (codes "CAUSES") (codes "causes")
 abbrev pub needs : Rule
 needs = flag (codes "NEEDS") (codes "needs")
 
+-- the option `--files-from`, by which the words of fonts are those of files that list their names
+abbrev pub files_from : Rule
+files_from = flag (codes "LISTS") (codes "files-from")
+
 -- a subcommand whose arguments are texts that must be given, and the option `--points`
 abbrev pub of_texts_and_points : Text → List Text → App
 of_texts_and_points name ids = with_rule (of_texts name ids) (points (codes "POINTS"))
@@ -104,8 +108,8 @@ verdict = with_rule (with_rule (of_texts_and_points (codes "verdict") (codes "FO
 -- the subcommand `scan`, which checks all programs of each of several font files
 abbrev pub scan : App
 scan = with_rule (with_rule (with_rule (with_rule (with_rule (with_rule (with_rule (with_rule
-    (new_app (codes "scan")) (needed_list (codes "FONT"))) (points (codes "POINTS"))) symbolic)
-    fail_on) expect) json) causes) needs
+    (with_rule (new_app (codes "scan")) (needed_list (codes "FONT"))) (points (codes "POINTS")))
+    symbolic) fail_on) expect) json) causes) needs) files_from
 
 -- the subcommand `explain`, which tells how one program is checked, or why programs are refused
 abbrev pub explain : App

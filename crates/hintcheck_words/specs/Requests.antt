@@ -13,6 +13,8 @@ use Rattle.hintcheck_words.specs.declared.words.Detail.TheVariants as detail
 use Rattle.hintcheck_words.specs.declared.words.ExplainOptions.{ExplainOptions}
 use Rattle.hintcheck_words.specs.declared.words.FailOn.{FailOn}
 use Rattle.hintcheck_words.specs.declared.words.FailOn.TheVariants as fail_on
+use Rattle.hintcheck_words.specs.declared.words.FontWords.{FontWords}
+use Rattle.hintcheck_words.specs.declared.words.FontWords.TheVariants as font_words
 use Rattle.hintcheck_words.specs.declared.words.Format.{Format}
 use Rattle.hintcheck_words.specs.declared.words.Format.TheVariants as format
 use Rattle.hintcheck_words.specs.declared.words.Profile.{Profile}
@@ -106,6 +108,10 @@ scan_format_in rows = if flag_in rows (codes "JSON") then format.Json
     else (if flag_in rows (codes "CAUSES") then format.Causes
     else (if flag_in rows (codes "NEEDS") then format.Needs else format.Lines))
 
+-- what the words of a scan's fonts are
+abbrev pub font_words_in : List Row → FontWords
+font_words_in rows = if flag_in rows (codes "LISTS") then font_words.Lists else font_words.Fonts
+
 -- what is listed of an instruction
 abbrev pub detail_in : List Row → Detail
 detail_in rows = if flag_in rows (codes "NUMBERS") then detail.Numbers else detail.Names
@@ -134,6 +140,7 @@ json_request rows = scan (text_in rows (codes "FONT") ∷ []) (record {
   profile = profile_in rows;
   fail_on = fail_on.Refused;
   format = format.Json;
+  words = font_words.Fonts;
 }) None
 
 -- what `explain` asks for, by what its arguments got: in an object a font without a program of it is
@@ -161,6 +168,7 @@ scan_request rows = scan (texts_in rows (codes "FONT")) (record {
   profile = profile_in rows;
   fail_on = fail_on_in rows;
   format = scan_format_in rows;
+  words = font_words_in rows;
 }) (optional_in rows (codes "FILE"))
 
 -- what `find` asks for, by what its arguments got
@@ -235,6 +243,7 @@ pub record IsReadableScan (rows : List Row) : Type 0 where
   pub json : HasFlag rows (codes "JSON")
   pub causes : HasFlag rows (codes "CAUSES")
   pub needs : HasFlag rows (codes "NEEDS")
+  pub lists : HasFlag rows (codes "LISTS")
 
 -- the options of `explain` can be read
 pub record IsReadableExplain (rows : List Row) : Type 0 where

@@ -6,5 +6,6 @@ mod words;
 
 pub use hex_words::{WordFault, word_bytes};
 pub use words::{
-    Detail, ExplainOptions, FailOn, Format, Profile, ScanOptions, Task, TaskFault, read_words,
+    Detail, ExplainOptions, FailOn, FontWords, Format, Profile, ScanOptions, Task, TaskFault,
+    read_words,
 };

@@ -2,8 +2,8 @@
 
 ghost use Rattle.std.specs.Prelude.{◌≡◌, ◌∷◌, [], IfErr, IfOk, Some, codes, is_some, false, map, option_map, string_bytes};
 ghost use Rattle.clap.specs.Words.{app_of, new_app, rule_of, subcommand_rows_of};
-ghost use Rattle.hintcheck_words.specs.CommandLine.{bare, causes as causes_rule, expect as expect_rule, explain, fail_on as fail_on_rule, flag, hintcheck, json as json_rule, list, needed as needed_rule, needs as needs_rule, needed_number as number_rule, numbers as numbers_rule, of_texts, of_texts_and_points, optional as optional_rule, points as points_rule, scan, symbolic as symbolic_rule, verdict};
-ghost use Rattle.hintcheck_words.specs.Requests.{HasFlag, HasLongNumberIfAny, HasNumber, HasPoints, IsMemoryIfTaken, IsReadable, IsReadableBare, IsReadableExplain, IsReadableScan, IsReadableVerdict, MeetsSubcommand, TellsFault, asked, bare_request, check_request, detail_in, explain_request, fail_on_in, fail_on_named, faults_in, find_request, flag_in, format_in, json_request, list_request, meaning, met, number_in, optional_in, optional_number_in, profile_in, request_of, rows_in, scan_format_in, scan_request, text_in, texts_in, texts_of, verdict_request};
+ghost use Rattle.hintcheck_words.specs.CommandLine.{bare, causes as causes_rule, expect as expect_rule, explain, fail_on as fail_on_rule, files_from as files_from_rule, flag, hintcheck, json as json_rule, list, needed as needed_rule, needs as needs_rule, needed_number as number_rule, numbers as numbers_rule, of_texts, of_texts_and_points, optional as optional_rule, points as points_rule, scan, symbolic as symbolic_rule, verdict};
+ghost use Rattle.hintcheck_words.specs.Requests.{HasFlag, HasLongNumberIfAny, HasNumber, HasPoints, IsMemoryIfTaken, IsReadable, IsReadableBare, IsReadableExplain, IsReadableScan, IsReadableVerdict, MeetsSubcommand, TellsFault, asked, bare_request, check_request, detail_in, explain_request, fail_on_in, fail_on_named, faults_in, find_request, flag_in, font_words_in, format_in, json_request, list_request, meaning, met, number_in, optional_in, optional_number_in, profile_in, request_of, rows_in, scan_format_in, scan_request, text_in, texts_in, texts_of, verdict_request};
 
 use clap::error::ErrorKind;
 use clap::{Arg, ArgAction, ArgMatches, Command, value_parser};
@@ -54,6 +54,15 @@ pub enum Detail {
     Numbers,
 }
 
+/// What the words of a scan's fonts are.
+#[derive(Clone, Copy, Debug, PartialEq, Eq)]
+pub enum FontWords {
+    /// The names of font files.
+    Fonts,
+    /// The names of files that list the names of font files, a line for each.
+    Lists,
+}
+
 /// How the font files of a scan are checked, and what is printed of them.
 #[derive(Clone, Copy, Debug, PartialEq, Eq)]
 pub struct ScanOptions {
@@ -65,6 +74,8 @@ pub struct ScanOptions {
     pub fail_on: FailOn,
     /// The form in which the answers are printed.
     pub format: Format,
+    /// What the words of its fonts are.
+    pub words: FontWords,
 }
 
 /// How a program of a font file is explained.
@@ -109,7 +120,7 @@ pub enum Task {
     },
     /// Checks all programs of each of several font files.
     Scan {
-        /// The names of the font files.
+        /// The words of the fonts: their names, or those of files that list them.
         fonts: Vec<String>,
         /// How they are checked, and what is printed.
         options: ScanOptions,
@@ -461,6 +472,20 @@ fn needs_option<'a>(alloc: Global) -> Arg<'a>
     )
 }
 
+/// Makes the option `--files-from`.
+fn lists_option<'a>(alloc: Global) -> Arg<'a>
+    ensures rule { rule_of result ≡ files_from_rule }
+    ensures local { result.global ≡ false }
+{
+    flag_option(
+        alloc,
+        "LISTS",
+        "files-from",
+        "Each FONT is a file that lists the names of font files, a line for each; `-` is the \
+        standard input",
+    )
+}
+
 /// Makes the subcommand `scan`.
 ///
 /// # Errors
@@ -480,7 +505,8 @@ fn scan_command<'a>(alloc: Global) -> Result<Command<'a>, AllocError>
         .arg(expect_option(alloc))?
         .arg(json_option(alloc, "Prints an object of JSON for each font, in a line"))?
         .arg(causes_option(alloc))?
-        .arg(needs_option(alloc))
+        .arg(needs_option(alloc))?
+        .arg(lists_option(alloc))
 }
 
 /// Makes an argument that may be left out.
@@ -678,6 +704,18 @@ fn asked_scan_format(values: &ArgMatches<'_>) -> Format
     }
 }
 
+/// Returns what the words of a scan's fonts are.
+fn asked_words(values: &ArgMatches<'_>) -> FontWords
+    requires { HasFlag (rows_in values.now) (codes "LISTS") }
+    ensures { result ≡ font_words_in (rows_in values.now) }
+{
+    if is_given(values, "LISTS") {
+        FontWords::Lists
+    } else {
+        FontWords::Fonts
+    }
+}
+
 /// Returns what the words ask to be listed of an instruction.
 fn asked_detail(values: &ArgMatches<'_>) -> Detail
     requires { HasFlag (rows_in values.now) (codes "NUMBERS") }
@@ -758,6 +796,7 @@ fn json_task(alloc: Global, values: &ArgMatches<'_>) -> Result<Task, AllocError>
             profile: asked_profile(values),
             fail_on: FailOn::Refused,
             format: Format::Json,
+            words: FontWords::Fonts,
         },
         expected: None,
     })
@@ -827,6 +866,7 @@ fn scan_task(alloc: Global, values: &ArgMatches<'_>) -> Result<Task, AllocError>
             profile: asked_profile(values),
             fail_on: asked_class(values),
             format: asked_scan_format(values),
+            words: asked_words(values),
         },
         expected: optional_text(alloc, values, "FILE")?,
     })

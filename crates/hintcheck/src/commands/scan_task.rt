@@ -5,25 +5,29 @@ ghost use Rattle.std.specs.Io.KnownBytes.{Appends};
 ghost use Rattle.tt_code.specs.Refusals.{class_of};
 ghost use Rattle.tt_stream.specs.Streams.{CountsPrintFailure};
 ghost use Rattle.hintcheck.specs.Commands.{TellsFailure, status_of};
-ghost use Rattle.hintcheck.specs.CommandFaults.{HasNoFaultOfScan, IsFaultOfFontFile, IsFaultOfLines, IsFaultOfPrinting, IsFaultOfScanning, IsFaultOfTelling};
+ghost use Rattle.hintcheck_words.specs.Requests.{scan};
+ghost use Rattle.hintcheck.specs.CommandFaults.{HasNoFault, HasNoFaultOfScan, IsFaultOfFontFile, IsFaultOfLines, IsFaultOfPrinting, IsFaultOfScanning, IsFaultOfTask, IsFaultOfTelling};
 ghost use Rattle.hintcheck.specs.ExpectedScans.{PrintsScanning};
-ghost use Rattle.hintcheck.specs.MeansSafe.{IsRefusedScan, IsSafeScan, TellsFonts, TellsScan};
+ghost use Rattle.hintcheck.specs.MeansSafe.{IsRefusedRequest, IsRefusedScan, IsSafeRequest, IsSafeScan, TellsFonts, TellsScan};
+ghost use Rattle.hintcheck.specs.Printed.{Prints};
 ghost use Rattle.hintcheck.specs.RefusalClasses.{class_text, number_failing, number_of_class};
 ghost use Rattle.hintcheck.specs.Representation.Expectations.{IsFaultOfNoting, NotesScan, expected as expected_by};
-ghost use Rattle.hintcheck.specs.Scans.{IsOfScan, TellsFont, TellsLineAndCauses, TellsLineAndNeeds, counts_text, judged, left_out_text, line_of, status_of_answer, status_of_failing, unread};
+ghost use Rattle.hintcheck.specs.Scans.{IsOfScan, TellsFont, TellsLineAndCauses, TellsLineAndNeeds, counts_text, end_of_line, judged, left_out_text, line_of, status_of_answer, status_of_failing, unread};
 ghost use Rattle.hintcheck.specs.Texts.{profile_text};
 
 use super::cause_lines::print_causes;
 use super::expectation::Expectation;
 use super::faults::CommandFault;
 use super::json_objects::{print_fault_object, print_verdict_object};
+use super::listed_names::listed_names;
 use super::need_lines::print_needs;
 use super::scan_summary::{Tally, tell_summary};
+use super::shown_names::print_shown;
 use super::verdict_lines::end_of_profile;
 use super::verdict_task::{JudgedFont, judged_font};
 use super::{ACCEPTED, REFUSED};
 use hintcheck_fonts::report::{Name, Refused, Verdict};
-use hintcheck_words::{FailOn, Format, Profile, ScanOptions};
+use hintcheck_words::{FailOn, FontWords, Format, Profile, ScanOptions};
 use std::alloc::Global;
 use std::rt::Files;
 use tt_code::{Reason, ReasonClass};
@@ -66,29 +70,52 @@ fn print_left_out<O: Sink>(out: &mut O, count: usize) -> Result<(), PrintFailed>
     write!(out, ", {count} left out")
 }
 
-/// Prints the line of a font of which glyph programs are refused, with how many of them are refused
-/// by this profile as a possible fault, as undecided, and as left out by choice.
+/// Prints the end of the line of a font of which glyph programs are refused, with how many of them
+/// are refused by this profile as a possible fault, as undecided, and as left out by choice.
 fn print_counts<O: Sink>(
     out: &mut O,
-    name: &str,
     programs: u32,
     refused: &[Refused],
     profile: Profile,
 ) -> Result<(), PrintFailed>
     ensures written { OnOk result (Appends (O.contents out.old) (O.contents out.new)
-        (name.now ++ (codes ": refused: "
-        ++ ((counts_text programs refused.now ++ profile_text profile) ++ codes "\n")))) }
+        (codes ": refused: "
+        ++ ((counts_text programs refused.now ++ profile_text profile) ++ codes "\n"))) }
     ensures failures { CountsPrintFailure result (O.failures out.old) (O.failures out.new) }
 {
     let count = refused.len();
     let possible = count_of(refused, ReasonClass::PossibleFault);
     let undecided = count_of(refused, ReasonClass::Undecided);
     let left_out = count_of(refused, ReasonClass::LeftOut);
-    write!(out, "{name}: refused: {count} of {programs} programs ")?;
+    write!(out, ": refused: {count} of {programs} programs ")?;
     write!(out, "({possible} possible faults, {undecided} undecided")?;
     print_left_out(out, left_out)?;
     let end = end_of_profile(profile);
     writeln!(out, "){end}")
+}
+
+/// Prints what follows a font's name in its line: its verdict, one of this profile.
+fn print_answer<O: Sink>(
+    out: &mut O,
+    verdict: &Verdict,
+    profile: Profile,
+) -> Result<(), PrintFailed>
+    // It is the same for all bytes of the font.
+    ensures written { OnOk result (Appends (O.contents out.old) (O.contents out.new)
+        (end_of_line profile (judged [] verdict.now))) }
+    ensures failures { CountsPrintFailure result (O.failures out.old) (O.failures out.new) }
+{
+    let programs = verdict.programs();
+    let end = end_of_profile(profile);
+    let Some(first) = verdict.refused().first() else {
+        return writeln!(out, ": accepted: {programs} programs{end}");
+    };
+    let class = text_of_class(first.reason);
+    match first.program {
+        Name::Font => writeln!(out, ": refused: font program ({class}){end}"),
+        Name::Cvt => writeln!(out, ": refused: cvt program ({class}){end}"),
+        Name::Glyph(_) => print_counts(out, programs, verdict.refused(), profile),
+    }
 }
 
 /// Prints the line of a font, whose verdict is one of this profile.
@@ -98,22 +125,12 @@ fn print_line<O: Sink>(
     verdict: &Verdict,
     profile: Profile,
 ) -> Result<(), PrintFailed>
-    // The line is the same for all bytes of the font.
     ensures written { OnOk result (Appends (O.contents out.old) (O.contents out.new)
         (line_of profile name.now (judged [] verdict.now))) }
     ensures failures { CountsPrintFailure result (O.failures out.old) (O.failures out.new) }
 {
-    let programs = verdict.programs();
-    let end = end_of_profile(profile);
-    let Some(first) = verdict.refused().first() else {
-        return writeln!(out, "{name}: accepted: {programs} programs{end}");
-    };
-    let class = text_of_class(first.reason);
-    match first.program {
-        Name::Font => writeln!(out, "{name}: refused: font program ({class}){end}"),
-        Name::Cvt => writeln!(out, "{name}: refused: cvt program ({class}){end}"),
-        Name::Glyph(_) => print_counts(out, name, programs, verdict.refused(), profile),
-    }
+    print_shown(out, name)?;
+    print_answer(out, verdict, profile)
 }
 
 /// Returns for how many of the refused programs a scan fails.
@@ -224,7 +241,8 @@ fn tell_unread<O: Sink>(
     match options.format {
         Format::Json => print_fault_object(alloc, out, name, fault, options.profile),
         Format::Lines | Format::Causes | Format::Needs => {
-            Ok(writeln!(out, "{name}: fault: {fault}")?)
+            print_shown(out, name)?;
+            Ok(writeln!(out, ": fault: {fault}")?)
         }
     }
 }
@@ -350,7 +368,7 @@ pub(super) fn name_in(name: &Option<String>) -> Option<&str>
 /// failed; `OutOfMemory` where memory ran out at an object, at causes or at the line of a refused
 /// program; after the last line, `File` where the file of known refusals can't be written,
 /// `ScanFault` where the greatest status is 2, and `ScanUnfinished` where it is 3.
-pub(super) fn scan_fonts<R: Files + AllocGlobal, O: Sink, E: Sink>(
+fn scan_fonts<R: Files + AllocGlobal, O: Sink, E: Sink>(
     rt: &R,
     fonts: &[String],
     options: ScanOptions,
@@ -390,5 +408,51 @@ pub(super) fn scan_fonts<R: Files + AllocGlobal, O: Sink, E: Sink>(
         1 => Ok(REFUSED),
         2 => Err(CommandFault::ScanFault),
         _ => Err(CommandFault::ScanUnfinished),
+    }
+}
+
+/// Scans the font files that these words name, or of which they name lists, as `scan_fonts` does.
+///
+/// # Errors
+/// Before anything is printed `Unopened`, `Read` or `OutOfMemory` where a list can't be read; those of
+/// `scan_fonts`.
+pub(super) fn scan_words<R: Files + AllocGlobal, O: Sink, E: Sink>(
+    rt: &R,
+    words: &[String],
+    options: ScanOptions,
+    expected: &Option<String>,
+    out: &mut O,
+    err: &mut E,
+) -> Result<u8, CommandFault>
+    ensures status { IfOk result (λ status. status ≤ 1) }
+    ensures safe { IfOk result (λ status. status ≡ 0 → IsSafeRequest (scan
+        (map (λ s. string_bytes s) words.now) options
+        (option_map (λ s. string_bytes s) expected.now))) }
+    ensures refused { IfOk result (λ status. status ≡ 1 → IsRefusedRequest (scan
+        (map (λ s. string_bytes s) words.now) options
+        (option_map (λ s. string_bytes s) expected.now))) }
+    ensures printed { IfOk result (λ status. Prints (scan
+        (map (λ s. string_bytes s) words.now) options
+        (option_map (λ s. string_bytes s) expected.now))
+        status (O.contents out.old) (O.contents out.new)) }
+    ensures scanned { IfErr result (λ fault. IsOfScan fault → Prints (scan
+        (map (λ s. string_bytes s) words.now) options
+        (option_map (λ s. string_bytes s) expected.now))
+        (status_of fault) (O.contents out.old) (O.contents out.new)) }
+    ensures failures { TellsFailure result (O.failures out.old) (O.failures out.new) }
+    ensures faults { IfErr result (IsFaultOfTask (scan
+        (map (λ s. string_bytes s) words.now) options
+        (option_map (λ s. string_bytes s) expected.now))) }
+    ensures none { OnOk result (HasNoFault (scan
+        (map (λ s. string_bytes s) words.now) options
+        (option_map (λ s. string_bytes s) expected.now))) }
+    ensures untold { E.failures err.old ≤ E.failures err.new }
+{
+    match options.words {
+        FontWords::Fonts => scan_fonts(rt, words, options, expected, out, err),
+        FontWords::Lists => {
+            let fonts = listed_names(rt, words)?;
+            scan_fonts(rt, &fonts, options, expected, out, err)
+        }
     }
 }

@@ -33,28 +33,28 @@ verdict_on-requires g c = for_verdict c.args.task.now c.in_default.not-Scan c.in
 
 pub returns-in-Scan-clause-safe : goal.returns-in-Scan-clause-safe
 unfolding asked
-returns-in-Scan-clause-safe g c = IfOk-weaker c.scan_fonts.result _ _ (λ status safe zero. rw c.in-Scan.is (rw (← c.deref.ensures.value) (safe zero))) c.scan_fonts.ensures.safe
+returns-in-Scan-clause-safe g c = IfOk-weaker c.scan_words.result _ _ (λ status safe zero. rw c.in-Scan.is (rw (← c.deref.ensures.value) (safe zero))) c.scan_words.ensures.safe
 
 pub returns-in-Scan-clause-refused : goal.returns-in-Scan-clause-refused
 unfolding asked
-returns-in-Scan-clause-refused g c = IfOk-weaker c.scan_fonts.result _ _ (λ status refused one. rw c.in-Scan.is (rw (← c.deref.ensures.value) (refused one))) c.scan_fonts.ensures.refused
+returns-in-Scan-clause-refused g c = IfOk-weaker c.scan_words.result _ _ (λ status refused one. rw c.in-Scan.is (rw (← c.deref.ensures.value) (refused one))) c.scan_words.ensures.refused
 
 pub returns-in-Scan-clause-printed : goal.returns-in-Scan-clause-printed
 unfolding asked
-returns-in-Scan-clause-printed g c = IfOk-weaker c.scan_fonts.result _ _ (λ status printed. rw c.in-Scan.is (rw (← c.deref.ensures.value) printed)) c.scan_fonts.ensures.printed
+returns-in-Scan-clause-printed g c = IfOk-weaker c.scan_words.result _ _ (λ status printed. rw c.in-Scan.is (rw (← c.deref.ensures.value) printed)) c.scan_words.ensures.printed
 
 pub returns-in-Scan-clause-scanned : goal.returns-in-Scan-clause-scanned
 unfolding asked
-returns-in-Scan-clause-scanned g c = IfErr-weaker c.scan_fonts.result _ _ (λ told scanned of. rw c.in-Scan.is (rw (← c.deref.ensures.value) (scanned of))) c.scan_fonts.ensures.scanned
+returns-in-Scan-clause-scanned g c = IfErr-weaker c.scan_words.result _ _ (λ told scanned of. rw c.in-Scan.is (rw (← c.deref.ensures.value) (scanned of))) c.scan_words.ensures.scanned
 
 pub returns-in-Scan-clause-faults : goal.returns-in-Scan-clause-faults
 unfolding asked
 returns-in-Scan-clause-faults g c =
-    IfErr-weaker c.scan_fonts.result _ _ (λ told is. rw c.in-Scan.is (rw (← c.deref.ensures.value) is)) c.scan_fonts.ensures.faults
+    IfErr-weaker c.scan_words.result _ _ (λ told is. rw c.in-Scan.is (rw (← c.deref.ensures.value) is)) c.scan_words.ensures.faults
 
 pub returns-in-Scan-clause-none : goal.returns-in-Scan-clause-none
 unfolding asked
-returns-in-Scan-clause-none g c = on_ok_weaker c.scan_fonts.result (λ none. rw c.in-Scan.is (rw (← c.deref.ensures.value) none)) c.scan_fonts.ensures.none
+returns-in-Scan-clause-none g c = on_ok_weaker c.scan_words.result (λ none. rw c.in-Scan.is (rw (← c.deref.ensures.value) none)) c.scan_words.ensures.none
 
 pub returns-in-Explain-clause-safe : goal.returns-in-Explain-clause-safe
 unfolding asked

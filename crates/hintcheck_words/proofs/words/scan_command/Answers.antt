@@ -1,7 +1,7 @@
 use Rattle.std.proofs.Common.{rules, ap₂, codes, ◌≡◌, ◌∙◌}
 use Rattle.std.proofs.lemmas.Result.{IfOk-weaker}
 use Rattle.clap.specs.Words.{rule_of, with_rule}
-use Rattle.hintcheck_words.specs.CommandLine.{causes, expect, fail_on, json, needed_list, needs, points, symbolic}
+use Rattle.hintcheck_words.specs.CommandLine.{causes, expect, fail_on, files_from, json, needed_list, needs, points, symbolic}
 use Rattle.hintcheck_words.proofs.Building.{range_set}
 use Rattle.hintcheck_words.proofs.words.scan_command.Goals as goal
 
@@ -15,11 +15,13 @@ returns c =
     let json_is : rule_of c.json_option.result ≡ json = search rules in
     let causes_is : rule_of c.causes_option.result ≡ causes = search rules in
     let needs_is : rule_of c.needs_option.result ≡ needs = search rules in
-    IfOk-weaker c.arg-8.result _ _ (λ r h. h.shape (search rules) ∙ ap₂ with_rule
+    let lists_is : rule_of c.lists_option.result ≡ files_from = search rules in
+    IfOk-weaker c.arg-9.result _ _ (λ r h. h.shape (search rules) ∙ ap₂ with_rule
+    (c.in_ok-arg-8.ensures.shape (search rules) ∙ ap₂ with_rule
     (c.in_ok-arg-7.ensures.shape (search rules) ∙ ap₂ with_rule
     (c.in_ok-arg-6.ensures.shape (search rules) ∙ ap₂ with_rule
     (c.in_ok-arg-5.ensures.shape (search rules) ∙ ap₂ with_rule
     (c.in_ok-arg-4.ensures.shape (search rules) ∙ ap₂ with_rule
     (c.in_ok-arg-3.ensures.shape (search rules) ∙ ap₂ with_rule
     (c.in_ok-arg-2.ensures.shape (search rules) ∙ ap₂ with_rule
-    (c.in_ok-arg.ensures.shape (search rules) ∙ ap₂ with_rule c.plain_command.ensures font_is) points_is) symbolic_is) fail_on_is) expect_is) json_is) causes_is) needs_is) c.arg-8.ensures
+    (c.in_ok-arg.ensures.shape (search rules) ∙ ap₂ with_rule c.plain_command.ensures font_is) points_is) symbolic_is) fail_on_is) expect_is) json_is) causes_is) needs_is) lists_is) c.arg-9.ensures

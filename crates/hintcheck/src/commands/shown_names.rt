@@ -1,0 +1,37 @@
+//! The names of files as lines show them.
+
+ghost use Rattle.std.specs.Prelude.{flat_map, OnOk};
+ghost use Rattle.std.specs.Io.KnownBytes.{Appends};
+ghost use Rattle.tt_stream.specs.Streams.{CountsPrintFailure};
+ghost use Rattle.hintcheck.specs.Scans.{shown_byte};
+
+use crate::instruction_list::Digits;
+use tt_stream::{PrintFailed, Sink, write_all};
+
+/// Prints a byte of a name: a control byte by its digits.
+fn print_byte<O: Sink>(out: &mut O, byte: u8) -> Result<(), PrintFailed>
+    ensures written { OnOk result
+        (Appends (O.contents out.old) (O.contents out.new) (shown_byte byte)) }
+    ensures failures { CountsPrintFailure result (O.failures out.old) (O.failures out.new) }
+{
+    let bytes = [byte];
+    if byte.is_ascii_control() {
+        return write!(out, "\\x{}", Digits(&bytes));
+    }
+    match write_all(out, &bytes) {
+        Ok(()) => Ok(()),
+        Err(_) => Err(PrintFailed::Write),
+    }
+}
+
+/// Prints the name of a file, with its control bytes as `\x0a`, so that no name ends a line.
+pub(super) fn print_shown<O: Sink>(out: &mut O, name: &str) -> Result<(), PrintFailed>
+    ensures written { OnOk result (Appends (O.contents out.old) (O.contents out.new)
+        (flat_map shown_byte name.now)) }
+    ensures failures { CountsPrintFailure result (O.failures out.old) (O.failures out.new) }
+{
+    for &byte in name.as_bytes() {
+        print_byte(out, byte)?;
+    }
+    Ok(())
+}
