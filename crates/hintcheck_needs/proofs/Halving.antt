@@ -3,9 +3,8 @@ use Rattle.std.proofs.Common.{◌≡◌, ℕ, suc, ◌+◌, ◌<◌, ◌≤◌, 
 use Rattle.std.specs.Prelude.{◌↔◌, IsTrue}
 use Rattle.tt_cert.specs.declared.name.Name.{Name}
 use Rattle.tt_font.specs.Reading.{FontData}
-use Rattle.hintcheck_needs.specs.Bounds.{with_number}
-use Rattle.hintcheck_needs.specs.Needs.{IsLeastEnough, Refuses, RefusesOthers, TellsSame, greatest_number}
-use Rattle.hintcheck_needs.specs.declared.bound.Bound.{Bound}
+use Rattle.hintcheck_report.specs.declared.bound.Bound.{Bound}
+use Rattle.hintcheck_needs.specs.Needs.{IsLeastEnough, Refuses, RefusesOthers, TellsSame, greatest_number, with_number}
 use Rattle.hintcheck_needs.specs.declared.profile.Profile.{Profile}
 
 -- the programs that were found are these, or others

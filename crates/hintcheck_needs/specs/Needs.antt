@@ -2,17 +2,24 @@
 use Rattle.std.specs.Prelude.{◌≡◌, ◌≢◌, ℕ, suc, List, map, Bool, true, false}
 use Rattle.tt_cert.specs.declared.name.Name.{Name}
 use Rattle.tt_font.specs.Reading.{FontData}
+use Rattle.hintcheck_report.specs.Bounds.{cvt_count_with, declared_number, limits_with}
+use Rattle.hintcheck_report.specs.declared.bound.Bound.{Bound}
+use Rattle.hintcheck_report.specs.declared.bound.Bound.TheVariants.{StackElements, Storage, FunctionDefs, ControlValues}
 use Rattle.hintcheck_report.specs.declared.refused.Refused.{Refused}
 use Rattle.hintcheck_fonts.specs.FontPrograms.{IsVerdict}
 use Rattle.hintcheck_fonts.specs.SymbolicVerdicts.{IsSymbolicVerdict}
 use Rattle.hintcheck_fonts.specs.Verdicts.{Judgement}
-use Rattle.hintcheck_needs.specs.Bounds.{declared_number, with_number}
-use Rattle.hintcheck_needs.specs.declared.bound.Bound.{Bound}
-use Rattle.hintcheck_needs.specs.declared.bound.Bound.TheVariants.{StackElements, Storage, FunctionDefs, ControlValues}
 use Rattle.hintcheck_needs.specs.declared.font_needs.Need.{Need}
 use Rattle.hintcheck_needs.specs.declared.font_needs.Needs.{Needs}
 use Rattle.hintcheck_needs.specs.declared.profile.Profile.{Profile}
 use Rattle.hintcheck_needs.specs.declared.profile.Profile.TheVariants.{Strict, Symbolic}
+
+-- the font with another number in its place
+abbrev pub with_number : FontData → Bound → ℕ → FontData
+with_number d bound n = record d {
+  limits = limits_with d.limits bound n;
+  cvt_count = cvt_count_with d.cvt_count bound n;
+}
 
 -- a verdict of this profile on the font
 abbrev pub IsVerdictBy : Profile → FontData → Judgement → Type 0
@@ -55,7 +62,7 @@ pub record IsLeastEnough (profile : Profile) (d : FontData) (bound : Bound) (n :
 -- what a font needs of one number, and what it has
 pub record IsNeed (profile : Profile) (d : FontData) (bound : Bound) (need : Need) : Type 0 where
   pub least : IsLeastEnough profile d bound need.least
-  pub declared : need.declared ≡ declared_number d bound
+  pub declared : need.declared ≡ declared_number d.limits d.cvt_count bound
 
 -- what is told of one number
 abbrev pub need_of : Needs → Bound → Need

@@ -7,10 +7,10 @@ ghost use Rattle.tt_font.specs.Reading.{FontData, Reads};
 ghost use Rattle.hintcheck_fonts.specs.BudgetAnswers.{VerdictTellsBudget, VerdictTellsFontFault};
 ghost use Rattle.hintcheck_needs.specs.Needs.{AreNeeds, IsNeed, need_of};
 
-use crate::bound::Bound;
 use crate::least::least_enough;
 use crate::profile::Profile;
 use hintcheck_fonts::{VerdictFault, read_font};
+use hintcheck_report::Bound;
 use std::alloc::Global;
 use tt_abs::Exhausted;
 use tt_family::Budget;
@@ -69,7 +69,7 @@ fn one_need(
     ensures budget { EndTellsBudget points.old points.new result }
 {
     let least = least_enough(alloc, font, profile, bound, points)?;
-    let declared = bound.declared(font);
+    let declared = bound.declared(font.limits(), font.cvt_count());
     Ok(Need { least, declared })
 }
 

@@ -2,12 +2,11 @@
 
 ghost use Rattle.std.specs.Prelude.{◌≡◌, ◌↔◌, IfOk, IsTrue};
 ghost use Rattle.tt_family.specs.Budgets.{EndTellsBudget, Spends};
-ghost use Rattle.hintcheck_needs.specs.Bounds.{with_number};
-ghost use Rattle.hintcheck_needs.specs.Needs.{IsLeastEnough, Refuses, TellsSame, refused_names};
+ghost use Rattle.hintcheck_needs.specs.Needs.{IsLeastEnough, Refuses, TellsSame, refused_names, with_number};
 
-use crate::bound::Bound;
+use crate::numbers::replace_number;
 use crate::profile::{Profile, refused_by};
-use hintcheck_report::Refused;
+use hintcheck_report::{Bound, Refused};
 use std::alloc::Global;
 use tt_abs::Exhausted;
 use tt_family::Budget;
@@ -49,7 +48,7 @@ fn refused_with(
 {
     let limits = font.limits();
     let cvt_count = font.cvt_count();
-    bound.replace(font, number);
+    replace_number(font, bound, number);
     let refused = refused_by(alloc, font, profile, points);
     font.set_limits(limits, cvt_count);
     refused
@@ -83,12 +82,12 @@ fn refuses_same(
 /// number before it doesn't. Some ten verdicts are made, and at most 18.
 ///
 /// A program that is refused whatever the number needs nothing of it: so where a font declares too
-/// low a number, raise that one (`Bound::replace`) before asking for the others. What the numbers
+/// low a number, raise that one (`replace_number`) before asking for the others. What the numbers
 /// below and above the answer do, except for the one before it, isn't promised.
 ///
 /// # Errors
-/// `Memory` where memory runs out; `Budget`, by the strict profile alone, where more points were to
-/// be made than the budget allows, for all verdicts together. The font is as it was, here too.
+/// `Memory` where memory runs out; `Budget`, by the strict profile alone, where more points were
+/// to be made than the budget allows, for all verdicts together. The font is as it was, here too.
 pub fn least_enough(
     alloc: Global,
     font: &mut Font<'_>,
@@ -105,7 +104,8 @@ pub fn least_enough(
     let mut low = 0;
     let mut high = u16::MAX;
     // The font's own number first, if it is below the greatest one.
-    let mut number = bound.declared(font).min(65_534) as u16;
+    let declared = bound.declared(font.limits(), font.cvt_count());
+    let mut number = declared.min(65_534) as u16;
     while low < high {
         if refuses_same(alloc, font, profile, bound, number, &refused, points)? {
             high = number;

@@ -2,8 +2,7 @@ use Rattle.std.proofs.Common.{◌∙◌, ℕ, ◌+◌, ◌<◌, List, Bool, arit
 use Rattle.tt_family.proofs.Spending.{spends_on}
 use Rattle.tt_font.specs.Reading.{FontData}
 use Rattle.hintcheck_report.specs.declared.refused.Refused.{Refused}
-use Rattle.hintcheck_needs.specs.Bounds.{with_number}
-use Rattle.hintcheck_needs.specs.Needs.{TellsSame, refused_names}
+use Rattle.hintcheck_needs.specs.Needs.{TellsSame, refused_names, with_number}
 use Rattle.hintcheck_needs.proofs.Halving.{IsBetween, is_between_all, is_enough, is_least, is_not_enough}
 use Rattle.hintcheck_needs.proofs.least.least_enough.Goals as goal
 use Rattle.hintcheck_needs.proofs.least.least_enough.Goals.{then-branch, else-branch}
