@@ -3,13 +3,13 @@
 //! programs as with the greatest one, and with one less others.
 #![tactic(auto)]
 
+pub mod analysis;
 pub mod font_needs;
 pub mod least;
 pub mod numbers;
-pub mod profile;
 
+pub use analysis::Analysis;
 pub use font_needs::{Need, Needs, needs_in};
 pub use hintcheck_report::Bound;
 pub use least::least_enough;
 pub use numbers::replace_number;
-pub use profile::Profile;
