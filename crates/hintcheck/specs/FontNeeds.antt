@@ -3,12 +3,12 @@ use Rattle.std.specs.Prelude.{ℕ, List, ◌++◌, codes, Option}
 use Rattle.std.specs.Fmt.{decimal}
 use Rattle.std.specs.Io.KnownBytes.{Appends}
 use Rattle.tt_font.specs.Reading.{FontData, Reads}
-use Rattle.hintcheck_needs.specs.Bounds.{name_of}
+use Rattle.hintcheck_report.specs.Bounds.{name_of}
+use Rattle.hintcheck_report.specs.declared.bound.Bound.{Bound}
+use Rattle.hintcheck_report.specs.declared.bound.Bound.TheVariants.{StackElements, Storage, FunctionDefs, ControlValues}
 use Rattle.hintcheck_needs.specs.Needs.{AreNeeds, need_of}
-use Rattle.hintcheck_needs.specs.declared.bound.Bound.{Bound}
-use Rattle.hintcheck_needs.specs.declared.bound.Bound.TheVariants.{StackElements, Storage, FunctionDefs, ControlValues}
 use Rattle.hintcheck_needs.specs.declared.font_needs.Needs.{Needs}
-use Rattle.hintcheck_needs.specs.declared.profile.Profile.TheVariants as judged_by
+use Rattle.hintcheck_needs.specs.declared.analysis.Analysis.TheVariants as judged_by
 use Rattle.hintcheck_words.specs.declared.words.Profile.{Profile}
 use Rattle.hintcheck_words.specs.declared.words.Profile.TheVariants.{Strict, Symbolic}
 

@@ -7,14 +7,13 @@ ghost use Rattle.tt_abs.specs.Settings.{setting_of};
 ghost use Rattle.tt_abs.specs.StateFlow.{FunctionsFit};
 ghost use Rattle.tt_find.specs.FoundSubjects.{IsJustifiedFor};
 ghost use Rattle.hintcheck_explain.specs.Faults.{HasLeast, TellsFailure};
-ghost use Rattle.hintcheck_explain.specs.Representation.Needs.{raised};
+ghost use Rattle.hintcheck_explain.specs.Representation.Needs.{KeepsFunctions, raised};
 
 use crate::asked::{Asked, ExplainFault};
-use hintcheck_report::Place;
+use hintcheck_report::{Bound, Place};
 use std::alloc::Global;
-use std::fmt;
 use tt_abs::{Exhausted, Refusal, Setting};
-use tt_code::{Limits, Reason};
+use tt_code::Reason;
 use tt_family::Budget;
 use tt_find::explore;
 use tt_stream::Sink;
@@ -22,63 +21,23 @@ use tt_stream::Sink;
 /// How many searches find the least number of 16 bits.
 const SEARCHES: usize = 16;
 
-/// A limit of the font that can be raised.
-#[derive(Clone, Copy)]
-enum Limit {
-    /// maxStackElements.
-    Stack,
-    /// maxStorage.
-    Storage,
-    /// How many control values the font has.
-    ControlValues,
-}
-
-impl fmt::Display for Limit {
-    fn fmt<W: fmt::Write>(&self, f: &mut fmt::Formatter<W>) -> fmt::Result {
-        match self {
-            Limit::Stack => write!(f, "maxStackElements"),
-            Limit::Storage => write!(f, "maxStorage"),
-            Limit::ControlValues => write!(f, "the number of control values"),
-        }
-    }
-}
-
 /// Returns the limit that a program passes that is refused for this reason, if it can be raised.
-fn limit_of(reason: Reason) -> Option<Limit> {
+fn limit_of(reason: Reason) -> Option<Bound>
+    ensures { IfSome result KeepsFunctions }
+{
     match reason {
-        Reason::Overflow => Some(Limit::Stack),
-        Reason::Storage => Some(Limit::Storage),
-        Reason::Cvt => Some(Limit::ControlValues),
+        Reason::Overflow => Some(Bound::StackElements),
+        Reason::Storage => Some(Bound::Storage),
+        Reason::Cvt => Some(Bound::ControlValues),
         _ => None,
     }
 }
 
-/// Returns the setting where the limit has this number.
-fn with_limit<'a>(setting: &Setting<'a>, limit: Limit, number: u16) -> Setting<'a>
-    ensures raised { result ≡ raised setting.now limit number }
-    ensures start { result.start ≡ setting.now.start }
-    ensures functions { result.limits.functions ≡ setting.now.limits.functions }
-{
-    let limits = setting.limits;
+/// Returns what the limit is called in a sentence.
+fn words_for(limit: Bound) -> &'static str {
     match limit {
-        Limit::Stack => Setting {
-            limits: Limits {
-                stack: number,
-                ..limits
-            },
-            ..*setting
-        },
-        Limit::Storage => Setting {
-            limits: Limits {
-                storage: number,
-                ..limits
-            },
-            ..*setting
-        },
-        Limit::ControlValues => Setting {
-            cvt: u32::from(number),
-            ..*setting
-        },
+        Bound::ControlValues => "the number of control values",
+        _ => limit.name(),
     }
 }
 
@@ -86,10 +45,11 @@ fn with_limit<'a>(setting: &Setting<'a>, limit: Limit, number: u16) -> Setting<'
 fn fault_with(
     alloc: Global,
     setting: &Setting<'_>,
-    limit: Limit,
+    limit: Bound,
     number: u16,
     budget: &mut Budget,
 ) -> Result<Option<Refusal>, Exhausted>
+    requires keeps { KeepsFunctions limit }
     requires ascends { Ascends setting.now.start.now }
     requires fits { FunctionsFit (setting_of setting.now) setting.now.start.now }
     ensures accepted { IfOk result
@@ -97,7 +57,11 @@ fn fault_with(
     ensures refused { IfOk result
         (λ fault. IfSome fault (IsJustifiedFor (raised setting.now limit number))) }
 {
-    let raised = with_limit(setting, limit, number);
+    let raised = Setting {
+        limits: limit.limits_with(setting.limits, number),
+        cvt: limit.cvt_count_with(setting.cvt, number),
+        ..*setting
+    };
     Ok(explore(alloc, &raised, budget)?.into_fault())
 }
 
@@ -106,9 +70,10 @@ fn fault_with(
 fn least_number(
     alloc: Global,
     setting: &Setting<'_>,
-    limit: Limit,
+    limit: Bound,
     budget: &mut Budget,
 ) -> Result<u16, Exhausted>
+    requires keeps { KeepsFunctions limit }
     requires ascends { Ascends setting.now.start.now }
     requires fits { FunctionsFit (setting_of setting.now) setting.now.start.now }
     requires greatest { HasLeast (raised setting.now limit 65535) }
@@ -150,12 +115,13 @@ pub(crate) fn tell_needs<O: Sink>(
     if asked.site.is_some() {
         return Ok(());
     }
+    let name = words_for(limit);
     match fault_with(alloc, setting, limit, u16::MAX, budget)? {
         None => {
             let least = least_number(alloc, setting, limit, budget)?;
             writeln!(
                 out,
-                "What it needs: it is accepted where {limit} is at least {least}."
+                "What it needs: it is accepted where {name} is at least {least}."
             )?;
             Ok(())
         }
@@ -171,7 +137,7 @@ pub(crate) fn tell_needs<O: Sink>(
             let number = reason.number();
             writeln!(
                 out,
-                "What it needs: however great {limit} is, it is refused at {place}: {number} {reason}."
+                "What it needs: however great {name} is, it is refused at {place}: {number} {reason}."
             )?;
             Ok(())
         }

@@ -2,41 +2,48 @@
 use Rattle.std.specs.Prelude.{◌≡◌, ◌≢◌, ℕ, suc, List, map, Bool, true, false}
 use Rattle.tt_cert.specs.declared.name.Name.{Name}
 use Rattle.tt_font.specs.Reading.{FontData}
+use Rattle.hintcheck_report.specs.Bounds.{cvt_count_with, declared_number, limits_with}
+use Rattle.hintcheck_report.specs.declared.bound.Bound.{Bound}
+use Rattle.hintcheck_report.specs.declared.bound.Bound.TheVariants.{StackElements, Storage, FunctionDefs, ControlValues}
 use Rattle.hintcheck_report.specs.declared.refused.Refused.{Refused}
 use Rattle.hintcheck_fonts.specs.FontPrograms.{IsVerdict}
 use Rattle.hintcheck_fonts.specs.SymbolicVerdicts.{IsSymbolicVerdict}
 use Rattle.hintcheck_fonts.specs.Verdicts.{Judgement}
-use Rattle.hintcheck_needs.specs.Bounds.{declared_number, with_number}
-use Rattle.hintcheck_needs.specs.declared.bound.Bound.{Bound}
-use Rattle.hintcheck_needs.specs.declared.bound.Bound.TheVariants.{StackElements, Storage, FunctionDefs, ControlValues}
 use Rattle.hintcheck_needs.specs.declared.font_needs.Need.{Need}
 use Rattle.hintcheck_needs.specs.declared.font_needs.Needs.{Needs}
-use Rattle.hintcheck_needs.specs.declared.profile.Profile.{Profile}
-use Rattle.hintcheck_needs.specs.declared.profile.Profile.TheVariants.{Strict, Symbolic}
+use Rattle.hintcheck_needs.specs.declared.analysis.Analysis.{Analysis}
+use Rattle.hintcheck_needs.specs.declared.analysis.Analysis.TheVariants.{Strict, Symbolic}
 
--- a verdict of this profile on the font
-abbrev pub IsVerdictBy : Profile → FontData → Judgement → Type 0
-IsVerdictBy Strict d v = IsVerdict d v
-IsVerdictBy (Symbolic steps) d v = IsSymbolicVerdict d v
+-- the font with another number in its place
+abbrev pub with_number : FontData → Bound → ℕ → FontData
+with_number d bound n = record d {
+  limits = limits_with d.limits bound n;
+  cvt_count = cvt_count_with d.cvt_count bound n;
+}
+
+-- a verdict of this analysis on the font
+abbrev pub GivesVerdict : Analysis → FontData → Judgement → Type 0
+GivesVerdict Strict d v = IsVerdict d v
+GivesVerdict (Symbolic steps) d v = IsSymbolicVerdict d v
 
 -- the names of the programs that are refused, in their order
 abbrev pub refused_names : List Refused → List Name
 refused_names refused = map (λ r. r.program) refused
 
--- a verdict of this profile on the font refuses these programs
-abbrev pub Refuses : Profile → FontData → List Name → Type 0
-Refuses profile d names =
-    (v : Judgement) × IsVerdictBy profile d v × (refused_names v.refused ≡ names)
+-- a verdict of this analysis on the font refuses these programs
+abbrev pub Refuses : Analysis → FontData → List Name → Type 0
+Refuses analysis d names =
+    (v : Judgement) × GivesVerdict analysis d v × (refused_names v.refused ≡ names)
 
--- a verdict of this profile on the font refuses others than these
-abbrev pub RefusesOthers : Profile → FontData → List Name → Type 0
-RefusesOthers profile d names =
-    (others : List Name) × Refuses profile d others × (others ≢ names)
+-- a verdict of this analysis on the font refuses others than these
+abbrev pub RefusesOthers : Analysis → FontData → List Name → Type 0
+RefusesOthers analysis d names =
+    (others : List Name) × Refuses analysis d others × (others ≢ names)
 
--- whether a verdict of this profile on the font refuses these programs, or others
-abbrev pub TellsSame : Profile → FontData → List Name → Bool → Type 0
-TellsSame profile d names true = Refuses profile d names
-TellsSame profile d names false = RefusesOthers profile d names
+-- whether a verdict of this analysis on the font refuses these programs, or others
+abbrev pub TellsSame : Analysis → FontData → List Name → Bool → Type 0
+TellsSame analysis d names true = Refuses analysis d names
+TellsSame analysis d names false = RefusesOthers analysis d names
 
 -- the greatest number that is tried
 abbrev pub greatest_number : ℕ
@@ -45,17 +52,17 @@ greatest_number = 65535
 -- A number is enough for a font where a verdict with it in place of the font's own refuses the same
 -- programs as one with the greatest number. It is the least such where a verdict with the number
 -- before it, if there is one, refuses others.
-pub record IsLeastEnough (profile : Profile) (d : FontData) (bound : Bound) (n : ℕ) : Type 0 where
+pub record IsLeastEnough (analysis : Analysis) (d : FontData) (bound : Bound) (n : ℕ) : Type 0 where
   pub names : List Name
-  pub refused : Refuses profile (with_number d bound greatest_number) names
-  pub enough : Refuses profile (with_number d bound n) names
+  pub refused : Refuses analysis (with_number d bound greatest_number) names
+  pub enough : Refuses analysis (with_number d bound n) names
   pub least : (fewer : ℕ) → n ≡ suc fewer
-      → RefusesOthers profile (with_number d bound fewer) names
+      → RefusesOthers analysis (with_number d bound fewer) names
 
 -- what a font needs of one number, and what it has
-pub record IsNeed (profile : Profile) (d : FontData) (bound : Bound) (need : Need) : Type 0 where
-  pub least : IsLeastEnough profile d bound need.least
-  pub declared : need.declared ≡ declared_number d bound
+pub record IsNeed (analysis : Analysis) (d : FontData) (bound : Bound) (need : Need) : Type 0 where
+  pub least : IsLeastEnough analysis d bound need.least
+  pub declared : need.declared ≡ declared_number d.limits d.cvt_count bound
 
 -- what is told of one number
 abbrev pub need_of : Needs → Bound → Need
@@ -65,5 +72,5 @@ need_of needs FunctionDefs = needs.function_defs
 need_of needs ControlValues = needs.control_values
 
 -- what a font needs of each number
-abbrev pub AreNeeds : Profile → FontData → Needs → Type 0
-AreNeeds profile d needs = (bound : Bound) → IsNeed profile d bound (need_of needs bound)
+abbrev pub AreNeeds : Analysis → FontData → Needs → Type 0
+AreNeeds analysis d needs = (bound : Bound) → IsNeed analysis d bound (need_of needs bound)

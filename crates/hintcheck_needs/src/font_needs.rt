@@ -7,10 +7,10 @@ ghost use Rattle.tt_font.specs.Reading.{FontData, Reads};
 ghost use Rattle.hintcheck_fonts.specs.BudgetAnswers.{VerdictTellsBudget, VerdictTellsFontFault};
 ghost use Rattle.hintcheck_needs.specs.Needs.{AreNeeds, IsNeed, need_of};
 
-use crate::bound::Bound;
+use crate::analysis::Analysis;
 use crate::least::least_enough;
-use crate::profile::Profile;
 use hintcheck_fonts::{VerdictFault, read_font};
+use hintcheck_report::Bound;
 use std::alloc::Global;
 use tt_abs::Exhausted;
 use tt_family::Budget;
@@ -59,17 +59,17 @@ impl Needs {
 fn one_need(
     alloc: Global,
     font: &mut Font<'_>,
-    profile: Profile,
+    analysis: Analysis,
     bound: Bound,
     points: &mut Budget,
 ) -> Result<Need, Exhausted>
-    ensures need { IfOk result (IsNeed profile font.old bound) }
+    ensures need { IfOk result (IsNeed analysis font.old bound) }
     ensures kept { font.new ≡ font.old }
     ensures spends { Spends points.old points.new }
     ensures budget { EndTellsBudget points.old points.new result }
 {
-    let least = least_enough(alloc, font, profile, bound, points)?;
-    let declared = bound.declared(font);
+    let least = least_enough(alloc, font, analysis, bound, points)?;
+    let declared = bound.declared(font.limits(), font.cvt_count());
     Ok(Need { least, declared })
 }
 
@@ -80,17 +80,17 @@ fn one_need(
 fn all_needs(
     alloc: Global,
     font: &mut Font<'_>,
-    profile: Profile,
+    analysis: Analysis,
     points: &mut Budget,
 ) -> Result<Needs, Exhausted>
-    ensures needs { IfOk result (AreNeeds profile font.old) }
+    ensures needs { IfOk result (AreNeeds analysis font.old) }
     ensures spends { Spends points.old points.new }
     ensures budget { EndTellsBudget points.old points.new result }
 {
-    let stack_elements = one_need(alloc, font, profile, Bound::StackElements, points)?;
-    let storage = one_need(alloc, font, profile, Bound::Storage, points)?;
-    let function_defs = one_need(alloc, font, profile, Bound::FunctionDefs, points)?;
-    let control_values = one_need(alloc, font, profile, Bound::ControlValues, points)?;
+    let stack_elements = one_need(alloc, font, analysis, Bound::StackElements, points)?;
+    let storage = one_need(alloc, font, analysis, Bound::Storage, points)?;
+    let function_defs = one_need(alloc, font, analysis, Bound::FunctionDefs, points)?;
+    let control_values = one_need(alloc, font, analysis, Bound::ControlValues, points)?;
     Ok(Needs {
         stack_elements,
         storage,
@@ -108,11 +108,11 @@ fn all_needs(
 pub fn needs_in(
     alloc: Global,
     bytes: &[u8],
-    profile: Profile,
+    analysis: Analysis,
     points: &mut Budget,
 ) -> Result<Needs, VerdictFault>
     ensures needs { IfOk result (λ needs.
-        (d : FontData) × Reads bytes.now d × AreNeeds profile d needs) }
+        (d : FontData) × Reads bytes.now d × AreNeeds analysis d needs) }
     ensures faults { VerdictTellsFontFault (font_fault bytes.now) result }
     ensures spends { Spends points.old points.new }
     ensures budget { VerdictTellsBudget points.new result }
@@ -121,5 +121,5 @@ pub fn needs_in(
         return Err(VerdictFault::Budget);
     }
     let mut font = read_font(alloc, bytes)?;
-    Ok(all_needs(alloc, &mut font, profile, points)?)
+    Ok(all_needs(alloc, &mut font, analysis, points)?)
 }

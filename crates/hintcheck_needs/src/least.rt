@@ -2,12 +2,11 @@
 
 ghost use Rattle.std.specs.Prelude.{◌≡◌, ◌↔◌, IfOk, IsTrue};
 ghost use Rattle.tt_family.specs.Budgets.{EndTellsBudget, Spends};
-ghost use Rattle.hintcheck_needs.specs.Bounds.{with_number};
-ghost use Rattle.hintcheck_needs.specs.Needs.{IsLeastEnough, Refuses, TellsSame, refused_names};
+ghost use Rattle.hintcheck_needs.specs.Needs.{IsLeastEnough, Refuses, TellsSame, refused_names, with_number};
 
-use crate::bound::Bound;
-use crate::profile::{Profile, refused_by};
-use hintcheck_report::Refused;
+use crate::analysis::{Analysis, refused_by};
+use crate::numbers::replace_number;
+use hintcheck_report::{Bound, Refused};
 use std::alloc::Global;
 use tt_abs::Exhausted;
 use tt_family::Budget;
@@ -36,21 +35,21 @@ fn are_same_programs(some: &[Refused], others: &[Refused]) -> bool
 fn refused_with(
     alloc: Global,
     font: &mut Font<'_>,
-    profile: Profile,
+    analysis: Analysis,
     bound: Bound,
     number: u16,
     points: &mut Budget,
 ) -> Result<Vec<Refused>, Exhausted>
     ensures refused { IfOk result (λ refused.
-        Refuses profile (with_number font.old bound number) (refused_names refused.items)) }
+        Refuses analysis (with_number font.old bound number) (refused_names refused.items)) }
     ensures kept { font.new ≡ font.old }
     ensures spends { Spends points.old points.new }
     ensures budget { EndTellsBudget points.old points.new result }
 {
     let limits = font.limits();
     let cvt_count = font.cvt_count();
-    bound.replace(font, number);
-    let refused = refused_by(alloc, font, profile, points);
+    replace_number(font, bound, number);
+    let refused = refused_by(alloc, font, analysis, points);
     font.set_limits(limits, cvt_count);
     refused
 }
@@ -62,19 +61,19 @@ fn refused_with(
 fn refuses_same(
     alloc: Global,
     font: &mut Font<'_>,
-    profile: Profile,
+    analysis: Analysis,
     bound: Bound,
     number: u16,
     refused: &[Refused],
     points: &mut Budget,
 ) -> Result<bool, Exhausted>
     ensures same { IfOk result (λ same.
-        TellsSame profile (with_number font.old bound number) (refused_names refused.now) same) }
+        TellsSame analysis (with_number font.old bound number) (refused_names refused.now) same) }
     ensures kept { font.new ≡ font.old }
     ensures spends { Spends points.old points.new }
     ensures budget { EndTellsBudget points.old points.new result }
 {
-    let with = refused_with(alloc, font, profile, bound, number, points)?;
+    let with = refused_with(alloc, font, analysis, bound, number, points)?;
     Ok(are_same_programs(&with, refused))
 }
 
@@ -83,31 +82,32 @@ fn refuses_same(
 /// number before it doesn't. Some ten verdicts are made, and at most 18.
 ///
 /// A program that is refused whatever the number needs nothing of it: so where a font declares too
-/// low a number, raise that one (`Bound::replace`) before asking for the others. What the numbers
+/// low a number, raise that one (`replace_number`) before asking for the others. What the numbers
 /// below and above the answer do, except for the one before it, isn't promised.
 ///
 /// # Errors
-/// `Memory` where memory runs out; `Budget`, by the strict profile alone, where more points were to
-/// be made than the budget allows, for all verdicts together. The font is as it was, here too.
+/// `Memory` where memory runs out; `Budget`, by the strict analysis alone, where more points were
+/// to be made than the budget allows, for all verdicts together. The font is as it was, here too.
 pub fn least_enough(
     alloc: Global,
     font: &mut Font<'_>,
-    profile: Profile,
+    analysis: Analysis,
     bound: Bound,
     points: &mut Budget,
 ) -> Result<u16, Exhausted>
-    ensures least { IfOk result (IsLeastEnough profile font.old bound) }
+    ensures least { IfOk result (IsLeastEnough analysis font.old bound) }
     ensures kept { font.new ≡ font.old }
     ensures spends { Spends points.old points.new }
     ensures budget { EndTellsBudget points.old points.new result }
 {
-    let refused = refused_with(alloc, font, profile, bound, u16::MAX, points)?;
+    let refused = refused_with(alloc, font, analysis, bound, u16::MAX, points)?;
     let mut low = 0;
     let mut high = u16::MAX;
     // The font's own number first, if it is below the greatest one.
-    let mut number = bound.declared(font).min(65_534) as u16;
+    let declared = bound.declared(font.limits(), font.cvt_count());
+    let mut number = declared.min(65_534) as u16;
     while low < high {
-        if refuses_same(alloc, font, profile, bound, number, &refused, points)? {
+        if refuses_same(alloc, font, analysis, bound, number, &refused, points)? {
             high = number;
         } else {
             low = number + 1;

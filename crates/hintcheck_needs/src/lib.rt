@@ -3,12 +3,13 @@
 //! programs as with the greatest one, and with one less others.
 #![tactic(auto)]
 
-pub mod bound;
+pub mod analysis;
 pub mod font_needs;
 pub mod least;
-pub mod profile;
+pub mod numbers;
 
-pub use bound::Bound;
+pub use analysis::Analysis;
 pub use font_needs::{Need, Needs, needs_in};
+pub use hintcheck_report::Bound;
 pub use least::least_enough;
-pub use profile::Profile;
+pub use numbers::replace_number;

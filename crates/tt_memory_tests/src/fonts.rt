@@ -2,7 +2,7 @@
 
 use crate::PROGRAMS;
 use hintcheck_fonts::{VerdictFault, bare, check_font, find_font, read_font, upgrade, verdict};
-use hintcheck_needs::{Bound, Profile, least_enough};
+use hintcheck_needs::{Analysis, Bound, least_enough};
 use std::alloc::Global;
 use std::io;
 use std::test::Fail;
@@ -60,7 +60,7 @@ fn storage_needed(alloc: Global, font: &[u8]) -> Result<u16, VerdictFault> {
     let least = least_enough(
         alloc,
         &mut font,
-        Profile::Strict,
+        Analysis::Strict,
         Bound::Storage,
         &mut points,
     )?;

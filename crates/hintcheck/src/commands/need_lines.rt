@@ -9,7 +9,7 @@ ghost use Rattle.hintcheck.specs.FontNeeds.{HaveNeeds, TellsNeeds, need_text, ne
 
 use super::faults::CommandFault;
 use hintcheck_fonts::symbolic_verdict::USUAL_STEPS;
-use hintcheck_needs::{self as needed, Bound, Need, Needs, needs_in};
+use hintcheck_needs::{Analysis, Bound, Need, Needs, needs_in};
 use hintcheck_words::Profile;
 use std::alloc::Global;
 use tt_family::Budget;
@@ -30,8 +30,8 @@ fn needs_by(
     ensures fault { IfErr result (λ fault. fault ≡ CommandFault.OutOfMemory) }
 {
     let by = match profile {
-        Profile::Strict => needed::Profile::Strict,
-        Profile::Symbolic => needed::Profile::Symbolic {
+        Profile::Strict => Analysis::Strict,
+        Profile::Symbolic => Analysis::Symbolic {
             steps: steps.unwrap_or(USUAL_STEPS),
         },
     };

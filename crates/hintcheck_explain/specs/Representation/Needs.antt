@@ -1,11 +1,18 @@
 -- The limits of a font that can be raised.
-use Rattle.std.specs.Prelude.{ℕ}
+use Rattle.std.specs.Prelude.{◌≡◌, ℕ}
+use Rattle.tt_code.specs.declared.limits.Limits.{Limits}
 use Rattle.tt_abs.specs.declared.setting.Setting.{Setting as Subject}
-use Rattle.hintcheck_explain.specs.declared.needs.Limit.{Limit}
-use Rattle.hintcheck_explain.specs.declared.needs.Limit.TheVariants as limit
+use Rattle.hintcheck_report.specs.Bounds.{cvt_count_with, limits_with}
+use Rattle.hintcheck_report.specs.declared.bound.Bound.{Bound}
 
 -- the subject where the limit has this number
-abbrev pub raised : Subject → Limit → ℕ → Subject
-raised x limit.Stack number = record x { limits = record x.limits { stack = number } }
-raised x limit.Storage number = record x { limits = record x.limits { storage = number } }
-raised x limit.ControlValues number = record x { cvt = number }
+abbrev pub raised : Subject → Bound → ℕ → Subject
+raised x limit number = record x {
+  limits = limits_with x.limits limit number;
+  cvt = cvt_count_with x.cvt limit number;
+}
+
+-- another number in place of this one leaves maxFunctionDefs as it is: functions that fit still fit
+abbrev pub KeepsFunctions : Bound → Type 0
+KeepsFunctions limit = (limits : Limits) (number : ℕ)
+    → (limits_with limits limit number).functions ≡ limits.functions
