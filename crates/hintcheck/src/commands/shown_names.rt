@@ -24,14 +24,23 @@ fn print_byte<O: Sink>(out: &mut O, byte: u8) -> Result<(), PrintFailed>
     }
 }
 
+/// Prints the bytes of a name.
+fn print_bytes<O: Sink>(out: &mut O, name: &[u8]) -> Result<(), PrintFailed>
+    ensures written { OnOk result (Appends (O.contents out.old) (O.contents out.new)
+        (flat_map shown_byte name.now)) }
+    ensures failures { CountsPrintFailure result (O.failures out.old) (O.failures out.new) }
+{
+    for byte in name {
+        print_byte(out, *byte)?;
+    }
+    Ok(())
+}
+
 /// Prints the name of a file, with its control bytes as `\x0a`, so that no name ends a line.
 pub(super) fn print_shown<O: Sink>(out: &mut O, name: &str) -> Result<(), PrintFailed>
     ensures written { OnOk result (Appends (O.contents out.old) (O.contents out.new)
         (flat_map shown_byte name.now)) }
     ensures failures { CountsPrintFailure result (O.failures out.old) (O.failures out.new) }
 {
-    for &byte in name.as_bytes() {
-        print_byte(out, byte)?;
-    }
-    Ok(())
+    print_bytes(out, name.as_bytes())
 }
