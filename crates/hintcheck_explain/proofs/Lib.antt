@@ -1,2 +1,3 @@
 pub mod CauseLemmas
 pub mod Written
+pub mod NeedLemmas

@@ -111,7 +111,7 @@ pub fn explain<O: Sink>(
             let refused = Refused::at(asked.program, spot, offset, failed.reason());
             writeln!(out, "{refused}")?;
             explain_refused(alloc, &subject, asked, spot, offset, failed, out)?;
-            tell_needs(alloc, setting, asked, failed.reason(), budget, out)?;
+            tell_needs(alloc, setting, asked, failed, budget, out)?;
             Ok(Explained::Refused(refused))
         }
         Some(Refusal::Exhausted(by)) => Err(ExplainFault::from(by)),

@@ -7,12 +7,12 @@ ghost use Rattle.tt_abs.specs.Settings.{setting_of};
 ghost use Rattle.tt_abs.specs.StateFlow.{FunctionsFit};
 ghost use Rattle.tt_find.specs.FoundSubjects.{IsJustifiedFor};
 ghost use Rattle.hintcheck_explain.specs.Faults.{HasLeast, TellsFailure};
-ghost use Rattle.hintcheck_explain.specs.Representation.Needs.{KeepsFunctions, raised};
+ghost use Rattle.hintcheck_explain.specs.Representation.Needs.{raised};
 
 use crate::asked::{Asked, ExplainFault};
 use hintcheck_report::{Bound, Place};
 use std::alloc::Global;
-use tt_abs::{Exhausted, Refusal, Setting};
+use tt_abs::{Exhausted, Failed, Refusal, Setting};
 use tt_code::Reason;
 use tt_family::Budget;
 use tt_find::explore;
@@ -21,11 +21,12 @@ use tt_stream::Sink;
 /// How many searches find the least number of 16 bits.
 const SEARCHES: usize = 16;
 
-/// Returns the limit that a program passes that is refused for this reason, if it can be raised.
-fn limit_of(reason: Reason) -> Option<Bound>
-    ensures { IfSome result KeepsFunctions }
-{
-    match reason {
+/// Returns the limit that a program passes of which this test fails, if it can be raised.
+fn limit_of(failed: Failed) -> Option<Bound> {
+    if let Failed::NoFunction { .. } = failed {
+        return Some(Bound::FunctionDefs);
+    }
+    match failed.reason() {
         Reason::Overflow => Some(Bound::StackElements),
         Reason::Storage => Some(Bound::Storage),
         Reason::Cvt => Some(Bound::ControlValues),
@@ -49,9 +50,8 @@ fn fault_with(
     number: u16,
     budget: &mut Budget,
 ) -> Result<Option<Refusal>, Exhausted>
-    requires keeps { KeepsFunctions limit }
     requires ascends { Ascends setting.now.start.now }
-    requires fits { FunctionsFit (setting_of setting.now) setting.now.start.now }
+    requires fits { FunctionsFit (setting_of (raised setting.now limit number)) setting.now.start.now }
     ensures accepted { IfOk result
         (λ fault. fault ≡ None → HasLeast (raised setting.now limit number)) }
     ensures refused { IfOk result
@@ -66,20 +66,20 @@ fn fault_with(
 }
 
 /// Returns the least number of the limit with which the program is accepted, where it is with the
-/// greatest one.
+/// greatest one, and isn't with its own.
 fn least_number(
     alloc: Global,
     setting: &Setting<'_>,
     limit: Bound,
     budget: &mut Budget,
 ) -> Result<u16, Exhausted>
-    requires keeps { KeepsFunctions limit }
     requires ascends { Ascends setting.now.start.now }
     requires fits { FunctionsFit (setting_of setting.now) setting.now.start.now }
     requires greatest { HasLeast (raised setting.now limit 65535) }
     ensures { IfOk result (λ least. HasLeast (raised setting.now limit least)) }
 {
-    let mut refused: u16 = 0;
+    let declared = limit.declared(setting.limits, setting.cvt);
+    let mut refused = declared.min(65_535) as u16;
     let mut accepted = u16::MAX;
     for _ in 0..SEARCHES {
         let between = accepted.saturating_sub(refused) / 2;
@@ -95,13 +95,13 @@ fn least_number(
     Ok(accepted)
 }
 
-/// Prints how much of a limit a program needs that is refused for this reason, if it passes one and
-/// no site is asked for.
+/// Prints how much of a limit a program needs of which this test fails, if it passes one and no site
+/// is asked for.
 pub(crate) fn tell_needs<O: Sink>(
     alloc: Global,
     setting: &Setting<'_>,
     asked: Asked,
-    reason: Reason,
+    failed: Failed,
     budget: &mut Budget,
     out: &mut O,
 ) -> Result<(), ExplainFault>
@@ -109,7 +109,7 @@ pub(crate) fn tell_needs<O: Sink>(
     requires fits { FunctionsFit (setting_of setting.now) setting.now.start.now }
     ensures failures { TellsFailure result (O.failures out.old) (O.failures out.new) }
 {
-    let Some(limit) = limit_of(reason) else {
+    let Some(limit) = limit_of(failed) else {
         return Ok(());
     };
     if asked.site.is_some() {

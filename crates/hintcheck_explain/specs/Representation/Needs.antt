@@ -1,6 +1,5 @@
 -- The limits of a font that can be raised.
-use Rattle.std.specs.Prelude.{◌≡◌, ℕ}
-use Rattle.tt_code.specs.declared.limits.Limits.{Limits}
+use Rattle.std.specs.Prelude.{ℕ}
 use Rattle.tt_abs.specs.declared.setting.Setting.{Setting as Subject}
 use Rattle.hintcheck_report.specs.Bounds.{cvt_count_with, limits_with}
 use Rattle.hintcheck_report.specs.declared.bound.Bound.{Bound}
@@ -11,8 +10,3 @@ raised x limit number = record x {
   limits = limits_with x.limits limit number;
   cvt = cvt_count_with x.cvt limit number;
 }
-
--- another number in place of this one leaves maxFunctionDefs as it is: functions that fit still fit
-abbrev pub KeepsFunctions : Bound → Type 0
-KeepsFunctions limit = (limits : Limits) (number : ℕ)
-    → (limits_with limits limit number).functions ≡ limits.functions
