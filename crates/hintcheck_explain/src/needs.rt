@@ -116,6 +116,7 @@ pub(crate) fn tell_needs<O: Sink>(
         return Ok(());
     }
     let name = words_for(limit);
+    prove!(u32::from(setting.limits.functions) < 1 << 16);
     match fault_with(alloc, setting, limit, u16::MAX, budget)? {
         None => {
             let least = least_number(alloc, setting, limit, budget)?;
