@@ -1,5 +1,5 @@
 -- Functions that fit the limits of a font still fit where one of its numbers is raised.
-use Rattle.std.proofs.Common.{◌≡◌, ◌<◌, ◌≤◌, ℕ, arith, refl}
+use Rattle.std.proofs.Common.{◌≡◌, ◌≤◌, ℕ, arith, refl}
 use Rattle.tt_abs.specs.Settings.{setting_of}
 use Rattle.tt_abs.specs.StateFlow.{FunctionsFit}
 use Rattle.tt_abs.specs.declared.setting.Setting.{Setting as Subject}
