@@ -98,16 +98,16 @@ pub scans_all : {X : Type 0} (options : ScanOptions) (text : X → List ℕ) (xs
     → NotesScan options (map text xs) s old new u v
 scans_all options text xs i s old new u v within printed = subst (λ ys. NotesScan options (map text ys) s old new u v) (take_all i xs within) printed
 
--- the line of a font of which glyph programs are refused, by its parts
-pub counts_written : (profile : Profile) (programs possible undecided left : ℕ) (rs : List Refused) (o p q r s : Option (List ℕ)) → possible ≡ number_of_class PossibleFault rs
+-- the line of a font of which glyph programs are refused, by its parts, after what is before them
+pub counts_written : (profile : Profile) (front : List ℕ) (programs possible undecided left : ℕ) (rs : List Refused) (o p q r s : Option (List ℕ)) → possible ≡ number_of_class PossibleFault rs
     → undecided ≡ number_of_class Undecided rs → left ≡ number_of_class LeftOut rs
-    → Appends o p (codes ": refused: " ++ (decimal (length rs) ++ (codes " of " ++ (decimal programs ++ codes " programs "))))
+    → Appends o p (front ++ (codes ": refused: " ++ (decimal (length rs) ++ (codes " of " ++ (decimal programs ++ codes " programs ")))))
     → Appends p q (codes "(" ++ (decimal possible ++ (codes " possible faults, " ++ (decimal undecided ++ codes " undecided")))) → Appends q r (left_out_text left) → Appends r s (codes ")" ++ (profile_text profile ++ codes "\n"))
-    → Appends o s (codes ": refused: " ++ ((counts_text programs rs ++ profile_text profile) ++ codes "\n"))
-counts_written profile programs possible undecided left rs o p q r s some_possible some_undecided some_left first second third fourth =
-    let a : List ℕ = codes ": refused: " ++ (decimal (length rs) ++ (codes " of " ++ (decimal programs ++ codes " programs "))) in
+    → Appends o s (front ++ (codes ": refused: " ++ ((counts_text programs rs ++ profile_text profile) ++ codes "\n")))
+counts_written profile front programs possible undecided left rs o p q r s some_possible some_undecided some_left first second third fourth =
+    let a : List ℕ = front ++ (codes ": refused: " ++ (decimal (length rs) ++ (codes " of " ++ (decimal programs ++ codes " programs ")))) in
     let b : List ℕ = codes "(" ++ (decimal possible ++ (codes " possible faults, " ++ (decimal undecided ++ codes " undecided"))) in
-    let text : ((a ++ b) ++ left_out_text left) ++ (codes ")" ++ (profile_text profile ++ codes "\n")) ≡ codes ": refused: " ++ ((counts_text programs rs ++ profile_text profile) ++ codes "\n") = rw (some_possible, some_undecided, some_left) (simp append_assoc) in
+    let text : ((a ++ b) ++ left_out_text left) ++ (codes ")" ++ (profile_text profile ++ codes "\n")) ≡ front ++ (codes ": refused: " ++ ((counts_text programs rs ++ profile_text profile) ++ codes "\n")) = rw (some_possible, some_undecided, some_left) (simp append_assoc) in
     subst (Appends o s) text (appends_both o r s _ _ (appends_both o q r _ _ (appends_both o p q a b first second) third) fourth)
 
 glyph_summary : (programs : ℕ) (rs : List Refused) (r : Refused) (id : ℕ) → Some r ≡ slice_get rs 0 → r.program ≡ Glyph id → summary programs rs ≡ codes "refused: " ++ counts_text programs rs
