@@ -17,7 +17,7 @@ use Rattle.hintcheck.specs.FaultTexts.{command_fault_text}
 use Rattle.hintcheck.specs.RefusalClasses.{number_of_class}
 use Rattle.hintcheck.proofs.KnownScans.{noted_both, noted_none}
 use Rattle.hintcheck.specs.Representation.Expectations.{Expected, NotesScan, lines_of_answer, noted, scanned_lines}
-use Rattle.hintcheck.specs.Scans.{Answer, HasTold, IsAnswer, Scanned, TellsFont, counts_text, end_of_line, greatest_status, judged, left_out_text, line_of, status_of_answer, summary, text_of, unread}
+use Rattle.hintcheck.specs.Scans.{Answer, HasTold, IsAnswer, Scanned, TellsFont, counts_text, end_of_line, greatest_status, judged, left_out_text, status_of_answer, summary, text_of, unread}
 use Rattle.hintcheck.specs.Texts.{profile_text}
 use Rattle.hintcheck_fonts.specs.Verdicts.{Judgement}
 use Rattle.hintcheck.specs.declared.commands.faults.CommandFault.{CommandFault}

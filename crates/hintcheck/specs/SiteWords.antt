@@ -1,6 +1,6 @@
 -- The words of sites: an offset of the program that is explained, or, after `f:` or `p:`, of the font
 -- program or the CVT program, where that program calls a function of theirs. (Own.)
-use Rattle.std.specs.Prelude.{◌≡◌, ◌≢◌, ◌++◌, ◌<◌, ◌^◌, codes, ℕ, List, [], IfSome, Option, option_map}
+use Rattle.std.specs.Prelude.{◌≡◌, ◌++◌, ◌<◌, ◌^◌, codes, ℕ, List, [], IfSome, Option, option_map}
 use Rattle.std.specs.Fmt.{decimal}
 use Rattle.tt_abs.specs.declared.spot.Spot.{Spot}
 use Rattle.tt_abs.specs.declared.spot.Spot.TheVariants as spot

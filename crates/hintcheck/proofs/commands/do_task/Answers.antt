@@ -1,5 +1,5 @@
 -- proofs/commands/do_task/Answers.antt
-use Rattle.std.proofs.Common.{◌≡◌, ℕ, OnOk, Option, String, Global, Vec, arith, inl, refl, subst}
+use Rattle.std.proofs.Common.{◌≡◌, OnOk, Option, String, Global, Vec, arith, inl, refl, subst}
 use Rattle.std.specs.Io.KnownBytes.{Appends}
 use Rattle.std.proofs.lemmas.Result.{IfErr-weaker, IfOk-weaker, on_ok_weaker}
 use Rattle.hintcheck_words.specs.Requests.{asked}
