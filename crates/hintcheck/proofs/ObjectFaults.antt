@@ -69,3 +69,11 @@ lines_printed Lines font word site options status old new of = tt
 lines_printed Causes font word site options status old new of = tt
 lines_printed Needs font word site options status old new other = tt
 lines_printed Json font word site options status old new other = absurd (other refl)
+
+-- what is said of an object is said of the form
+pub object_printed : (format : Format) (font word : List ℕ) (site : Option Site) (options : ExplainOptions) (status : ℕ) (old new : Option (List ℕ)) → format ≡ Json
+    → PrintsExplanation font word site options status old new → PrintsExplanationAs format font word site options status old new
+object_printed Json font word site options status old new is printed = printed
+object_printed Lines font word site options status old new is printed = absurd cc
+object_printed Causes font word site options status old new is printed = absurd cc
+object_printed Needs font word site options status old new is printed = absurd cc

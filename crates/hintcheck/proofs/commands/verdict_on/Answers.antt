@@ -41,7 +41,7 @@ unfolding asked
 unreachable-requires g c = elim c.in-Scan.is [
   | inl scan ↦ rw scan.3 at c.requires
   | inr rest ↦ elim rest [
-    | inl explain ↦ rw explain.6 at c.requires
+    | inl explain ↦ rw explain.4 at c.requires
     | inr others ↦ elim others [ inl list ↦ rw list.3 at c.requires | inr upgrade ↦ rw upgrade.2 at c.requires ]
   ]
 ]
