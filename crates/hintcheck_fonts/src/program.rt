@@ -1,7 +1,7 @@
 //! The verdict on one program: it is cut, a family of abstract states is found for it, and that
 //! family is checked, except where it is found once more to be written.
 
-ghost use Rattle.std.specs.Prelude.{◌≡◌, ◌⊎◌, ℕ, ◌<◌, ◌^◌, List, IfErr, IfOk, IfSome, OnOk, length, true};
+ghost use Rattle.std.specs.Prelude.{◌≡◌, ℕ, ◌<◌, ◌^◌, List, IfErr, IfOk, OnOk, length, true};
 ghost use Rattle.tt_code.specs.Cut.{Instruction, IsCut};
 ghost use Rattle.tt_code.specs.Grammar.{IsStructured};
 ghost use Rattle.tt_code.specs.Settings.{GlyphProgram};
@@ -11,9 +11,6 @@ ghost use Rattle.tt_abs.specs.StateFlow.{FunctionsFit};
 ghost use Rattle.tt_family.specs.Budgets.{IsOfNoBudget, Spends, TellsBudget};
 ghost use Rattle.tt_family.specs.Checks.{IsExhausted};
 ghost use Rattle.tt_cert.specs.declared.name.Name.{Name as ProgramName};
-ghost use Rattle.tt_find.specs.Finders.{HasFound};
-ghost use Rattle.tt_find.specs.Found.{IsJustified, IsNeverEnding, NamesPlace, NoneIsGood};
-ghost use Rattle.tt_find.specs.FoundSubjects.{HasLeastContexts, HasOnlyNeeded, IsLeastFor};
 ghost use Rattle.hintcheck_fonts.specs.Programs.{Subject};
 ghost use Rattle.hintcheck_fonts.specs.ProgramVerdicts.{IfRefused, IsFaultOfProgram, IsFilledIn, IsForCertificate, IsSubjectOf, NoneIsGoodFor};
 ghost use Rattle.hintcheck_fonts.specs.Representation.Judges.{IsFoundHere};
@@ -23,7 +20,7 @@ use std::alloc::Global;
 use tt_abs::{Failed, Refusal, Setting, Spot};
 use tt_code::{CodeFault, Program, Reason};
 use tt_family::{Budget, Certificate, Listing, check_listing};
-use tt_find::Finder;
+use tt_find::{Finder, ListedStates};
 
 /// Returns the fault of a program that is refused at this offset of its own bytes.
 fn refused_at(offset: u32, reason: Reason) -> Refusal
@@ -101,37 +98,16 @@ impl Search {
             Search::Certificate | Search::Writing => false,
         }
     }
-}
 
-/// Finds the family of abstract states of the program of this setting, which the finder keeps: one
-/// that is for a certificate has no state that could be left out. Returns how many updates it took.
-///
-/// # Errors
-/// As `Finder::find`.
-fn find(
-    alloc: Global,
-    finder: &mut Finder,
-    setting: &Setting<'_>,
-    search: Search,
-    budget: &mut Budget,
-) -> Result<u64, Refusal>
-    requires ascends { Ascends setting.now.start.now }
-    requires fits { FunctionsFit (setting_of setting.now) setting.now.start.now }
-    ensures kept { IfOk result (HasFound finder.new) }
-    ensures filling { OnOk result (IfSome finder.new.found (IsLeastFor setting.now)) }
-    ensures contexts { OnOk result (IfSome finder.new.found (HasLeastContexts setting.now)) }
-    ensures needed { IsForCertificate search
-        → OnOk result (IfSome finder.new.found (HasOnlyNeeded setting.now)) }
-    ensures justified { IfErr result
-        (NamesPlace (IsJustified (setting_of setting.now) setting.now.start.now)) }
-    ensures none_good { IfErr result (λ fault. IsExhausted fault ⊎ IsNeverEnding fault
-        ⊎ NoneIsGood (setting_of setting.now) setting.now.start.now) }
-    ensures spends { Spends budget.old budget.new }
-    ensures budget { TellsBudget budget.old budget.new result }
-{
-    match search {
-        Search::Verdict => finder.find(alloc, setting, budget),
-        Search::Certificate | Search::Writing => finder.find_needed(alloc, setting, budget),
+    /// Returns which states the family lists that is found: for a certificate none that could be left
+    /// out.
+    fn listed(self) -> ListedStates
+        ensures { IsForCertificate self → result ≡ ListedStates.Needed }
+    {
+        match self {
+            Search::Verdict => ListedStates::Kept,
+            Search::Certificate | Search::Writing => ListedStates::Needed,
+        }
     }
 }
 
@@ -160,7 +136,7 @@ pub(crate) fn find_and_check(
     ensures budget { TellsBudget budget.old budget.new result }
 {
     setting.range_facts();
-    find(alloc, finder, setting, search, budget)?;
+    finder.find(alloc, setting, search.listed(), budget)?;
     match search {
         Search::Writing => Ok(()),
         Search::Verdict | Search::Certificate => {

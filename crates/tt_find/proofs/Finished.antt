@@ -1,5 +1,5 @@
 -- What the finder's last solver tells, and what its refusals tell of all families.
-use Rattle.std.specs.Prelude.{◌≡◌, ◌⊎◌, ℕ, zero, suc, ◌+◌, ◌<◌, cond, Option, Some, None, List, [], length}
+use Rattle.std.specs.Prelude.{◌≡◌, ◌⊎◌, ℕ, false, zero, suc, ◌+◌, ◌<◌, cond, Option, Some, None, List, [], length}
 use Rattle.std.proofs.Common.{refl, sym, ◌∙◌, ap, subst, arith, inl, inr}
 use Rattle.std.proofs.lemmas.Bool.{cases_Bool}
 use Rattle.tt_code.specs.Cut.{size}
@@ -26,6 +26,8 @@ use Rattle.tt_family.specs.Ascending.{family_without}
 use Rattle.tt_family.proofs.FillingLaws.{ends_kept, ends_listed, some_or_none}
 use Rattle.tt_abs.specs.declared.refusal.Refusal.{Refusal}
 use Rattle.tt_abs.specs.declared.refusal.Refusal.TheVariants.{Refused, Exhausted}
+use Rattle.tt_find.specs.declared.finder.ListedStates.{ListedStates}
+use Rattle.tt_find.specs.declared.finder.ListedStates.TheVariants as listed
 use Rattle.tt_find.specs.declared.solver.Solver.{Solver}
 use Rattle.tt_find.specs.Found.{AreDerivedContexts, AreLeastContexts, HasLeastFilling, KeepsBodies, IsDerived, IsJustified, IsLeast, IsNeverEnding, LacksEnd, NamesPlace, NeedsAll, NoneIsGood, too_long, refused, apart, too_many, never_ends}
 use Rattle.tt_find.specs.Representation.Solvers.{HasLaws, IsAmong, IsListed, IsWhole, MayLead}
@@ -238,27 +240,34 @@ module _ (s : Setting) (functions : List (ℕ × ℕ)) (laws : HasLaws s functio
         → (a : State) × (family q ≡ Some a)
     lists_same family same q listed = (listed.state, same q ∙ listed.kept)
 
-    pub listed_without : (family : Place → Option State) → ((p : Place) → family p ≡ family_without solver.builder solver.spare.keys p) → (q : Place) (a : State) → family q ≡ Some a
-        → IsListed solver.builder solver.spare.keys q
-    listed_without family same q a at = elim (cases_Bool (has_point solver.spare.keys (point_key_of solver.builder q))) [
-      | inl spare ↦ absurd (let no_such : None ≡ Some a = sym (same q ∙ ap (λ b. cond b None (family_of solver.builder q)) spare) ∙ at in cc)
-      | inr not_spare ↦ record {
-        state = a;
-        kept = sym (same q ∙ ap (λ b. cond b None (family_of solver.builder q)) not_spare) ∙ at;
-        not_spare = not_spare;
-      }
+    -- which points are left out, by which states are listed
+    pub left_out_of : (l : ListedStates) (keys : List (ℕ × ℕ)) → (l ≡ listed.Kept → keys ≡ []) → (l ≡ listed.Needed → keys ≡ solver.spare.keys) → (key : ℕ × ℕ) → has_point solver.spare.keys key ≡ false
+        → has_point keys key ≡ false
+    left_out_of listed.Kept keys none spare key not_spare = ap (λ (x : List (ℕ × ℕ)). has_point x key) (none refl)
+    left_out_of listed.Needed keys none spare key not_spare = ap (λ (x : List (ℕ × ℕ)). has_point x key) (spare refl) ∙ not_spare
+
+    kept_without : (keys : List (ℕ × ℕ)) (family : Place → Option State) → ((p : Place) → family p ≡ family_without solver.builder keys p) → (q : Place) (a : State) → family q ≡ Some a
+        → (has_point keys (point_key_of solver.builder q) ≡ false) × (family_of solver.builder q ≡ Some a)
+    kept_without keys family same q a at = elim (cases_Bool (has_point keys (point_key_of solver.builder q))) [
+      | inl left_out ↦ absurd (let no_such : None ≡ Some a = sym (same q ∙ ap (λ b. cond b None (family_of solver.builder q)) left_out) ∙ at in cc)
+      | inr listed ↦ (listed, sym (same q ∙ ap (λ b. cond b None (family_of solver.builder q)) listed) ∙ at)
     ]
 
-    pub keeps_without : (family : Place → Option State) → ((p : Place) → family p ≡ family_without solver.builder solver.spare.keys p) → (p : Place) (a : State) → family p ≡ Some a
-        → family_of solver.builder p ≡ Some a
-    keeps_without family same p a at =
-        let listed = listed_without family same p a at in
-        let both : family_of solver.builder p ≡ family p = sym (same p ∙ ap (λ b. cond b None (family_of solver.builder p)) listed.not_spare) in
-        both ∙ at
+    pub listed_without : (keys : List (ℕ × ℕ)) (family : Place → Option State) → ((p : Place) → family p ≡ family_without solver.builder keys p) → keys ≡ solver.spare.keys
+        → (q : Place) (a : State) → family q ≡ Some a → IsListed solver.builder solver.spare.keys q
+    listed_without keys family same spare q a at =
+        let (not_left_out, kept) = kept_without keys family same q a at in
+        record { state = a; kept = kept; not_spare = ap (λ (x : List (ℕ × ℕ)). has_point x (point_key_of solver.builder q)) (sym spare) ∙ not_left_out }
 
-    pub lists_without : (family : Place → Option State) → ((p : Place) → family p ≡ family_without solver.builder solver.spare.keys p) → (q : Place) → IsListed solver.builder solver.spare.keys q
-        → (a : State) × (family q ≡ Some a)
-    lists_without family same q listed = (listed.state, same q ∙ ap (λ b. cond b None (family_of solver.builder q)) listed.not_spare ∙ listed.kept)
+    pub keeps_without : (keys : List (ℕ × ℕ)) (family : Place → Option State) → ((p : Place) → family p ≡ family_without solver.builder keys p) → (p : Place) (a : State) → family p ≡ Some a
+        → family_of solver.builder p ≡ Some a
+    keeps_without keys family same p a at = (kept_without keys family same p a at).1
+
+    pub lists_without : (keys : List (ℕ × ℕ)) (family : Place → Option State) → ((p : Place) → family p ≡ family_without solver.builder keys p)
+        → ((key : ℕ × ℕ) → has_point solver.spare.keys key ≡ false → has_point keys key ≡ false) → (q : Place) → IsListed solver.builder solver.spare.keys q → (a : State) × (family q ≡ Some a)
+    lists_without keys family same fewer q listed =
+        let at = fewer (point_key_of solver.builder q) listed.not_spare in
+        (listed.state, same q ∙ ap (λ b. cond b None (family_of solver.builder q)) at ∙ listed.kept)
 
   -- a family with few contexts isn't good where too many are derived
   none_where_many : (contexts : List (List Frame)) → AreDerivedContexts s functions contexts → 65535 < length contexts → (family : Place → Option State)

@@ -20,11 +20,12 @@ use crate::solver::Solver;
 use crate::stop::Stop;
 use crate::walk::Walk;
 use std::alloc::{AllocError, Global};
+use std::collections::BTreeSet;
 use std::mem;
 use tt_abs::laws::flow_laws;
 use tt_abs::{Exhausted, Failed, Refusal, Setting, Spot};
 use tt_code::Reason;
-use tt_family::{Budget, Builder, Certificate, ends_well, is_short};
+use tt_family::{Budget, Builder, Certificate, PointKey, ends_well, is_short};
 
 /// How often the finder starts with the marks that it has found. After that it keeps states
 /// everywhere.
@@ -73,6 +74,15 @@ impl Explored {
 enum KeptStates {
     WhereWaysMeet,
     Everywhere,
+}
+
+/// Which of the states that a search has kept the family lists that it finds.
+#[derive(Clone, Copy)]
+pub enum ListedStates {
+    /// All of them.
+    Kept,
+    /// Only those without which the family has no filling.
+    Needed,
 }
 
 /// States that the laws of the program's flow hold, that its height is so small that 64 bits count
@@ -269,6 +279,21 @@ fn take_emptied(alloc: Global, builder: &mut Builder) -> Builder
     taken
 }
 
+/// Takes the points out of the spare ones whose states a family leaves out that lists these.
+fn take_left_out(
+    alloc: Global,
+    listed: ListedStates,
+    spare: &mut BTreeSet<PointKey>,
+) -> BTreeSet<PointKey>
+    ensures kept { listed ≡ ListedStates.Kept → result.keys ≡ [] }
+    ensures needed { listed ≡ ListedStates.Needed → result.keys ≡ spare.old.keys }
+{
+    match listed {
+        ListedStates::Kept => BTreeSet::new(alloc),
+        ListedStates::Needed => mem::replace(spare, BTreeSet::new(alloc)),
+    }
+}
+
 /// A finder, whose memory one program after another uses. It keeps the family that its last search
 /// found, which it lends, until the next search takes the memory.
 pub struct Finder {
@@ -341,9 +366,9 @@ impl Finder {
         }
     }
 
-    /// Finds the least family as `find` does, with the states that the search has kept besides
-    /// those that a filling needs, and makes at most as many points as the budget allows. The finder
-    /// keeps it in place of the one before. Returns how many updates made its filling.
+    /// Finds the least family as `find` does, and makes at most as many points as the budget allows:
+    /// one that lists these of its states. The finder keeps it in place of the one before. Returns how
+    /// many updates made its filling.
     ///
     /// # Errors
     /// As `find`; then the finder keeps no family.
@@ -351,6 +376,7 @@ impl Finder {
         &mut self,
         alloc: Global,
         setting: &Setting<'_>,
+        listed: ListedStates,
         budget: &mut Budget,
     ) -> Result<u64, Refusal>
         requires ascends { Ascends setting.now.start.now }
@@ -358,6 +384,8 @@ impl Finder {
         ensures kept { IfOk result (HasFound self.new) }
         ensures filling { OnOk result (IfSome self.new.found (IsLeastFor setting.now)) }
         ensures contexts { OnOk result (IfSome self.new.found (HasLeastContexts setting.now)) }
+        ensures needed { listed ≡ ListedStates.Needed
+            → OnOk result (IfSome self.new.found (HasOnlyNeeded setting.now)) }
         ensures counted { IfOk result (AreCounted budget.old budget.new) }
         ensures none { OnErr result (self.new.found ≡ None) }
         ensures justified { IfErr result (IsJustifiedFor setting.now) }
@@ -373,53 +401,9 @@ impl Finder {
             Err(fault) => return Err(fault),
         };
         let builder = mem::replace(&mut self.solver.builder, Builder::new(alloc));
+        let left_out = take_left_out(alloc, listed, &mut self.solver.spare);
         let memory = take_emptied(alloc, &mut self.memory);
-        match builder.finish_in(memory) {
-            Ok((certificate, rest)) => {
-                self.memory = rest;
-                self.found = Some(Found {
-                    certificate,
-                    updates,
-                });
-                Ok(updates)
-            }
-            Err(_) => Err(Refusal::Exhausted(Exhausted::Memory)),
-        }
-    }
-
-    /// Finds the least family as `Finder::find` does, without the states that a filling adds.
-    ///
-    /// # Errors
-    /// As `Finder::find`.
-    pub fn find_needed(
-        &mut self,
-        alloc: Global,
-        setting: &Setting<'_>,
-        budget: &mut Budget,
-    ) -> Result<u64, Refusal>
-        requires ascends { Ascends setting.now.start.now }
-        requires fits { FunctionsFit (setting_of setting.now) setting.now.start.now }
-        ensures kept { IfOk result (HasFound self.new) }
-        ensures filling { OnOk result (IfSome self.new.found (IsLeastFor setting.now)) }
-        ensures contexts { OnOk result (IfSome self.new.found (HasLeastContexts setting.now)) }
-        ensures needed { OnOk result (IfSome self.new.found (HasOnlyNeeded setting.now)) }
-        ensures counted { IfOk result (AreCounted budget.old budget.new) }
-        ensures none { OnErr result (self.new.found ≡ None) }
-        ensures justified { IfErr result (IsJustifiedFor setting.now) }
-        ensures none_good { IfErr result (TellsNoneIsGood setting.now) }
-        ensures never_ends { TellsNoEnd setting.now result }
-        ensures spends { Spends budget.old budget.new }
-        ensures budget { TellsBudget budget.old budget.new result }
-    {
-        self.reuse_memory();
-        let kept = KeptStates::WhereWaysMeet;
-        let updates = match find_fixpoint(alloc, &mut self.solver, setting, kept, budget) {
-            Ok(updates) => updates,
-            Err(fault) => return Err(fault),
-        };
-        let builder = mem::replace(&mut self.solver.builder, Builder::new(alloc));
-        let memory = take_emptied(alloc, &mut self.memory);
-        match builder.finish_without(&self.solver.spare, memory) {
+        match builder.finish_without(&left_out, memory) {
             Ok((certificate, rest)) => {
                 self.memory = rest;
                 self.found = Some(Found {
@@ -454,7 +438,12 @@ pub fn find(alloc: Global, setting: &Setting<'_>) -> Result<Found, Refusal>
     ensures never_ends { TellsNoEnd setting.now result }
 {
     let mut finder = Finder::new(alloc);
-    match finder.find_needed(alloc, setting, &mut Budget::unlimited()) {
+    match finder.find(
+        alloc,
+        setting,
+        ListedStates::Needed,
+        &mut Budget::unlimited(),
+    ) {
         Ok(_) => Ok(finder.into_found().unwrap()),
         Err(fault) => Err(fault),
     }

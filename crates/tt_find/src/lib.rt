@@ -11,5 +11,5 @@ mod successor;
 mod walk;
 mod worklist;
 
-pub use finder::{Explored, Finder, Found, explore, find};
+pub use finder::{Explored, Finder, Found, ListedStates, explore, find};
 pub use tt_abs::{Refusal, Spot};

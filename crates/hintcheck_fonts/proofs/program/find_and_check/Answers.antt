@@ -12,26 +12,26 @@ returns-in-Writing-clause-accepted c = λ x subject.
     let e = c.in_ok-find.ensures in
     let h : HasFlow (setting_of c.args.setting.now) c.args.setting.now.start.now =
     record { range = c.range_facts.ensures.range; short = c.range_facts.ensures.short; ascends = c.requires.ascends; fits = c.requires.fits } in
-    found_here c.find.new.finder c.args.search x c.args.setting.now _ subject h e.kept e.filling e.contexts e.needed
+    found_here c.find.new.self c.args.search x c.args.setting.now _ subject h e.kept e.filling e.contexts (λ certificate. e.needed (c.listed.ensures certificate))
 
 pub returns-in-Verdict-clause-accepted : goal.returns-in-Verdict-clause-accepted
 returns-in-Verdict-clause-accepted c = λ x subject.
     let e = c.in_ok-find.ensures in
     let h : HasFlow (setting_of c.args.setting.now) c.args.setting.now.start.now =
     record { range = c.range_facts.ensures.range; short = c.range_facts.ensures.short; ascends = c.requires.ascends; fits = c.requires.fits } in
-    holds_anyway c.check_found.result (found_here c.find.new.finder c.args.search x c.args.setting.now _ subject h e.kept e.filling e.contexts e.needed)
+    holds_anyway c.check_found.result (found_here c.find.new.self c.args.search x c.args.setting.now _ subject h e.kept e.filling e.contexts (λ certificate. e.needed (c.listed.ensures certificate)))
 
 pub returns-in-Verdict-clause-refused : goal.returns-in-Verdict-clause-refused
 returns-in-Verdict-clause-refused c = λ x subject.
     let lent = sym c.certificate.ensures.value ∙ ap option_copied c.unwrap-certificate.ensures in
     only_memory c.check_found.result x.name (IsRefusal x)
-    (c.check_found.ensures.exact (lent_filled c.find.new.finder.found c.unwrap-certificate.result.now c.args.setting.now c.in_ok-find.ensures.filling lent))
+    (c.check_found.ensures.exact (lent_filled c.find.new.self.found c.unwrap-certificate.result.now c.args.setting.now c.in_ok-find.ensures.filling lent))
 
 pub returns-in-Verdict-clause-none_good : goal.returns-in-Verdict-clause-none_good
 returns-in-Verdict-clause-none_good c = λ x points contours subject k.
     let lent = sym c.certificate.ensures.value ∙ ap option_copied c.unwrap-certificate.ensures in
     only_memory c.check_found.result x.name (λ _. HasGoodFamily x → ⊥)
-    (c.check_found.ensures.exact (lent_filled c.find.new.finder.found c.unwrap-certificate.result.now c.args.setting.now c.in_ok-find.ensures.filling lent))
+    (c.check_found.ensures.exact (lent_filled c.find.new.self.found c.unwrap-certificate.result.now c.args.setting.now c.in_ok-find.ensures.filling lent))
 
 pub unwrap-certificate-requires : goal.unwrap-certificate-requires
 unwrap-certificate-requires c = c.certificate.ensures.variant ∙ ap is_some c.in_ok-find.ensures.kept.is_kept
