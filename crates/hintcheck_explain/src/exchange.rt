@@ -2,7 +2,7 @@
 
 use crate::element::Element;
 use crate::instruction_text::count_of_data;
-use crate::view::{Known, View};
+use crate::view::View;
 use tt_code::kinds::{Arithmetic, Control, Effect, Operand, Row, StackOp};
 use tt_code::{Instr, entry};
 
@@ -13,36 +13,23 @@ pub(crate) struct Exchange {
     pub pushes: usize,
 }
 
-/// Returns the place, counted from the bottom, of the cell under this many others, on a stack of
-/// this depth.
-pub(crate) fn place_under(depth: usize, taken: usize) -> Option<usize> {
-    depth.checked_sub(1)?.checked_sub(taken)
-}
-
-/// Returns how many cells are taken with the count under this many others, a pair for each one that
-/// it counts, as far as that is known.
-fn cells_of_pairs(view: View<'_>, taken: usize) -> usize {
-    let Some(place) = place_under(view.depth(), taken) else {
-        return 1;
-    };
-    match view.known(Element::Stack(place)) {
-        Known::Number(number) => {
-            let count = usize::try_from(number).unwrap_or(0);
-            count.saturating_mul(2).saturating_add(1)
+/// Returns how many cells an operand takes after this many others, as far as that is known.
+fn cells_of(view: View<'_>, taken: usize, operand: Operand) -> usize {
+    match operand {
+        Operand::LoopPoints(_) => count_of(view.number(Element::Loop), 1),
+        Operand::PointPairs(_) | Operand::CvtPairs => {
+            let pairs = count_of(view.number_under(taken), 0);
+            pairs.saturating_mul(2).saturating_add(1)
         }
         _ => 1,
     }
 }
 
-/// Returns how many cells an operand takes after this many others, as far as that is known.
-fn cells_of(view: View<'_>, taken: usize, operand: Operand) -> usize {
-    match operand {
-        Operand::LoopPoints(_) => match view.known(Element::Loop) {
-            Known::Number(number) => usize::try_from(number).unwrap_or(1),
-            _ => 1,
-        },
-        Operand::PointPairs(_) | Operand::CvtPairs => cells_of_pairs(view, taken),
-        _ => 1,
+/// Returns a number as a count; this other one where it isn't known or is negative.
+pub(crate) fn count_of(number: Option<i32>, other: usize) -> usize {
+    match number {
+        Some(number) => usize::try_from(number).unwrap_or(other),
+        None => other,
     }
 }
 

@@ -13,19 +13,7 @@ const SHOWN_BRANCHES: usize = 12;
 /// Returns the index of the first way that leads from a point, or from one after it: the ways
 /// ascend by the points from which they lead.
 fn first_from(edges: &[Edge], point: PointKey) -> usize {
-    let mut low: usize = 0;
-    let mut high = edges.len();
-    for _ in 0..64 {
-        if low >= high {
-            break;
-        }
-        let middle = low + (high - low) / 2;
-        match edges.get(middle) {
-            Some(edge) if edge.from < point => low = middle + 1,
-            _ => high = middle,
-        }
-    }
-    low
+    edges.partition_point(|edge| edge.from < point)
 }
 
 /// Notes each new point to which a way leads from this one, with this one as the point before it.
@@ -142,10 +130,7 @@ impl fmt::Display for Route<'_, '_> {
         if before > 0 {
             write!(f, "\n    {before} branches before")?;
         }
-        for index in 0..SHOWN_BRANCHES {
-            let Some(branch) = self.branches.get(before.saturating_add(index)) else {
-                break;
-            };
+        for branch in self.branches.iter().skip(before) {
             let from = self.subject.place(branch.from);
             let name = self.subject.name_at(branch.from);
             let to = self.subject.place(branch.to);

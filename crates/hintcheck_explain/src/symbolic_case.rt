@@ -6,14 +6,12 @@ ghost use Rattle.hintcheck_explain.specs.Representation.Causes.{HasReason};
 use crate::describing::Beyond;
 use crate::element::Element;
 use crate::stepping::{StepOutcome, outcome_at};
-use crate::symbolic_origin::code_of;
 use crate::trouble::Trouble;
 use crate::view::{Known, View};
 use std::alloc::{AllocError, Global};
 use tt_abs::{Cell, Failed, Role, Setting, State};
 use tt_code::kinds::{Pointer, Reference};
-use tt_code::{Frame, Instr, Reason};
-use tt_symbolic_check::Site;
+use tt_code::{Frame, Reason};
 use tt_symbolic_state::state::State as SymbolicState;
 
 /// How many cells a state of the strict profile may have.
@@ -70,16 +68,12 @@ impl Ranged {
             Role::Turns => low > 0 || high <= 0,
             _ => false,
         };
-        if is_decided {
-            Some(Ranged {
-                element,
-                role,
-                low,
-                high,
-            })
-        } else {
-            None
-        }
+        is_decided.then_some(Ranged {
+            element,
+            role,
+            low,
+            high,
+        })
     }
 }
 
@@ -182,15 +176,6 @@ fn is_reason(reason: Reason, trouble: Trouble) -> bool
         Trouble::Range { .. } => reason == Reason::UnknownOperand,
         _ => true,
     }
-}
-
-/// Returns the instruction where a state is, if one is there.
-pub(crate) fn instruction_at<'a>(
-    setting: &Setting<'a>,
-    state: &SymbolicState,
-) -> Option<Instr<'a>> {
-    let place = Site::of(state);
-    code_of(setting, place.spot).at(place.offset)
 }
 
 /// Returns which test fails: numbers whose whole range passes their tests are passed over.

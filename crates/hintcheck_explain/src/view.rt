@@ -110,6 +110,19 @@ impl<'a> View<'a> {
         }
     }
 
+    /// Returns a number, if it is known.
+    pub(crate) fn number(self, element: Element) -> Option<i32> {
+        match self.known(element) {
+            Known::Number(number) => Some(number),
+            _ => None,
+        }
+    }
+
+    /// Returns the number on the stack under this many others, if it is known.
+    pub(crate) fn number_under(self, taken: usize) -> Option<i32> {
+        self.number(Element::under(self.depth(), taken)?)
+    }
+
     /// Returns the zone that a pointer names.
     pub(crate) fn zone(self, pointer: Pointer) -> ZoneCell {
         match self {
