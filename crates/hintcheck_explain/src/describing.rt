@@ -97,10 +97,7 @@ impl<'a> Scene<'a> {
             code: 0,
             offset: 0,
             depth: 0,
-            exchange: Exchange {
-                takes: 0,
-                pushes: 0,
-            },
+            exchange: Exchange::default(),
         }
     }
 }

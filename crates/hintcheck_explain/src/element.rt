@@ -1,7 +1,7 @@
 //! The numbers that an instruction's tests read, by where they are kept.
 
 use std::fmt;
-use tt_abs::{Cell, Failed, Register, State};
+use tt_abs::{Failed, Register};
 use tt_code::kinds::Reference;
 
 /// Where a number is kept that a test of an instruction reads: on the stack, in the graphics state
@@ -52,18 +52,6 @@ impl Element {
             Failed::Unknown { under, .. } => Element::under(depth, usize::try_from(under).ok()?),
             Failed::UnknownIn(register) => Some(Element::of_register(register)),
             _ => None,
-        }
-    }
-
-    /// Returns what a state knows of the number.
-    pub(crate) fn known_in(self, state: &State) -> Cell {
-        match self {
-            Element::Stack(place) => state.cell(place).unwrap_or(Cell::Unknown),
-            Element::Rp0 => state.reference_point(Reference::Rp0),
-            Element::Rp1 => state.reference_point(Reference::Rp1),
-            Element::Rp2 => state.reference_point(Reference::Rp2),
-            Element::Loop => state.loop_cell(),
-            Element::Storage(index) => state.storage(index),
         }
     }
 }

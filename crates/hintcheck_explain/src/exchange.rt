@@ -7,7 +7,7 @@ use tt_code::kinds::{Arithmetic, Control, Effect, Operand, Row, StackOp};
 use tt_code::{Instr, entry};
 
 /// How many cells an instruction takes from the stack, and how many it pushes onto it.
-#[derive(Clone, Copy)]
+#[derive(Clone, Copy, Default)]
 pub(crate) struct Exchange {
     pub takes: usize,
     pub pushes: usize,
@@ -52,8 +52,8 @@ fn cells_of_control(operation: Control) -> usize {
 }
 
 /// Returns how many cells a stack instruction takes and pushes.
-fn exchange_of_stack(operation: StackOp, depth: usize) -> Exchange {
-    let (takes, pushes) = match operation {
+fn exchange_of_stack(operation: StackOp, depth: usize) -> (usize, usize) {
+    match operation {
         StackOp::Dup => (1, 2),
         StackOp::Pop => (1, 0),
         StackOp::Clear => (depth, 0),
@@ -62,16 +62,15 @@ fn exchange_of_stack(operation: StackOp, depth: usize) -> Exchange {
         StackOp::CopyIndexed => (1, 1),
         StackOp::MoveIndexed => (1, 0),
         StackOp::Roll => (3, 3),
-    };
-    Exchange { takes, pushes }
+    }
 }
 
 /// Whether an arithmetic instruction takes only one number.
 pub(crate) fn is_of_one(operation: Arithmetic) -> bool {
-    match operation {
-        Arithmetic::Abs | Arithmetic::Neg | Arithmetic::Not => true,
-        _ => false,
-    }
+    matches!(
+        operation,
+        Arithmetic::Abs | Arithmetic::Neg | Arithmetic::Not
+    )
 }
 
 /// Returns how many cells an instruction takes and pushes, as far as that is known.
@@ -80,7 +79,7 @@ pub(crate) fn exchange_of(view: View<'_>, instr: &Instr<'_>) -> Exchange {
         Effect::NoEntry => (0, 0),
         Effect::Plain(row) => (cells_taken(view, row), row.pushes.len()),
         Effect::Push(push) => (0, count_of_data(*push, instr.data())),
-        Effect::Stack(operation) => return exchange_of_stack(*operation, view.depth()),
+        Effect::Stack(operation) => exchange_of_stack(*operation, view.depth()),
         Effect::Arithmetic(operation) => (if is_of_one(*operation) { 1 } else { 2 }, 1),
         Effect::Control(operation) => (cells_of_control(*operation), 0),
     };

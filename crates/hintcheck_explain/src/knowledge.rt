@@ -9,12 +9,12 @@ use crate::element::Element;
 use crate::legend::{CellText, Legend};
 use crate::view::{View, symbolic_cell};
 use std::fmt;
-use tt_abs::{Cell, Setting, State, ZoneCell};
+use tt_abs::{Setting, State, ZoneCell};
 use tt_cert::Name;
 use tt_code::kinds::Pointer;
 use tt_code::{Frame, Limits};
 use tt_stream::{PrintFailed, Sink};
-use tt_symbolic_state::cell::Cell as SymbolicCell;
+use tt_symbolic_state::cell::Cell;
 use tt_symbolic_state::state::State as SymbolicState;
 
 /// How many cells of the stack, and of a memory area, are printed.
@@ -24,7 +24,7 @@ pub(crate) const SHOWN_CELLS: usize = 16;
 #[derive(Clone, Copy)]
 enum NumberText<'a> {
     /// By what the strict profile knows of it.
-    Strict(Cell),
+    Strict(Option<i32>),
     /// By a cell of the symbolic profile.
     Symbolic(CellText<'a>),
 }
@@ -32,8 +32,8 @@ enum NumberText<'a> {
 impl fmt::Display for NumberText<'_> {
     fn fmt<W: fmt::Write>(&self, f: &mut fmt::Formatter<W>) -> fmt::Result {
         match *self {
-            NumberText::Strict(Cell::Known(number)) => write!(f, "{number}"),
-            NumberText::Strict(Cell::Unknown) => write!(f, "?"),
+            NumberText::Strict(Some(number)) => write!(f, "{number}"),
+            NumberText::Strict(None) => write!(f, "?"),
             NumberText::Symbolic(cell) => write!(f, "{cell}"),
         }
     }
@@ -59,10 +59,10 @@ impl<'l, 's> StateText<'l, 's> {
     /// Returns the text of a number.
     fn number(self, element: Element) -> NumberText<'l> {
         match self {
-            StateText::Strict(state, _) => NumberText::Strict(element.known_in(state)),
+            StateText::Strict(..) => NumberText::Strict(self.view().number(element)),
             StateText::Symbolic(state, legend) => match symbolic_cell(state, element) {
                 Some(cell) => NumberText::Symbolic(legend.text(cell)),
-                None => NumberText::Strict(Cell::Unknown),
+                None => NumberText::Strict(None),
             },
         }
     }
@@ -117,7 +117,7 @@ fn zone_name(zone: ZoneCell) -> &'static str {
 #[derive(Clone, Copy)]
 enum Entries<'l, 's> {
     Numbers(&'s [(u16, i32)]),
-    Cells(&'s [(u16, SymbolicCell)], &'l Legend<'s>),
+    Cells(&'s [(u16, Cell)], &'l Legend<'s>),
 }
 
 impl<'l, 's> Entries<'l, 's> {
@@ -134,7 +134,7 @@ impl<'l, 's> Entries<'l, 's> {
         match self {
             Entries::Numbers(entries) => {
                 let (index, number) = entries.get(place)?;
-                Some((*index, NumberText::Strict(Cell::Known(*number))))
+                Some((*index, NumberText::Strict(Some(*number))))
             }
             Entries::Cells(entries, legend) => {
                 let (index, cell) = entries.get(place)?;

@@ -2,11 +2,11 @@
 //! symbol whose range is told once.
 
 use crate::knowledge::SHOWN_CELLS;
-use crate::view::ALL_NUMBERS;
+use crate::view::range_of;
 use std::alloc::{AllocError, Global};
 use std::fmt;
 use tt_abs::SortedMap;
-use tt_symbolic_state::cell::{Cell, Range, bounds, number, symbol};
+use tt_symbolic_state::cell::{Cell, Range, number, symbol};
 use tt_symbolic_state::state::State;
 
 /// The names of the first symbols.
@@ -134,9 +134,9 @@ fn write_range<W: fmt::Write>(
     unknown: &str,
     f: &mut fmt::Formatter<W>,
 ) -> fmt::Result {
-    match bounds(cell, ranges) {
-        Some((low, high)) if high.saturating_sub(low) < ALL_NUMBERS => write!(f, "{low}..{high}"),
-        _ => f.write_str(unknown),
+    match range_of(cell, ranges) {
+        Some((low, high)) => write!(f, "{low}..{high}"),
+        None => f.write_str(unknown),
     }
 }
 
