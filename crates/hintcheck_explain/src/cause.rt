@@ -12,14 +12,24 @@ use tt_code::{Instr, Reason};
 use tt_stream::{PrintFailed, Sink};
 
 /// Prints why a program is refused, the class of the reason, and what to do.
-fn tell_why<O: Sink>(why: Why<'_>, out: &mut O) -> Result<(), PrintFailed>
+fn tell_why<O: Sink>(
+    scene: Scene<'_>,
+    reason: Reason,
+    trouble: Trouble,
+    out: &mut O,
+) -> Result<(), PrintFailed>
     ensures failures { CountsPrintFailure result (O.failures out.old) (O.failures out.new) }
 {
-    let class = class_of(why.reason, why.trouble);
-    let kind = class_text(why.reason, class);
-    let advice = match why.trouble {
+    let class = class_of(reason, trouble);
+    let kind = class_text(reason, class);
+    let advice = match trouble {
         Trouble::Range { .. } => ADVICE_ON_RANGE,
-        _ => advice_of(why.reason, class, why.scene.name),
+        _ => advice_of(reason, class, scene.name),
+    };
+    let why = Why {
+        scene,
+        reason,
+        trouble,
     };
     writeln!(out, "Why: {why}\nClass: {kind}\nWhat to do: {advice}")
 }
@@ -36,15 +46,7 @@ pub(crate) fn tell_cause_of_program<O: Sink>(
         Reason::ProgramTooLong => Trouble::Length(setting.main.len()),
         _ => Trouble::Other,
     };
-    let scene = Scene::nowhere(setting);
-    tell_why(
-        Why {
-            scene,
-            reason,
-            trouble,
-        },
-        out,
-    )
+    tell_why(Scene::nowhere(setting), reason, trouble, out)
 }
 
 /// Prints why a program is refused at an offset where this is known, and what the instruction there
@@ -61,13 +63,6 @@ pub(crate) fn tell_cause<O: Sink>(
     ensures failures { CountsPrintFailure result (O.failures out.old) (O.failures out.new) }
 {
     let scene = Scene::at(setting, instruction.as_ref(), offset, view);
-    tell_why(
-        Why {
-            scene,
-            reason,
-            trouble,
-        },
-        out,
-    )?;
+    tell_why(scene, reason, trouble, out)?;
     tell_effect(instruction.as_ref(), view, out)
 }

@@ -14,7 +14,7 @@ use crate::explored_program::{ExploredProgram, code_of};
 use crate::knowledge::{StateText, tell_state};
 use crate::origin::origin_of;
 use crate::origin_text::OriginText;
-use crate::route::{Route, branches_to};
+use crate::route::route_to;
 use crate::stepping::{StepOutcome, outcome_at};
 use crate::trouble::Trouble;
 use crate::view::View;
@@ -146,12 +146,7 @@ fn tell_route<O: Sink>(
 ) -> Result<(), ExplainFault>
     ensures failures { TellsFailure result (O.failures out.old) (O.failures out.new) }
 {
-    let branches = branches_to(alloc, subject, edges, point)?;
-    let route = Route {
-        subject: &*subject,
-        branches: branches.as_slice(),
-        point,
-    };
+    let route = route_to(alloc, subject, edges, point)?;
     writeln!(out, "{route}")?;
     Ok(())
 }

@@ -54,9 +54,9 @@ fn reached_points(
     Ok(reached)
 }
 
-/// A step of a route, from one point to the next one: `is_branch` tells whether it is a branch.
+/// A step of a route, from one point to the next one.
 #[derive(Clone, Copy)]
-pub(crate) struct Branch {
+struct Branch {
     from: PointKey,
     to: PointKey,
 }
@@ -77,16 +77,25 @@ fn is_branch(subject: &ExploredProgram<'_>, edges: &[Edge], branch: Branch) -> b
     }
 }
 
-/// Returns the branches of one route from the program's start to a point.
+/// One route to a point, by its branches.
+#[derive(Drop)]
+pub(crate) struct Route<'a, 'b> {
+    subject: &'a ExploredProgram<'b>,
+    /// The branches, the first one first.
+    branches: Vec<Branch>,
+    point: PointKey,
+}
+
+/// Returns one route from the program's start to a point.
 ///
 /// # Errors
 /// If memory runs out.
-pub(crate) fn branches_to(
+pub(crate) fn route_to<'a, 'b>(
     alloc: Global,
-    subject: &ExploredProgram<'_>,
+    subject: &'a ExploredProgram<'b>,
     edges: &[Edge],
     point: PointKey,
-) -> Result<Vec<Branch>, AllocError> {
+) -> Result<Route<'a, 'b>, AllocError> {
     let reached = reached_points(alloc, edges)?;
     let mut branches = Vec::new(alloc);
     let mut to = point;
@@ -101,16 +110,11 @@ pub(crate) fn branches_to(
         to = *from;
     }
     branches.reverse();
-    Ok(branches)
-}
-
-/// One route to a point, by its branches.
-#[derive(Clone, Copy)]
-pub(crate) struct Route<'a, 'b> {
-    pub subject: &'a ExploredProgram<'b>,
-    /// The branches, the first one first.
-    pub branches: &'a [Branch],
-    pub point: PointKey,
+    Ok(Route {
+        subject,
+        branches,
+        point,
+    })
 }
 
 impl fmt::Display for Route<'_, '_> {
