@@ -3,7 +3,6 @@
 use crate::instruction_text::{InstructionText, length_by_code};
 use hintcheck_report::Place;
 use std::fmt;
-use tt_cert::Name;
 use tt_code::Program;
 
 /// How many instructions are listed.
