@@ -50,15 +50,11 @@ pub(crate) fn tell_accepted<O: Sink>(
     let most = subject.setting.limits.stack;
     let contexts = subject.certificate.contexts();
     let points = subject.certificate.points();
-    writeln!(out, "accepted {name}")?;
-    writeln!(out, "Instructions: {instructions}")?;
     writeln!(
         out,
-        "Greatest depth of the stack: {depth} of at most {most} (maxStackElements)"
-    )?;
-    writeln!(
-        out,
-        "Contexts (lists of open calls, the empty one included): {contexts}"
-    )?;
-    writeln!(out, "Program points (places in a context): {points}")
+        "accepted {name}\nInstructions: {instructions}\n\
+        Greatest depth of the stack: {depth} of at most {most} (maxStackElements)\n\
+        Contexts (lists of open calls, the empty one included): {contexts}\n\
+        Program points (places in a context): {points}"
+    )
 }

@@ -3,7 +3,7 @@
 ghost use Rattle.std.specs.Prelude.{◌≡◌, IfSome};
 ghost use Rattle.hintcheck_explain.specs.Representation.Causes.{BringsDepths};
 
-use crate::describing::Numbers;
+use crate::describing::{Numbers, write_more};
 use crate::explored_program::ExploredProgram;
 use crate::stepping::{StepOutcome, outcome_at};
 use crate::trouble::{Arrival, Trouble};
@@ -146,12 +146,11 @@ pub(crate) fn depths_at(
 
 impl fmt::Display for Arrival {
     fn fmt<W: fmt::Write>(&self, f: &mut fmt::Formatter<W>) -> fmt::Result {
-        let depth = Numbers(self.depth);
-        let name = self.name;
         match self.from {
-            Some(place) => write!(f, "from {place} {name}, with {depth} on the stack"),
-            None => write!(f, "from the program's start, with {depth} on the stack"),
+            Some(place) => write!(f, "from {place} {}", self.name)?,
+            None => f.write_str("from the program's start")?,
         }
+        write!(f, ", with {} on the stack", Numbers(self.depth))
     }
 }
 
@@ -173,15 +172,11 @@ impl fmt::Display for Ways<'_, '_> {
         for edge in self.edges {
             if edge.to == self.point {
                 if count < SHOWN_WAYS {
-                    let way = arrival_of(self.subject, edge);
-                    write!(f, "\n    {way}")?;
+                    write!(f, "\n    {}", arrival_of(self.subject, edge))?;
                 }
                 count = count.saturating_add(1);
             }
         }
-        match count.checked_sub(SHOWN_WAYS) {
-            Some(more) if more > 0 => write!(f, "\n    and {more} more"),
-            _ => Ok(()),
-        }
+        write_more("\n    ", count, SHOWN_WAYS, f)
     }
 }

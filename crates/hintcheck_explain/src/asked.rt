@@ -20,9 +20,13 @@ pub struct Asked {
 impl Asked {
     /// Returns the place that is asked for, if one is, as it is printed.
     pub(crate) fn place(self) -> Option<Place> {
-        let Site { spot, offset } = self.site?;
-        Some(Place::at(self.program, spot, offset))
+        Some(place_of(self.program, self.site?))
     }
+}
+
+/// Returns the place of a site, as it is printed for the program of this name.
+pub(crate) fn place_of(program: Name, site: Site) -> Place {
+    Place::at(program, site.spot, site.offset)
 }
 
 /// Whether the program that was explained is accepted or refused.

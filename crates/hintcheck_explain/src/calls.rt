@@ -1,6 +1,7 @@
 //! The calls that are open at a place, as they are printed by either profile.
 
-use crate::legend::{CellText, Legend};
+use crate::knowledge::StateText;
+use crate::legend::Legend;
 use hintcheck_report::Place;
 use std::fmt;
 use tt_abs::Spot;
@@ -10,132 +11,87 @@ use tt_code::Frame;
 use tt_symbolic_state::cell::known;
 use tt_symbolic_state::state::OpenCall;
 
-/// A function's number, where the functions that are known tell it.
-#[derive(Clone, Copy)]
-struct FunctionText<'a> {
-    functions: &'a [(u16, u32)],
-    body: u32,
-}
-
-impl fmt::Display for FunctionText<'_> {
-    fn fmt<W: fmt::Write>(&self, f: &mut fmt::Formatter<W>) -> fmt::Result {
-        for (number, body) in self.functions {
-            if *body == self.body {
-                return write!(f, "function {number}");
-            }
-        }
-        write!(f, "a function")
-    }
-}
-
-/// The turns of a call, as they are printed.
-#[derive(Clone, Copy)]
-enum TurnsText<'a> {
-    /// Which it is of how many; nothing is printed of the only one.
-    Turn(u32, u32),
-    /// How many are left.
-    Left(CellText<'a>),
-    /// None is left.
-    Last,
-}
-
-impl fmt::Display for TurnsText<'_> {
-    fn fmt<W: fmt::Write>(&self, f: &mut fmt::Formatter<W>) -> fmt::Result {
-        match *self {
-            TurnsText::Turn(turn, count) if count > 1 => write!(f, " (turn {turn} of {count})"),
-            TurnsText::Left(left) => write!(f, " (turns left: {left})"),
-            _ => Ok(()),
-        }
-    }
-}
-
-/// One open call: the offset of its instruction, the body of its function, and its turns.
-#[derive(Clone, Copy)]
-struct Call<'a> {
-    offset: u32,
-    body: u32,
-    turns: TurnsText<'a>,
-}
-
-/// The open calls of a state, the outermost first: those of the symbolic profile with the names of its
-/// symbols.
-#[derive(Clone, Copy)]
-pub(crate) enum OpenCalls<'l, 's> {
-    Strict(&'s [Frame]),
-    Symbolic(&'s [OpenCall], &'l Legend<'s>),
-}
-
-impl<'l, 's> OpenCalls<'l, 's> {
-    /// Returns how many there are.
-    fn len(self) -> usize {
-        match self {
-            OpenCalls::Strict(frames) => frames.len(),
-            OpenCalls::Symbolic(calls, _) => calls.len(),
-        }
-    }
-
-    /// Returns the call that has this many outside it.
-    fn get(self, place: usize) -> Option<Call<'l>> {
-        match self {
-            OpenCalls::Strict(frames) => {
-                let frame = frames.get(place)?;
-                Some(Call {
-                    offset: frame.call,
-                    body: frame.body,
-                    turns: TurnsText::Turn(frame.turn, frame.count),
-                })
-            }
-            OpenCalls::Symbolic(calls, legend) => {
-                let call = calls.get(place)?;
-                let turns = if call.left == known(0) {
-                    TurnsText::Last
-                } else {
-                    TurnsText::Left(legend.text(call.left))
-                };
-                Some(Call {
-                    offset: call.call,
-                    body: call.body,
-                    turns,
-                })
-            }
-        }
-    }
-}
-
-/// The open calls, the outermost first, each with its place and its function.
+/// The open calls of a state, the outermost first, each with its place and its function.
 #[derive(Clone, Copy)]
 pub(crate) struct Calls<'l, 's> {
     pub program: Name,
-    /// The functions that are known, each with its body.
-    pub functions: &'s [(u16, u32)],
-    pub open: OpenCalls<'l, 's>,
+    pub state: StateText<'l, 's>,
+}
+
+impl Calls<'_, '_> {
+    /// Writes a call from an offset in the caller's spot, and the function's body that it enters.
+    fn write_call<W: fmt::Write>(
+        &self,
+        caller: Spot,
+        offset: u32,
+        body: u32,
+        f: &mut fmt::Formatter<W>,
+    ) -> fmt::Result {
+        let functions = self.state.view().functions();
+        write!(
+            f,
+            "\n    {} calls ",
+            Place::at(self.program, caller, offset)
+        )?;
+        match functions.iter().find(|function| function.1 == body) {
+            Some(function) => write!(f, "function {}", function.0)?,
+            None => f.write_str("a function")?,
+        }
+        let start = Place::at(self.program, Spot::of_body(body), body_offset(body));
+        write!(f, ", whose body begins at {start}")
+    }
+
+    /// Writes the calls of the strict profile, each with its turn, if it has more than one.
+    fn write_strict<W: fmt::Write>(
+        &self,
+        frames: &[Frame],
+        f: &mut fmt::Formatter<W>,
+    ) -> fmt::Result {
+        let mut caller = Spot::Main;
+        for frame in frames {
+            self.write_call(caller, frame.call, frame.body, f)?;
+            if frame.count > 1 {
+                write!(f, " (turn {} of {})", frame.turn, frame.count)?;
+            }
+            caller = Spot::of_body(frame.body);
+        }
+        Ok(())
+    }
+
+    /// Writes the calls of the symbolic profile, each with how many turns are left, if any is.
+    fn write_symbolic<W: fmt::Write>(
+        &self,
+        calls: &[OpenCall],
+        legend: &Legend<'_>,
+        f: &mut fmt::Formatter<W>,
+    ) -> fmt::Result {
+        let mut caller = Spot::Main;
+        for call in calls {
+            self.write_call(caller, call.call, call.body, f)?;
+            if call.left != known(0) {
+                write!(f, " (turns left: {})", legend.text(call.left))?;
+            }
+            caller = Spot::of_body(call.body);
+        }
+        Ok(())
+    }
 }
 
 impl fmt::Display for Calls<'_, '_> {
     fn fmt<W: fmt::Write>(&self, f: &mut fmt::Formatter<W>) -> fmt::Result {
-        let count = self.open.len();
+        let count = match self.state {
+            StateText::Strict(_, frames) => frames.len(),
+            StateText::Symbolic(state, _) => state.calls.len(),
+        };
         if count == 0 {
-            return write!(f, "Open calls: none");
+            return f.write_str("Open calls: none");
         }
-        write!(f, "Open calls, the outermost first:")?;
-        let mut caller = Spot::Main;
-        for place in 0..count {
-            let Some(call) = self.open.get(place) else {
-                break;
-            };
-            let at = Place::at(self.program, caller, call.offset);
-            let function = FunctionText {
-                functions: self.functions,
-                body: call.body,
-            };
-            caller = Spot::of_body(call.body);
-            let body = Place::at(self.program, caller, body_offset(call.body));
-            write!(
-                f,
-                "\n    {at} calls {function}, whose body begins at {body}"
-            )?;
-            write!(f, "{}", call.turns)?;
+        f.write_str("Open calls, the outermost first:")?;
+        match self.state {
+            StateText::Strict(_, frames) => self.write_strict(frames, f),
+            StateText::Symbolic(state, legend) => {
+                self.write_symbolic(state.calls.as_slice(), legend, f)
+            }
         }
-        Ok(())
     }
 }

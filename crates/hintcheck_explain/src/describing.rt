@@ -3,7 +3,7 @@
 use crate::element::Element;
 use crate::exchange::{Exchange, exchange_of};
 use crate::instruction_text::name_of;
-use crate::trouble::{Arrival, Trouble};
+use crate::trouble::Trouble;
 use crate::view::View;
 use std::fmt;
 use tt_abs::{Failed, Register, Role, Setting, ZoneCell};
@@ -20,6 +20,19 @@ impl fmt::Display for Numbers {
             1 => write!(f, "1 number"),
             count => write!(f, "{count} numbers"),
         }
+    }
+}
+
+/// Writes how many there are more of something than are shown, if there are more.
+pub(crate) fn write_more<W: fmt::Write>(
+    before: &str,
+    count: usize,
+    shown: usize,
+    f: &mut fmt::Formatter<W>,
+) -> fmt::Result {
+    match count.checked_sub(shown) {
+        Some(more) if more > 0 => write!(f, "{before}and {more} more"),
+        _ => Ok(()),
     }
 }
 
@@ -84,75 +97,8 @@ impl<'a> Scene<'a> {
             code: 0,
             offset: 0,
             depth: 0,
-            exchange: Exchange {
-                takes: 0,
-                pushes: 0,
-            },
+            exchange: Exchange::default(),
         }
-    }
-}
-
-/// Where the bound of an index comes from.
-#[derive(Clone, Copy)]
-struct BoundText<'a> {
-    setting: &'a Setting<'a>,
-    role: Role,
-}
-
-impl fmt::Display for BoundText<'_> {
-    fn fmt<W: fmt::Write>(&self, f: &mut fmt::Formatter<W>) -> fmt::Result {
-        let limits = self.setting.limits;
-        match self.role {
-            Role::Point => {
-                let glyph = self.setting.points_in(ZoneCell::One);
-                let twilight = limits.twilight;
-                write!(
-                    f,
-                    "the glyph zone has {glyph} points, phantom points included, "
-                )?;
-                write!(f, "and the twilight zone {twilight}")
-            }
-            Role::ControlValue => {
-                let cvt = self.setting.cvt;
-                write!(f, "the font has {cvt} control values")
-            }
-            Role::StorageCell => {
-                let storage = limits.storage;
-                write!(f, "maxStorage is {storage}")
-            }
-            Role::Function => {
-                let functions = limits.functions;
-                write!(f, "maxFunctionDefs is {functions}")
-            }
-            _ => write!(f, "the zone has no other one"),
-        }
-    }
-}
-
-/// Why a number isn't an index that the instruction can take.
-#[derive(Clone, Copy)]
-struct IndexText<'a> {
-    scene: Scene<'a>,
-    role: Role,
-    number: i32,
-    bound: u32,
-}
-
-impl fmt::Display for IndexText<'_> {
-    fn fmt<W: fmt::Write>(&self, f: &mut fmt::Formatter<W>) -> fmt::Result {
-        let name = self.scene.name;
-        let number = self.number;
-        let bound = self.bound;
-        let text = role_text(self.role);
-        let reason = BoundText {
-            setting: self.scene.setting,
-            role: self.role,
-        };
-        write!(
-            f,
-            "{name} uses {number} as {text}, and it has to be at least 0 and "
-        )?;
-        write!(f, "below {bound} here: {reason}.")
     }
 }
 
@@ -170,8 +116,7 @@ impl Beyond {
     pub(crate) fn of(setting: &Setting<'_>, failed: Failed) -> Option<Beyond> {
         let limits = setting.limits;
         let (role, number, bound) = match failed {
-            Failed::NoPoint { zone, number } => (Role::Point, number, setting.points_in(zone)),
-            Failed::NoReferencePoint { zone, number, .. } => {
+            Failed::NoPoint { zone, number } | Failed::NoReferencePoint { zone, number, .. } => {
                 (Role::Point, number, setting.points_in(zone))
             }
             Failed::NoControlValue { index } => (Role::ControlValue, index, setting.cvt),
@@ -192,240 +137,141 @@ impl Beyond {
     }
 }
 
-/// Why a number of a range may be no index that the instruction can take.
-#[derive(Clone, Copy)]
-struct RangeText<'a> {
-    scene: Scene<'a>,
-    element: Element,
-    role: Role,
-    low: i64,
-    high: i64,
-    bound: u32,
-}
-
-impl fmt::Display for RangeText<'_> {
-    fn fmt<W: fmt::Write>(&self, f: &mut fmt::Formatter<W>) -> fmt::Result {
-        let name = self.scene.name;
-        let element = self.element;
-        let text = role_text(self.role);
-        let low = self.low;
-        let high = self.high;
-        let bound = self.bound;
-        let reason = BoundText {
-            setting: self.scene.setting,
-            role: self.role,
-        };
-        write!(
-            f,
-            "{name} uses {element} as {text}. It may be any from {low} "
-        )?;
-        write!(
-            f,
-            "to {high} here, and it has to be at least 0 and below {bound}: "
-        )?;
-        write!(f, "{reason}.")
-    }
-}
-
-/// Why the depth of the stack is wrong: too small, or too great.
-#[derive(Clone, Copy)]
-struct DepthText<'a> {
-    scene: Scene<'a>,
-    failed: Failed,
-}
-
-impl DepthText<'_> {
+impl Scene<'_> {
     /// Returns how many cells the instruction takes, of which the stack hasn't enough.
-    fn wanted(&self) -> usize {
-        let takes = self.scene.exchange.takes;
-        let least = match self.failed {
+    fn wanted(self, failed: Failed) -> usize {
+        let least = match failed {
             Failed::NoElement { index } => usize::try_from(index).unwrap_or(0),
-            _ => self.scene.depth,
+            _ => self.depth,
         };
-        takes.max(least.saturating_add(1))
+        self.exchange.takes.max(least.saturating_add(1))
     }
-}
 
-impl fmt::Display for DepthText<'_> {
-    fn fmt<W: fmt::Write>(&self, f: &mut fmt::Formatter<W>) -> fmt::Result {
-        let name = self.scene.name;
-        let depth = self.scene.depth;
-        match self.failed {
-            Failed::TooDeep { depth: after } => {
-                let most = self.scene.setting.limits.stack;
-                let takes = Numbers(self.scene.exchange.takes);
-                let pushes = self.scene.exchange.pushes;
-                write!(
-                    f,
-                    "The stack is {depth} deep before {name}, which takes {takes} and "
-                )?;
-                write!(f, "pushes {pushes}: it would be {after} deep, ")?;
-                write!(f, "and maxStackElements is {most}.")
-            }
-            _ => {
-                let takes = Numbers(self.wanted());
-                let depth = Numbers(depth);
-                write!(
-                    f,
-                    "{name} takes {takes} from the stack, which holds {depth} here."
-                )
-            }
+    /// Writes where the bound of an index comes from, as the end of a sentence.
+    fn write_bound<W: fmt::Write>(self, role: Role, f: &mut fmt::Formatter<W>) -> fmt::Result {
+        let limits = self.setting.limits;
+        match role {
+            Role::Point => write!(
+                f,
+                "the glyph zone has {} points, phantom points included, and the twilight zone {}.",
+                self.setting.points_in(ZoneCell::One),
+                limits.twilight
+            ),
+            Role::ControlValue => write!(f, "the font has {} control values.", self.setting.cvt),
+            Role::StorageCell => write!(f, "maxStorage is {}.", limits.storage),
+            Role::Function => write!(f, "maxFunctionDefs is {}.", limits.functions),
+            _ => write!(f, "the zone has no other one."),
         }
     }
-}
 
-/// Why a number isn't one that the instruction can take.
-#[derive(Clone, Copy)]
-struct NumberText<'a> {
-    scene: Scene<'a>,
-    failed: Failed,
-}
+    /// Writes why a number isn't an index that the instruction can take.
+    fn write_beyond<W: fmt::Write>(self, beyond: Beyond, f: &mut fmt::Formatter<W>) -> fmt::Result {
+        write!(
+            f,
+            "{} uses {} as {}, and it has to be at least 0 and below {} here: ",
+            self.name,
+            beyond.number,
+            role_text(beyond.role),
+            beyond.bound
+        )?;
+        self.write_bound(beyond.role, f)
+    }
 
-impl fmt::Display for NumberText<'_> {
-    fn fmt<W: fmt::Write>(&self, f: &mut fmt::Formatter<W>) -> fmt::Result {
-        let name = self.scene.name;
-        match self.failed {
-            Failed::Unknown { role, .. } => {
-                let role = role_text(role);
-                write!(
-                    f,
-                    "{name} uses the number on the stack as {role}, and it isn't known here."
-                )
-            }
+    /// Writes why a test of the instruction fails.
+    fn write_failed<W: fmt::Write>(self, failed: Failed, f: &mut fmt::Formatter<W>) -> fmt::Result {
+        let name = self.name;
+        let limits = self.setting.limits;
+        if let Some(beyond) = Beyond::of(self.setting, failed) {
+            return self.write_beyond(beyond, f);
+        }
+        match failed {
+            Failed::TooDeep { depth } => write!(
+                f,
+                "The stack is {} deep before {name}, which takes {} and pushes {}: \
+                it would be {depth} deep, and maxStackElements is {}.",
+                self.depth,
+                Numbers(self.exchange.takes),
+                self.exchange.pushes,
+                limits.stack
+            ),
+            Failed::TooFew { .. } | Failed::NoElement { .. } => write!(
+                f,
+                "{name} takes {} from the stack, which holds {} here.",
+                Numbers(self.wanted(failed)),
+                Numbers(self.depth)
+            ),
+            Failed::Only(Reason::Opcode) => write!(
+                f,
+                "The byte 0x{:02x} is the code of no instruction that is followed.",
+                self.code
+            ),
+            Failed::Only(reason) => f.write_str(reason_text(reason)),
+            Failed::OtherDepth { .. } => f.write_str(reason_text(Reason::DepthMismatch)),
+            _ => self.write_way(failed, f),
+        }
+    }
+
+    /// Writes why an instruction can't go where it leads, or why a number isn't one that it can take.
+    fn write_way<W: fmt::Write>(self, failed: Failed, f: &mut fmt::Formatter<W>) -> fmt::Result {
+        let name = self.name;
+        match failed {
+            Failed::Undefined { number } => write!(
+                f,
+                "{name} calls function {number}. Its number is below maxFunctionDefs, {}, \
+                but no definition of it is known to have run before.",
+                self.setting.limits.functions
+            ),
+            Failed::NoTarget { by } => write!(
+                f,
+                "{name} jumps by {by} bytes to offset {}, and there no instruction \
+                of the same program or function begins.",
+                i64::from(self.offset).saturating_add(i64::from(by))
+            ),
+            Failed::Running { number } => write!(
+                f,
+                "{name} calls function {number}, which is running already."
+            ),
+            _ => self.write_number(failed, f),
+        }
+    }
+
+    /// Writes why a number isn't one that the instruction can take.
+    fn write_number<W: fmt::Write>(self, failed: Failed, f: &mut fmt::Formatter<W>) -> fmt::Result {
+        let name = self.name;
+        match failed {
+            Failed::Unknown { role, .. } => write!(
+                f,
+                "{name} uses the number on the stack as {}, and it isn't known here.",
+                role_text(role)
+            ),
             Failed::UnknownIn(Register::Loop) => {
                 write!(f, "{name} uses the loop number, and it isn't known here.")
             }
-            Failed::UnknownIn(register) => {
-                let element = Element::of_register(register);
-                let role = role_text(Role::Point);
-                write!(
-                    f,
-                    "{name} uses {element} as {role}, and it isn't known here."
-                )
-            }
-            Failed::NegativeCount { count } => {
-                write!(
-                    f,
-                    "{name} uses {count} as a count, and it has to be at least 0."
-                )
-            }
-            Failed::NegativeLoop { count } => {
-                write!(
-                    f,
-                    "{name} uses {count} as the loop number, and it has to be at least 0."
-                )
-            }
-            Failed::LowIndex { index } => {
-                let role = role_text(Role::StackIndex);
-                write!(
-                    f,
-                    "{name} uses {index} as {role}, and it has to be at least 1."
-                )
-            }
-            Failed::NoZone { number } => {
-                let zones = self.scene.setting.limits.zones;
-                write!(
-                    f,
-                    "{name} uses {number} as the number of a zone: zone 1 is the glyph's, and 0, "
-                )?;
-                write!(f, "the twilight zone, needs maxZones 2. It is {zones}.")
-            }
+            Failed::UnknownIn(register) => write!(
+                f,
+                "{name} uses {} as the number of a point, and it isn't known here.",
+                Element::of_register(register)
+            ),
+            Failed::NegativeCount { count } => write!(
+                f,
+                "{name} uses {count} as a count, and it has to be at least 0."
+            ),
+            Failed::NegativeLoop { count } => write!(
+                f,
+                "{name} uses {count} as the loop number, and it has to be at least 0."
+            ),
+            Failed::LowIndex { index } => write!(
+                f,
+                "{name} uses {index} as the index of a number on the stack, \
+                and it has to be at least 1."
+            ),
+            Failed::NoZone { number } => write!(
+                f,
+                "{name} uses {number} as the number of a zone: zone 1 is the glyph's, and 0, \
+                the twilight zone, needs maxZones 2. It is {}.",
+                self.setting.limits.zones
+            ),
             _ => Ok(()),
-        }
-    }
-}
-
-/// Why an instruction can't go where it leads, or why its code isn't followed.
-#[derive(Clone, Copy)]
-struct WayText<'a> {
-    scene: Scene<'a>,
-    failed: Failed,
-}
-
-impl fmt::Display for WayText<'_> {
-    fn fmt<W: fmt::Write>(&self, f: &mut fmt::Formatter<W>) -> fmt::Result {
-        let name = self.scene.name;
-        match self.failed {
-            Failed::Undefined { number } => {
-                let functions = self.scene.setting.limits.functions;
-                write!(
-                    f,
-                    "{name} calls function {number}. Its number is below maxFunctionDefs, "
-                )?;
-                write!(
-                    f,
-                    "{functions}, but no definition of it is known to have run before."
-                )
-            }
-            Failed::NoTarget { by } => {
-                let target = i64::from(self.scene.offset).saturating_add(i64::from(by));
-                write!(
-                    f,
-                    "{name} jumps by {by} bytes to offset {target}, and there no "
-                )?;
-                write!(f, "instruction of the same program or function begins.")
-            }
-            Failed::Running { number } => {
-                write!(
-                    f,
-                    "{name} calls function {number}, which is running already."
-                )
-            }
-            Failed::Only(Reason::Opcode) => {
-                let code = self.scene.code;
-                write!(
-                    f,
-                    "The byte 0x{code:02x} is the code of no instruction that is followed."
-                )
-            }
-            _ => Ok(()),
-        }
-    }
-}
-
-/// Why a test of an instruction fails.
-#[derive(Clone, Copy)]
-struct FailedText<'a> {
-    scene: Scene<'a>,
-    failed: Failed,
-}
-
-impl fmt::Display for FailedText<'_> {
-    fn fmt<W: fmt::Write>(&self, f: &mut fmt::Formatter<W>) -> fmt::Result {
-        let scene = self.scene;
-        let failed = self.failed;
-        if let Some(beyond) = Beyond::of(scene.setting, failed) {
-            let Beyond {
-                role,
-                number,
-                bound,
-            } = beyond;
-            let text = IndexText {
-                scene,
-                role,
-                number,
-                bound,
-            };
-            return write!(f, "{text}");
-        }
-        match failed {
-            Failed::TooFew { .. } | Failed::NoElement { .. } | Failed::TooDeep { .. } => {
-                let text = DepthText { scene, failed };
-                write!(f, "{text}")
-            }
-            Failed::Only(Reason::Opcode)
-            | Failed::Undefined { .. }
-            | Failed::NoTarget { .. }
-            | Failed::Running { .. } => {
-                let text = WayText { scene, failed };
-                write!(f, "{text}")
-            }
-            Failed::Only(reason) => f.write_str(reason_text(reason)),
-            Failed::OtherDepth { .. } => f.write_str(reason_text(Reason::DepthMismatch)),
-            _ => {
-                let text = NumberText { scene, failed };
-                write!(f, "{text}")
-            }
         }
     }
 }
@@ -458,30 +304,11 @@ fn reason_text(reason: Reason) -> &'static str {
     }
 }
 
-/// From where stacks of different depths come.
-#[derive(Clone, Copy)]
-struct DepthsText {
-    one: Arrival,
-    other: Arrival,
-}
-
-impl fmt::Display for DepthsText {
-    fn fmt<W: fmt::Write>(&self, f: &mut fmt::Formatter<W>) -> fmt::Result {
-        let one = self.one;
-        let other = self.other;
-        write!(f, "Ways that meet here bring stacks of different depths: ")?;
-        write!(f, "one comes {one}; another one {other}.")
-    }
-}
-
 impl fmt::Display for Why<'_> {
     fn fmt<W: fmt::Write>(&self, f: &mut fmt::Formatter<W>) -> fmt::Result {
         let scene = self.scene;
         match self.trouble {
-            Trouble::Failed(failed) => {
-                let text = FailedText { scene, failed };
-                write!(f, "{text}")
-            }
+            Trouble::Failed(failed) => scene.write_failed(failed, f),
             Trouble::Range {
                 element,
                 role,
@@ -489,27 +316,25 @@ impl fmt::Display for Why<'_> {
                 high,
                 bound,
             } => {
-                let text = RangeText {
-                    scene,
-                    element,
-                    role,
-                    low,
-                    high,
-                    bound,
-                };
-                write!(f, "{text}")
-            }
-            Trouble::Depths { one, other } => {
-                let text = DepthsText { one, other };
-                write!(f, "{text}")
-            }
-            Trouble::Length(length) => {
-                let limit = scene.setting.limits.program_size;
                 write!(
                     f,
-                    "The program has {length} bytes, and maxSizeOfInstructions is {limit}."
-                )
+                    "{} uses {element} as {}. It may be any from {low} to {high} here, \
+                    and it has to be at least 0 and below {bound}: ",
+                    scene.name,
+                    role_text(role)
+                )?;
+                scene.write_bound(role, f)
             }
+            Trouble::Depths { one, other } => write!(
+                f,
+                "Ways that meet here bring stacks of different depths: \
+                one comes {one}; another one {other}."
+            ),
+            Trouble::Length(length) => write!(
+                f,
+                "The program has {length} bytes, and maxSizeOfInstructions is {}.",
+                scene.setting.limits.program_size
+            ),
             Trouble::Other => f.write_str(reason_text(self.reason)),
         }
     }

@@ -3,11 +3,11 @@
 ghost use Rattle.tt_stream.specs.Streams.{CountsPrintFailure};
 
 use crate::describing::Numbers;
-use crate::exchange::{Exchange, exchange_of};
+use crate::exchange::{exchange_of, is_of_one};
 use crate::instruction_text::name_of;
 use crate::view::View;
 use std::fmt;
-use tt_code::kinds::{Arithmetic, Control, Effect, Operand, Row, StackOp};
+use tt_code::kinds::{Control, Effect, Operand, StackOp};
 use tt_code::{Instr, entry};
 use tt_stream::{PrintFailed, Sink};
 
@@ -38,14 +38,6 @@ fn stack_text(operation: StackOp) -> &'static str {
     }
 }
 
-/// Returns what an arithmetic instruction takes, in words.
-fn arithmetic_text(operation: Arithmetic) -> &'static str {
-    match operation {
-        Arithmetic::Abs | Arithmetic::Neg | Arithmetic::Not => "a number",
-        _ => "two numbers",
-    }
-}
-
 /// Returns what a control instruction takes, in words.
 fn control_text(operation: Control) -> &'static str {
     match operation {
@@ -58,58 +50,42 @@ fn control_text(operation: Control) -> &'static str {
     }
 }
 
-/// The operands of a line, the top first.
-#[derive(Clone, Copy)]
-struct Operands(Row);
-
-impl fmt::Display for Operands {
-    fn fmt<W: fmt::Write>(&self, f: &mut fmt::Formatter<W>) -> fmt::Result {
-        if self.0.operands.is_empty() {
-            return write!(f, "nothing");
-        }
-        let mut comma = "";
-        for operand in self.0.operands {
-            let text = operand_text(*operand);
-            write!(f, "{comma}{text}")?;
-            comma = ", ";
-        }
-        Ok(())
+/// Writes operands, the top first.
+fn write_operands<W: fmt::Write>(operands: &[Operand], f: &mut fmt::Formatter<W>) -> fmt::Result {
+    if operands.is_empty() {
+        return f.write_str("nothing");
     }
+    let mut comma = "";
+    for operand in operands {
+        write!(f, "{comma}{}", operand_text(*operand))?;
+        comma = ", ";
+    }
+    Ok(())
 }
 
 /// What an instruction takes and pushes.
 #[derive(Clone, Copy)]
 struct EffectText {
     code: u8,
-    exchange: Exchange,
-}
-
-impl EffectText {
-    /// Makes the text of an instruction at a place where this is known.
-    fn of(view: View<'_>, instr: &Instr<'_>) -> EffectText {
-        EffectText {
-            code: instr.code(),
-            exchange: exchange_of(view, instr),
-        }
-    }
+    pushes: usize,
 }
 
 impl fmt::Display for EffectText {
     fn fmt<W: fmt::Write>(&self, f: &mut fmt::Formatter<W>) -> fmt::Result {
-        let name = name_of(self.code);
-        let pushes = Numbers(self.exchange.pushes);
-        write!(f, "{name} takes, the top of the stack first: ")?;
+        write!(
+            f,
+            "{} takes, the top of the stack first: ",
+            name_of(self.code)
+        )?;
         match entry(self.code) {
-            Effect::NoEntry | Effect::Push(_) => write!(f, "nothing")?,
-            Effect::Plain(row) => {
-                let operands = Operands(*row);
-                write!(f, "{operands}")?;
-            }
+            Effect::NoEntry | Effect::Push(_) => f.write_str("nothing")?,
+            Effect::Plain(row) => write_operands(row.operands, f)?,
             Effect::Stack(operation) => f.write_str(stack_text(*operation))?,
-            Effect::Arithmetic(operation) => f.write_str(arithmetic_text(*operation))?,
+            Effect::Arithmetic(operation) if is_of_one(*operation) => f.write_str("a number")?,
+            Effect::Arithmetic(_) => f.write_str("two numbers")?,
             Effect::Control(operation) => f.write_str(control_text(*operation))?,
         }
-        write!(f, "; it pushes {pushes}.")
+        write!(f, "; it pushes {}.", Numbers(self.pushes))
     }
 }
 
@@ -118,17 +94,18 @@ impl fmt::Display for EffectText {
 /// # Errors
 /// `Write` exactly where a write failed.
 pub(crate) fn tell_effect<O: Sink>(
-    instruction: Option<Instr<'_>>,
+    instruction: Option<&Instr<'_>>,
     view: View<'_>,
     out: &mut O,
 ) -> Result<(), PrintFailed>
     ensures failures { CountsPrintFailure result (O.failures out.old) (O.failures out.new) }
 {
-    match instruction {
-        Some(instruction) => {
-            let effect = EffectText::of(view, &instruction);
-            writeln!(out, "What is there: {effect}")
-        }
-        None => Ok(()),
-    }
+    let Some(instruction) = instruction else {
+        return Ok(());
+    };
+    let effect = EffectText {
+        code: instruction.code(),
+        pushes: exchange_of(view, instruction).pushes,
+    };
+    writeln!(out, "What is there: {effect}")
 }

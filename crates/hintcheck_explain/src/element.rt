@@ -1,8 +1,7 @@
 //! The numbers that an instruction's tests read, by where they are kept.
 
-use crate::exchange::place_under;
 use std::fmt;
-use tt_abs::{Cell, Failed, Register, State};
+use tt_abs::{Failed, Register};
 use tt_code::kinds::Reference;
 
 /// Where a number is kept that a test of an instruction reads: on the stack, in the graphics state
@@ -22,6 +21,11 @@ pub(crate) enum Element {
 }
 
 impl Element {
+    /// Returns the number under this many others, on a stack of this depth.
+    pub(crate) fn under(depth: usize, taken: usize) -> Option<Element> {
+        Some(Element::Stack(depth.checked_sub(1)?.checked_sub(taken)?))
+    }
+
     /// Returns where a reference point's number is kept.
     pub(crate) fn of_reference(reference: Reference) -> Element {
         match reference {
@@ -45,27 +49,9 @@ impl Element {
     /// it fails. The stack has this depth.
     pub(crate) fn unknown(failed: Failed, depth: usize) -> Option<Element> {
         match failed {
-            Failed::Unknown { under, .. } => {
-                let taken = usize::try_from(under).ok()?;
-                Some(Element::Stack(place_under(depth, taken)?))
-            }
+            Failed::Unknown { under, .. } => Element::under(depth, usize::try_from(under).ok()?),
             Failed::UnknownIn(register) => Some(Element::of_register(register)),
             _ => None,
-        }
-    }
-
-    /// Returns what a state knows of the number.
-    pub(crate) fn known_in(self, state: &State) -> Cell {
-        match self {
-            Element::Stack(place) => match state.cell(place) {
-                Some(cell) => cell,
-                None => Cell::Unknown,
-            },
-            Element::Rp0 => state.reference_point(Reference::Rp0),
-            Element::Rp1 => state.reference_point(Reference::Rp1),
-            Element::Rp2 => state.reference_point(Reference::Rp2),
-            Element::Loop => state.loop_cell(),
-            Element::Storage(index) => state.storage(index),
         }
     }
 }
@@ -79,19 +65,6 @@ impl fmt::Display for Element {
             Element::Rp2 => write!(f, "the number in rp2"),
             Element::Loop => write!(f, "the loop number"),
             Element::Storage(index) => write!(f, "the number in storage cell {index}"),
-        }
-    }
-}
-
-/// What is known of a number, as it is printed.
-#[derive(Clone, Copy)]
-pub(crate) struct Shown(pub Cell);
-
-impl fmt::Display for Shown {
-    fn fmt<W: fmt::Write>(&self, f: &mut fmt::Formatter<W>) -> fmt::Result {
-        match self.0 {
-            Cell::Known(number) => write!(f, "{number}"),
-            Cell::Unknown => write!(f, "?"),
         }
     }
 }

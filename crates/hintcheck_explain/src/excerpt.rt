@@ -3,7 +3,6 @@
 use crate::instruction_text::{InstructionText, length_by_code};
 use hintcheck_report::Place;
 use std::fmt;
-use tt_cert::Name;
 use tt_code::Program;
 
 /// How many instructions are listed.
@@ -29,10 +28,7 @@ impl<'a> Code<'a> {
                     return None;
                 }
                 let length = length_by_code(rest);
-                match rest.get(..length) {
-                    Some(instruction) => Some(instruction),
-                    None => Some(rest),
-                }
+                Some(rest.get(..length).unwrap_or(rest))
             }
         }
     }
@@ -44,81 +40,55 @@ impl<'a> Code<'a> {
     }
 }
 
-/// The last four offsets at which instructions began, the last one first.
-#[derive(Clone, Copy)]
-struct Recent {
-    first: u32,
-    second: u32,
-    third: u32,
-    fourth: u32,
-}
-
 /// Returns the offset of the instruction with which a list around an offset begins: four before,
 /// if there are that many.
 fn start_around(code: Code<'_>, offset: u32) -> u32 {
-    let mut recent = Recent {
-        first: 0,
-        second: 0,
-        third: 0,
-        fourth: 0,
-    };
+    // The offsets of the last four instructions, the last one first.
+    let mut recent = [0; 4];
     let mut at = 0;
     for _ in 0..offset {
         if at >= offset {
             break;
         }
-        recent = Recent {
-            first: at,
-            second: recent.first,
-            third: recent.second,
-            fourth: recent.third,
-        };
+        recent = [at, recent[0], recent[1], recent[2]];
         match code.after(at) {
             Some(next) => at = next,
             None => break,
         }
     }
-    recent.fourth
+    recent[3]
 }
 
 /// The instructions around a place of a program, which is marked.
 #[derive(Clone, Copy)]
 pub(crate) struct Excerpt<'a> {
     code: Code<'a>,
-    program: Name,
-    first: u32,
-    marked: u32,
+    place: Place,
 }
 
 impl<'a> Excerpt<'a> {
     /// Makes the list of the instructions around a place.
     pub(crate) fn around(code: Code<'a>, place: Place) -> Excerpt<'a> {
-        Excerpt {
-            code,
-            program: place.program,
-            first: start_around(code, place.offset),
-            marked: place.offset,
-        }
+        Excerpt { code, place }
     }
 }
 
 impl fmt::Display for Excerpt<'_> {
     fn fmt<W: fmt::Write>(&self, f: &mut fmt::Formatter<W>) -> fmt::Result {
-        write!(f, "Instructions around it:")?;
-        let mut offset = self.first;
+        let Place { program, offset } = self.place;
+        f.write_str("Instructions around it:")?;
+        let mut at = start_around(self.code, offset);
         for _ in 0..LISTED {
-            let mark = if offset == self.marked { '>' } else { ' ' };
-            let program = self.program;
-            let Some(bytes) = self.code.at(offset) else {
-                if offset == self.marked {
-                    write!(f, "\n  {mark} {program}:{offset} the program's end")?;
+            let mark = if at == offset { '>' } else { ' ' };
+            let Some(bytes) = self.code.at(at) else {
+                if at == offset {
+                    write!(f, "\n  {mark} {program}:{at} the program's end")?;
                 }
                 break;
             };
-            let text = InstructionText(bytes);
-            write!(f, "\n  {mark} {program}:{offset} {text}")?;
-            match self.code.after(offset) {
-                Some(next) => offset = next,
+            write!(f, "\n  {mark} {program}:{at} {}", InstructionText(bytes))?;
+            match self.code.after(at) {
+                Some(next) => at = next,
                 None => break,
             }
         }

@@ -2,47 +2,34 @@
 
 use crate::element::Element;
 use crate::instruction_text::count_of_data;
-use crate::view::{Known, View};
+use crate::view::View;
 use tt_code::kinds::{Arithmetic, Control, Effect, Operand, Row, StackOp};
 use tt_code::{Instr, entry};
 
 /// How many cells an instruction takes from the stack, and how many it pushes onto it.
-#[derive(Clone, Copy)]
+#[derive(Clone, Copy, Default)]
 pub(crate) struct Exchange {
     pub takes: usize,
     pub pushes: usize,
 }
 
-/// Returns the place, counted from the bottom, of the cell under this many others, on a stack of
-/// this depth.
-pub(crate) fn place_under(depth: usize, taken: usize) -> Option<usize> {
-    depth.checked_sub(1)?.checked_sub(taken)
-}
-
-/// Returns how many cells are taken with the count under this many others, a pair for each one that
-/// it counts, as far as that is known.
-fn cells_of_pairs(view: View<'_>, taken: usize) -> usize {
-    let Some(place) = place_under(view.depth(), taken) else {
-        return 1;
-    };
-    match view.known(Element::Stack(place)) {
-        Known::Number(number) => {
-            let count = usize::try_from(number).unwrap_or(0);
-            count.saturating_mul(2).saturating_add(1)
+/// Returns how many cells an operand takes after this many others, as far as that is known.
+fn cells_of(view: View<'_>, taken: usize, operand: Operand) -> usize {
+    match operand {
+        Operand::LoopPoints(_) => count_of(view.number(Element::Loop), 1),
+        Operand::PointPairs(_) | Operand::CvtPairs => {
+            let pairs = count_of(view.number_under(taken), 0);
+            pairs.saturating_mul(2).saturating_add(1)
         }
         _ => 1,
     }
 }
 
-/// Returns how many cells an operand takes after this many others, as far as that is known.
-fn cells_of(view: View<'_>, taken: usize, operand: Operand) -> usize {
-    match operand {
-        Operand::LoopPoints(_) => match view.known(Element::Loop) {
-            Known::Number(number) => usize::try_from(number).unwrap_or(1),
-            _ => 1,
-        },
-        Operand::PointPairs(_) | Operand::CvtPairs => cells_of_pairs(view, taken),
-        _ => 1,
+/// Returns a number as a count; this other one where it isn't known or is negative.
+pub(crate) fn count_of(number: Option<i32>, other: usize) -> usize {
+    match number {
+        Some(number) => usize::try_from(number).unwrap_or(other),
+        None => other,
     }
 }
 
@@ -65,8 +52,8 @@ fn cells_of_control(operation: Control) -> usize {
 }
 
 /// Returns how many cells a stack instruction takes and pushes.
-fn exchange_of_stack(operation: StackOp, depth: usize) -> Exchange {
-    let (takes, pushes) = match operation {
+fn exchange_of_stack(operation: StackOp, depth: usize) -> (usize, usize) {
+    match operation {
         StackOp::Dup => (1, 2),
         StackOp::Pop => (1, 0),
         StackOp::Clear => (depth, 0),
@@ -75,16 +62,15 @@ fn exchange_of_stack(operation: StackOp, depth: usize) -> Exchange {
         StackOp::CopyIndexed => (1, 1),
         StackOp::MoveIndexed => (1, 0),
         StackOp::Roll => (3, 3),
-    };
-    Exchange { takes, pushes }
+    }
 }
 
 /// Whether an arithmetic instruction takes only one number.
 pub(crate) fn is_of_one(operation: Arithmetic) -> bool {
-    match operation {
-        Arithmetic::Abs | Arithmetic::Neg | Arithmetic::Not => true,
-        _ => false,
-    }
+    matches!(
+        operation,
+        Arithmetic::Abs | Arithmetic::Neg | Arithmetic::Not
+    )
 }
 
 /// Returns how many cells an instruction takes and pushes, as far as that is known.
@@ -93,7 +79,7 @@ pub(crate) fn exchange_of(view: View<'_>, instr: &Instr<'_>) -> Exchange {
         Effect::NoEntry => (0, 0),
         Effect::Plain(row) => (cells_taken(view, row), row.pushes.len()),
         Effect::Push(push) => (0, count_of_data(*push, instr.data())),
-        Effect::Stack(operation) => return exchange_of_stack(*operation, view.depth()),
+        Effect::Stack(operation) => exchange_of_stack(*operation, view.depth()),
         Effect::Arithmetic(operation) => (if is_of_one(*operation) { 1 } else { 2 }, 1),
         Effect::Control(operation) => (cells_of_control(*operation), 0),
     };

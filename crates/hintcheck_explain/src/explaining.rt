@@ -7,15 +7,15 @@ ghost use Rattle.tt_abs.specs.StateFlow.{FunctionsFit};
 ghost use Rattle.hintcheck_explain.specs.Faults.{IsAnsweredFor, TellsFailure};
 
 use crate::accepted::tell_accepted;
-use crate::asked::{Asked, ExplainFault, Explained};
+use crate::asked::{Asked, ExplainFault, Explained, place_of};
 use crate::excerpt::{Code, Excerpt};
-use crate::explored_program::ExploredProgram;
+use crate::explored_program::{ExploredProgram, code_of};
 use crate::needs::tell_needs;
 use crate::reached::tell_contexts;
 use crate::refusal::tell_refusal;
-use hintcheck_report::{Place, Refused};
+use hintcheck_report::Refused;
 use std::alloc::Global;
-use tt_abs::{Failed, Refusal, Setting, Spot};
+use tt_abs::{Refusal, Setting};
 use tt_family::Budget;
 use tt_find::explore;
 use tt_stream::Sink;
@@ -30,46 +30,12 @@ fn tell_site<O: Sink>(
 ) -> Result<(), ExplainFault>
     ensures failures { TellsFailure result (O.failures out.old) (O.failures out.new) }
 {
-    let place = Place::at(subject.name, site.spot, site.offset);
-    let listing = Excerpt::around(Code::Cut(subject.code(site.spot)), place);
+    let place = place_of(subject.name, site);
+    let listing = Excerpt::around(Code::Cut(code_of(subject.setting, site.spot)), place);
     writeln!(out, "What is known at {place}:")?;
     tell_contexts(alloc, subject, place, out)?;
     writeln!(out, "{listing}")?;
     Ok(())
-}
-
-/// Explains an accepted program.
-fn explain_accepted<O: Sink>(
-    alloc: Global,
-    subject: &ExploredProgram<'_>,
-    asked: Asked,
-    out: &mut O,
-) -> Result<(), ExplainFault>
-    ensures failures { TellsFailure result (O.failures out.old) (O.failures out.new) }
-{
-    tell_accepted(subject, out)?;
-    match asked.site {
-        Some(site) => tell_site(alloc, subject, site, out),
-        None => Ok(()),
-    }
-}
-
-/// Explains a program that is refused, after the line that tells so.
-fn explain_refused<O: Sink>(
-    alloc: Global,
-    subject: &ExploredProgram<'_>,
-    asked: Asked,
-    spot: Spot,
-    offset: u32,
-    failed: Failed,
-    out: &mut O,
-) -> Result<(), ExplainFault>
-    ensures failures { TellsFailure result (O.failures out.old) (O.failures out.new) }
-{
-    match asked.site {
-        Some(site) => tell_site(alloc, subject, site, out),
-        None => tell_refusal(alloc, subject, spot, offset, failed, out),
-    }
 }
 
 /// Explains a program that could be cut and is structured: how much it takes, or why it is refused.
@@ -98,7 +64,10 @@ pub fn explain<O: Sink>(
     };
     match explored.fault {
         None => {
-            explain_accepted(alloc, &subject, asked, out)?;
+            tell_accepted(&subject, out)?;
+            if let Some(site) = asked.site {
+                tell_site(alloc, &subject, site, out)?;
+            }
             Ok(Explained::Accepted)
         }
         Some(
@@ -110,8 +79,13 @@ pub fn explain<O: Sink>(
         ) => {
             let refused = Refused::at(asked.program, spot, offset, failed.reason());
             writeln!(out, "{refused}")?;
-            explain_refused(alloc, &subject, asked, spot, offset, failed, out)?;
-            tell_needs(alloc, setting, asked, failed, budget, out)?;
+            match asked.site {
+                Some(site) => tell_site(alloc, &subject, site, out)?,
+                None => {
+                    tell_refusal(alloc, &subject, spot, offset, failed, out)?;
+                    tell_needs(alloc, setting, asked.program, failed, budget, out)?;
+                }
+            }
             Ok(Explained::Refused(refused))
         }
         Some(Refusal::Exhausted(by)) => Err(ExplainFault::from(by)),

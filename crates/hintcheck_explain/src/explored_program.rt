@@ -12,6 +12,7 @@ use tt_abs::{Move, Setting, Spot};
 use tt_cert::Name;
 use tt_code::{Frame, Instr, Program};
 use tt_family::{Certificate, PointKey};
+use tt_symbolic_check::Site;
 
 /// A program that is explained: its name, what it is checked against, and the contexts and states
 /// that the search has found of it.
@@ -20,6 +21,20 @@ pub(crate) struct ExploredProgram<'a> {
     pub name: Name,
     pub setting: &'a Setting<'a>,
     pub certificate: &'a Certificate,
+}
+
+/// Returns the program of a spot.
+pub(crate) fn code_of<'a>(setting: &Setting<'a>, spot: Spot) -> &'a Program<'a> {
+    match spot {
+        Spot::Main => setting.main,
+        Spot::Font => setting.font,
+        Spot::Prep => setting.prep,
+    }
+}
+
+/// Returns the instruction at a site, if one is there.
+pub(crate) fn instruction_at<'a>(setting: &Setting<'a>, site: Site) -> Option<Instr<'a>> {
+    code_of(setting, site.spot).at(site.offset)
 }
 
 impl<'a> ExploredProgram<'a> {
@@ -42,7 +57,7 @@ impl<'a> ExploredProgram<'a> {
 
     /// Returns the instruction at a point.
     pub(crate) fn instruction_at(&self, point: PointKey) -> Option<Instr<'a>> {
-        self.code(self.spot(point.0)).at(point.1)
+        code_of(self.setting, self.spot(point.0)).at(point.1)
     }
 
     /// Returns the name of the instruction at a point; words for the program's end where there is
@@ -59,15 +74,6 @@ impl<'a> ExploredProgram<'a> {
         match self.instruction_at(point) {
             Some(instruction) => instruction.code(),
             None => 0,
-        }
-    }
-
-    /// Returns the program of a spot.
-    pub(crate) fn code(&self, spot: Spot) -> &'a Program<'a> {
-        match spot {
-            Spot::Main => self.setting.main,
-            Spot::Font => self.setting.font,
-            Spot::Prep => self.setting.prep,
         }
     }
 

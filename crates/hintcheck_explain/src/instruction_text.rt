@@ -1,5 +1,6 @@
 //! Instructions as they are printed: the name, and what a push instruction pushes.
 
+use crate::describing::write_more;
 use std::fmt;
 use tt_code::kinds::{Effect, Push};
 use tt_code::{entry, name};
@@ -30,33 +31,18 @@ fn number_of_data(push: Push, data: &[u8], index: usize) -> Option<i32> {
 
 /// Returns the name of the instruction with this code: `?` where the instruction set has none.
 pub(crate) fn name_of(code: u8) -> &'static str {
-    match name(code) {
-        Some(name) => name,
-        None => "?",
-    }
+    name(code).unwrap_or("?")
 }
 
-/// The numbers that a push instruction pushes.
-#[derive(Clone, Copy)]
-struct Data<'a> {
-    push: Push,
-    bytes: &'a [u8],
-}
-
-impl fmt::Display for Data<'_> {
-    fn fmt<W: fmt::Write>(&self, f: &mut fmt::Formatter<W>) -> fmt::Result {
-        for index in 0..SHOWN_NUMBERS {
-            let Some(number) = number_of_data(self.push, self.bytes, index) else {
-                break;
-            };
-            write!(f, " {number}")?;
-        }
-        let count = count_of_data(self.push, self.bytes);
-        match count.checked_sub(SHOWN_NUMBERS) {
-            Some(more) if more > 0 => write!(f, " and {more} more"),
-            _ => Ok(()),
-        }
+/// Writes the numbers that a push instruction pushes.
+fn write_data<W: fmt::Write>(push: Push, data: &[u8], f: &mut fmt::Formatter<W>) -> fmt::Result {
+    for index in 0..SHOWN_NUMBERS {
+        let Some(number) = number_of_data(push, data, index) else {
+            break;
+        };
+        write!(f, " {number}")?;
     }
+    write_more(" ", count_of_data(push, data), SHOWN_NUMBERS, f)
 }
 
 /// An instruction by its bytes.
@@ -68,27 +54,18 @@ impl fmt::Display for InstructionText<'_> {
         let [code, rest @ ..] = self.0 else {
             return Ok(());
         };
-        let name = name_of(*code);
         match entry(*code) {
+            Effect::NoEntry => write!(f, "? (code 0x{code:02x})"),
             Effect::Push(push) => {
-                let bytes = match push {
-                    Push::CountedBytes | Push::CountedWords => after_count(rest),
+                let data = match push {
+                    Push::CountedBytes | Push::CountedWords => rest.get(1..).unwrap_or(&[]),
                     Push::Bytes(_) | Push::Words(_) => rest,
                 };
-                let data = Data { push: *push, bytes };
-                write!(f, "{name}{data}")
+                f.write_str(name_of(*code))?;
+                write_data(*push, data, f)
             }
-            Effect::NoEntry => write!(f, "? (code 0x{code:02x})"),
-            _ => write!(f, "{name}"),
+            _ => f.write_str(name_of(*code)),
         }
-    }
-}
-
-/// Returns the bytes after the first one, which is a count.
-fn after_count(bytes: &[u8]) -> &[u8] {
-    match bytes {
-        [_, data @ ..] => data,
-        [] => &[],
     }
 }
 
@@ -97,10 +74,7 @@ pub(crate) fn length_by_code(bytes: &[u8]) -> usize {
     let [code, rest @ ..] = bytes else {
         return 1;
     };
-    let count = match rest {
-        [count, ..] => usize::from(*count),
-        [] => 0,
-    };
+    let count = usize::from(rest.first().copied().unwrap_or(0));
     match entry(*code) {
         Effect::Push(Push::CountedBytes) => 2 + count,
         Effect::Push(Push::CountedWords) => 2 + 2 * count,

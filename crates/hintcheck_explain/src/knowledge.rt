@@ -3,18 +3,18 @@
 
 ghost use Rattle.tt_stream.specs.Streams.{CountsPrintFailure};
 
-use crate::calls::{Calls, OpenCalls};
-use crate::element::{Element, Shown};
-use crate::exchange::place_under;
+use crate::calls::Calls;
+use crate::describing::write_more;
+use crate::element::Element;
 use crate::legend::{CellText, Legend};
 use crate::view::{View, symbolic_cell};
 use std::fmt;
-use tt_abs::{Cell, Setting, State, ZoneCell};
+use tt_abs::{Setting, State, ZoneCell};
 use tt_cert::Name;
-use tt_code::Limits;
 use tt_code::kinds::Pointer;
+use tt_code::{Frame, Limits};
 use tt_stream::{PrintFailed, Sink};
-use tt_symbolic_state::cell::Cell as SymbolicCell;
+use tt_symbolic_state::cell::Cell;
 use tt_symbolic_state::state::State as SymbolicState;
 
 /// How many cells of the stack, and of a memory area, are printed.
@@ -24,7 +24,7 @@ pub(crate) const SHOWN_CELLS: usize = 16;
 #[derive(Clone, Copy)]
 enum NumberText<'a> {
     /// By what the strict profile knows of it.
-    Strict(Cell),
+    Strict(Option<i32>),
     /// By a cell of the symbolic profile.
     Symbolic(CellText<'a>),
 }
@@ -32,24 +32,26 @@ enum NumberText<'a> {
 impl fmt::Display for NumberText<'_> {
     fn fmt<W: fmt::Write>(&self, f: &mut fmt::Formatter<W>) -> fmt::Result {
         match *self {
-            NumberText::Strict(cell) => write!(f, "{}", Shown(cell)),
+            NumberText::Strict(Some(number)) => write!(f, "{number}"),
+            NumberText::Strict(None) => write!(f, "?"),
             NumberText::Symbolic(cell) => write!(f, "{cell}"),
         }
     }
 }
 
-/// A state that is printed, of the symbolic profile with the names of its symbols.
+/// A state that is printed: one of the strict profile with its open calls, or one of the symbolic
+/// profile with the names of its symbols.
 #[derive(Clone, Copy)]
 pub(crate) enum StateText<'l, 's> {
-    Strict(&'s State),
+    Strict(&'s State, &'s [Frame]),
     Symbolic(&'s SymbolicState, &'l Legend<'s>),
 }
 
 impl<'l, 's> StateText<'l, 's> {
     /// Returns what is known.
-    fn view(self) -> View<'s> {
+    pub(crate) fn view(self) -> View<'s> {
         match self {
-            StateText::Strict(state) => View::Strict(state),
+            StateText::Strict(state, _) => View::Strict(state),
             StateText::Symbolic(state, _) => View::Symbolic(state),
         }
     }
@@ -57,10 +59,10 @@ impl<'l, 's> StateText<'l, 's> {
     /// Returns the text of a number.
     fn number(self, element: Element) -> NumberText<'l> {
         match self {
-            StateText::Strict(state) => NumberText::Strict(element.known_in(state)),
+            StateText::Strict(..) => NumberText::Strict(self.view().number(element)),
             StateText::Symbolic(state, legend) => match symbolic_cell(state, element) {
                 Some(cell) => NumberText::Symbolic(legend.text(cell)),
-                None => NumberText::Strict(Cell::Unknown),
+                None => NumberText::Strict(None),
             },
         }
     }
@@ -68,45 +70,42 @@ impl<'l, 's> StateText<'l, 's> {
     /// Returns the storage cells that are known.
     fn stored(self) -> Entries<'l, 's> {
         match self {
-            StateText::Strict(state) => Entries::Numbers(state.stored()),
+            StateText::Strict(state, _) => Entries::Numbers(state.stored()),
             StateText::Symbolic(state, legend) => Entries::Cells(state.storage.as_slice(), legend),
         }
     }
-}
 
-/// How many cells there are, which tells how many aren't printed.
-#[derive(Clone, Copy)]
-struct MoreText(usize);
-
-impl fmt::Display for MoreText {
-    fn fmt<W: fmt::Write>(&self, f: &mut fmt::Formatter<W>) -> fmt::Result {
-        match self.0.checked_sub(SHOWN_CELLS) {
-            Some(more) if more > 0 => write!(f, " and {more} more"),
-            _ => Ok(()),
-        }
-    }
-}
-
-/// The cells of the stack, from the top on.
-#[derive(Clone, Copy)]
-struct StackText<'l, 's>(StateText<'l, 's>);
-
-impl fmt::Display for StackText<'_, '_> {
-    fn fmt<W: fmt::Write>(&self, f: &mut fmt::Formatter<W>) -> fmt::Result {
-        let depth = self.0.view().depth();
+    /// Writes the cells of the stack, from the top on.
+    fn write_stack<W: fmt::Write>(self, f: &mut fmt::Formatter<W>) -> fmt::Result {
+        let depth = self.view().depth();
         for taken in 0..SHOWN_CELLS {
-            let Some(place) = place_under(depth, taken) else {
+            let Some(element) = Element::under(depth, taken) else {
                 break;
             };
-            let number = self.0.number(Element::Stack(place));
-            write!(f, " {number}")?;
+            write!(f, " {}", self.number(element))?;
         }
-        write!(f, "{}", MoreText(depth))
+        write_more(" ", depth, SHOWN_CELLS, f)
+    }
+
+    /// Writes the graphics state, as far as it decides which points and counts are in range.
+    fn write_graphics<W: fmt::Write>(self, f: &mut fmt::Formatter<W>) -> fmt::Result {
+        let view = self.view();
+        write!(
+            f,
+            "rp0 {}, rp1 {}, rp2 {}; zp0 {}, zp1 {}, zp2 {}; loop {}",
+            self.number(Element::Rp0),
+            self.number(Element::Rp1),
+            self.number(Element::Rp2),
+            zone_name(view.zone(Pointer::Zp0)),
+            zone_name(view.zone(Pointer::Zp1)),
+            zone_name(view.zone(Pointer::Zp2)),
+            self.number(Element::Loop)
+        )
     }
 }
 
 /// Returns a zone's name.
-pub(crate) fn zone_name(zone: ZoneCell) -> &'static str {
+fn zone_name(zone: ZoneCell) -> &'static str {
     match zone {
         ZoneCell::Zero => "twilight",
         ZoneCell::One => "glyph",
@@ -114,30 +113,11 @@ pub(crate) fn zone_name(zone: ZoneCell) -> &'static str {
     }
 }
 
-/// The graphics state, as far as it decides which points and counts are in range.
-#[derive(Clone, Copy)]
-struct GraphicsText<'l, 's>(StateText<'l, 's>);
-
-impl fmt::Display for GraphicsText<'_, '_> {
-    fn fmt<W: fmt::Write>(&self, f: &mut fmt::Formatter<W>) -> fmt::Result {
-        let rp0 = self.0.number(Element::Rp0);
-        let rp1 = self.0.number(Element::Rp1);
-        let rp2 = self.0.number(Element::Rp2);
-        let loop_number = self.0.number(Element::Loop);
-        let view = self.0.view();
-        let zp0 = zone_name(view.zone(Pointer::Zp0));
-        let zp1 = zone_name(view.zone(Pointer::Zp1));
-        let zp2 = zone_name(view.zone(Pointer::Zp2));
-        write!(f, "rp0 {rp0}, rp1 {rp1}, rp2 {rp2}; ")?;
-        write!(f, "zp0 {zp0}, zp1 {zp1}, zp2 {zp2}; loop {loop_number}")
-    }
-}
-
 /// The entries of a memory area that are known, each with its number.
 #[derive(Clone, Copy)]
 enum Entries<'l, 's> {
     Numbers(&'s [(u16, i32)]),
-    Cells(&'s [(u16, SymbolicCell)], &'l Legend<'s>),
+    Cells(&'s [(u16, Cell)], &'l Legend<'s>),
 }
 
 impl<'l, 's> Entries<'l, 's> {
@@ -154,7 +134,7 @@ impl<'l, 's> Entries<'l, 's> {
         match self {
             Entries::Numbers(entries) => {
                 let (index, number) = entries.get(place)?;
-                Some((*index, NumberText::Strict(Cell::Known(*number))))
+                Some((*index, NumberText::Strict(Some(*number))))
             }
             Entries::Cells(entries, legend) => {
                 let (index, cell) = entries.get(place)?;
@@ -176,37 +156,31 @@ impl fmt::Display for Entries<'_, '_> {
             };
             write!(f, " [{index}]={number}")?;
         }
-        write!(f, "{}", MoreText(count))
+        write_more(" ", count, SHOWN_CELLS, f)
     }
 }
 
 /// What a state knows, against the limits of its font.
 #[derive(Clone, Copy)]
 struct Knowledge<'l, 's> {
-    limits: Limits,
-    /// How many control values the font has.
-    cvt: u32,
+    setting: &'s Setting<'s>,
     state: StateText<'l, 's>,
 }
 
 impl fmt::Display for Knowledge<'_, '_> {
     fn fmt<W: fmt::Write>(&self, f: &mut fmt::Formatter<W>) -> fmt::Result {
-        let depth = self.state.view().depth();
-        let most = self.limits.stack;
-        let stack = StackText(self.state);
-        let graphics = GraphicsText(self.state);
-        let cells = self.limits.storage;
-        let storage = self.state.stored();
-        write!(
-            f,
-            "Stack, the top first ({depth} of at most {most}):{stack}\n"
-        )?;
-        write!(f, "Graphics state: {graphics}\n")?;
-        write!(f, "Storage cells ({cells} in all):{storage}")?;
-        let StateText::Symbolic(state, legend) = self.state else {
+        let state = self.state;
+        let depth = state.view().depth();
+        let Limits { stack, storage, .. } = self.setting.limits;
+        write!(f, "Stack, the top first ({depth} of at most {stack}):")?;
+        state.write_stack(f)?;
+        f.write_str("\nGraphics state: ")?;
+        state.write_graphics(f)?;
+        write!(f, "\nStorage cells ({storage} in all):{}", state.stored())?;
+        let StateText::Symbolic(state, legend) = state else {
             return Ok(());
         };
-        let values = self.cvt;
+        let values = self.setting.cvt;
         let controls = Entries::Cells(state.controls.as_slice(), legend);
         write!(f, "\nControl values ({values} in all):{controls}{legend}")
     }
@@ -216,22 +190,12 @@ impl fmt::Display for Knowledge<'_, '_> {
 pub(crate) fn tell_state<O: Sink>(
     program: Name,
     setting: &Setting<'_>,
-    open: OpenCalls<'_, '_>,
     state: StateText<'_, '_>,
     out: &mut O,
 ) -> Result<(), PrintFailed>
     ensures failures { CountsPrintFailure result (O.failures out.old) (O.failures out.new) }
 {
-    let calls = Calls {
-        program,
-        functions: state.view().functions(),
-        open,
-    };
-    let knowledge = Knowledge {
-        limits: setting.limits,
-        cvt: setting.cvt,
-        state,
-    };
-    writeln!(out, "{calls}")?;
-    writeln!(out, "{knowledge}")
+    let calls = Calls { program, state };
+    let knowledge = Knowledge { setting, state };
+    writeln!(out, "{calls}\n{knowledge}")
 }

@@ -2,11 +2,11 @@
 //! symbol whose range is told once.
 
 use crate::knowledge::SHOWN_CELLS;
-use crate::view::ALL_NUMBERS;
+use crate::view::range_of;
 use std::alloc::{AllocError, Global};
 use std::fmt;
 use tt_abs::SortedMap;
-use tt_symbolic_state::cell::{Cell, Range, bounds, number, symbol};
+use tt_symbolic_state::cell::{Cell, Range, number, symbol};
 use tt_symbolic_state::state::State;
 
 /// The names of the first symbols.
@@ -41,13 +41,10 @@ fn shown_cells(alloc: Global, state: &State) -> Result<Vec<Cell>, AllocError> {
 
 /// Returns how many of the cells have a symbol.
 fn count_uses(cells: &[Cell], symbol: u32) -> usize {
-    let mut count: usize = 0;
-    for cell in cells {
-        if cell.factor != 0 && cell.symbol == symbol {
-            count = count.saturating_add(1);
-        }
-    }
-    count
+    cells
+        .iter()
+        .filter(|cell| cell.factor != 0 && cell.symbol == symbol)
+        .count()
 }
 
 /// Whether a cell's symbol is to be named: another cell has it too, or the cell is a multiple of it.
@@ -59,7 +56,7 @@ fn is_named(cells: &[Cell], cell: Cell) -> bool {
 #[derive(Drop)]
 pub(crate) struct Legend<'a> {
     /// The ranges of all symbols.
-    pub ranges: &'a [Range],
+    ranges: &'a [Range],
     /// The symbols that are named, in the order of their names.
     named: Vec<u32>,
 }
@@ -84,12 +81,8 @@ impl<'a> Legend<'a> {
 
     /// Returns the name of a symbol, if it has one.
     fn name(&self, symbol: u32) -> Option<SymbolName> {
-        for (place, named) in self.named.as_slice().iter().enumerate() {
-            if *named == symbol {
-                return Some(SymbolName(place));
-            }
-        }
-        None
+        let place = self.named.iter().position(|named| *named == symbol)?;
+        Some(SymbolName(place))
     }
 
     /// Returns the text of a cell.
@@ -111,13 +104,8 @@ impl fmt::Display for Legend<'_> {
     fn fmt<W: fmt::Write>(&self, f: &mut fmt::Formatter<W>) -> fmt::Result {
         let mut before = "\nwhere ";
         for (place, named) in self.named.as_slice().iter().enumerate() {
-            let name = SymbolName(place);
-            let range = Bounded {
-                cell: symbol(*named),
-                ranges: self.ranges,
-                unknown: "any number",
-            };
-            write!(f, "{before}{name} is {range}")?;
+            write!(f, "{before}{} is ", SymbolName(place))?;
+            write_range(symbol(*named), self.ranges, "any number", f)?;
             before = ", ";
         }
         Ok(())
@@ -138,23 +126,17 @@ impl fmt::Display for SymbolName {
     }
 }
 
-/// What a cell may be, from the least to the greatest number.
-#[derive(Clone, Copy)]
-struct Bounded<'a> {
+/// Writes what a cell may be, from the least to the greatest number; this text where nothing is known
+/// of it.
+fn write_range<W: fmt::Write>(
     cell: Cell,
-    ranges: &'a [Range],
-    /// What is printed where nothing is known.
-    unknown: &'static str,
-}
-
-impl fmt::Display for Bounded<'_> {
-    fn fmt<W: fmt::Write>(&self, f: &mut fmt::Formatter<W>) -> fmt::Result {
-        match bounds(self.cell, self.ranges) {
-            Some((low, high)) if high.saturating_sub(low) < ALL_NUMBERS => {
-                write!(f, "{low}..{high}")
-            }
-            _ => f.write_str(self.unknown),
-        }
+    ranges: &[Range],
+    unknown: &str,
+    f: &mut fmt::Formatter<W>,
+) -> fmt::Result {
+    match range_of(cell, ranges) {
+        Some((low, high)) => write!(f, "{low}..{high}"),
+        None => f.write_str(unknown),
     }
 }
 
@@ -173,43 +155,28 @@ impl fmt::Display for CellText<'_> {
             return write!(f, "{number}");
         }
         let Some(name) = self.name else {
-            let range = Bounded {
-                cell: self.cell,
-                ranges: self.ranges,
-                unknown: "?",
-            };
-            return write!(f, "{range}");
+            return write_range(self.cell, self.ranges, "?", f);
         };
-        let multiple = Multiple {
-            factor: self.cell.factor,
-            name,
-        };
-        let offset = self.cell.offset;
-        let distance = offset.unsigned_abs();
+        let Cell { factor, offset, .. } = self.cell;
         if offset == 0 {
-            write!(f, "{multiple}")
-        } else if offset > 0 {
-            write!(f, "({multiple} + {distance})")
-        } else {
-            write!(f, "({multiple} - {distance})")
+            return write_multiple(factor, name, f);
         }
+        f.write_str("(")?;
+        write_multiple(factor, name, f)?;
+        let sign = if offset > 0 { '+' } else { '-' };
+        write!(f, " {sign} {})", offset.unsigned_abs())
     }
 }
 
-/// A multiple of a symbol.
-#[derive(Clone, Copy)]
-struct Multiple {
+/// Writes a multiple of a symbol.
+fn write_multiple<W: fmt::Write>(
     factor: i32,
     name: SymbolName,
-}
-
-impl fmt::Display for Multiple {
-    fn fmt<W: fmt::Write>(&self, f: &mut fmt::Formatter<W>) -> fmt::Result {
-        let name = self.name;
-        match self.factor {
-            1 => write!(f, "{name}"),
-            -1 => write!(f, "-{name}"),
-            factor => write!(f, "{factor}{name}"),
-        }
+    f: &mut fmt::Formatter<W>,
+) -> fmt::Result {
+    match factor {
+        1 => write!(f, "{name}"),
+        -1 => write!(f, "-{name}"),
+        _ => write!(f, "{factor}{name}"),
     }
 }

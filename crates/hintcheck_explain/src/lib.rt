@@ -30,7 +30,6 @@ mod route;
 mod stepping;
 mod symbolic;
 mod symbolic_case;
-mod symbolic_origin;
 mod trouble;
 mod unread;
 mod view;

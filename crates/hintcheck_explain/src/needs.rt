@@ -9,10 +9,11 @@ ghost use Rattle.tt_find.specs.FoundSubjects.{IsJustifiedFor};
 ghost use Rattle.hintcheck_explain.specs.Faults.{HasLeast, TellsFailure};
 ghost use Rattle.hintcheck_explain.specs.Representation.Needs.{raised};
 
-use crate::asked::{Asked, ExplainFault};
+use crate::asked::ExplainFault;
 use hintcheck_report::{Bound, Place};
 use std::alloc::Global;
 use tt_abs::{Exhausted, Failed, Refusal, Setting};
+use tt_cert::Name;
 use tt_code::Reason;
 use tt_family::Budget;
 use tt_find::explore;
@@ -95,12 +96,12 @@ fn least_number(
     Ok(accepted)
 }
 
-/// Prints how much of a limit a program needs of which this test fails, if it passes one and no site
-/// is asked for.
+/// Prints how much of a limit the program of this name needs of which this test fails, if it passes
+/// one.
 pub(crate) fn tell_needs<O: Sink>(
     alloc: Global,
     setting: &Setting<'_>,
-    asked: Asked,
+    program: Name,
     failed: Failed,
     budget: &mut Budget,
     out: &mut O,
@@ -112,9 +113,6 @@ pub(crate) fn tell_needs<O: Sink>(
     let Some(limit) = limit_of(failed) else {
         return Ok(());
     };
-    if asked.site.is_some() {
-        return Ok(());
-    }
     let name = words_for(limit);
     prove!(u32::from(setting.limits.functions) < 1 << 16);
     match fault_with(alloc, setting, limit, u16::MAX, budget)? {
@@ -133,7 +131,7 @@ pub(crate) fn tell_needs<O: Sink>(
                 failed,
             },
         ) => {
-            let place = Place::at(asked.program, spot, offset);
+            let place = Place::at(program, spot, offset);
             let reason = failed.reason();
             let number = reason.number();
             writeln!(

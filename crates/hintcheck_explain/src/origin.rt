@@ -3,10 +3,10 @@
 use crate::arrivals::{Edge, START};
 use crate::element::Element;
 use crate::explored_program::ExploredProgram;
-use crate::provenance::{Provenance, provenance_of};
+use crate::provenance::kept_before;
 use crate::stepping::{StepOutcome, outcome_at};
+use crate::view::View;
 use std::alloc::{AllocError, Global};
-use tt_abs::Cell;
 use tt_family::PointKey;
 
 /// How many numbers at points are looked at, at most.
@@ -19,12 +19,12 @@ struct Traced {
     element: Element,
 }
 
-/// What one way to a point brings of a number: from where the way comes, and what is known of the
-/// number after the instruction there.
+/// What one way to a point brings of a number: from where the way comes, and the number after the
+/// instruction there, if it is known.
 #[derive(Clone, Copy)]
 pub(crate) struct Brought {
     pub from: PointKey,
-    pub cell: Cell,
+    pub number: Option<i32>,
 }
 
 /// Where a number comes from that isn't known at a point: from the instruction that makes it, from
@@ -71,13 +71,13 @@ fn note(numbers: &mut Vec<Traced>, number: Traced) -> Result<(), AllocError> {
     Ok(())
 }
 
-/// Returns what is known of a number after the instruction at a point, and where it was before.
+/// Returns what the instruction at a point brings of a number, and where the number was kept before.
 fn brought_from(
     alloc: Global,
     subject: &ExploredProgram<'_>,
     from: PointKey,
     element: Element,
-) -> Result<Option<(Cell, Provenance)>, AllocError> {
+) -> Result<Option<(Brought, Option<Element>)>, AllocError> {
     let Some(state) = subject.certificate.state(from.0, from.1) else {
         return Ok(None);
     };
@@ -86,59 +86,41 @@ fn brought_from(
     };
     let frames = subject.frames(alloc, from.0)?;
     match outcome_at(subject.setting, frames.as_slice(), from.1, state)? {
-        StepOutcome::Goes {
-            moves: _,
-            state: next,
-        } => {
-            let provenance = provenance_of(state, &instruction, element);
-            Ok(Some((element.known_in(&next), provenance)))
+        StepOutcome::Goes { state: next, .. } => {
+            let number = View::Strict(&next).number(element);
+            let kept = kept_before(View::Strict(state), &instruction, element);
+            Ok(Some((Brought { from, number }, kept)))
         }
         _ => Ok(None),
     }
 }
 
-/// Adds to a meeting what one more way brings of the number. Returns where the number comes from,
-/// if that is clear.
+/// Adds to a meeting at a point what one more way brings of the number, which was kept here before.
+/// Returns where the number comes from, if that is clear.
 fn add_way(
     trace: &mut Trace,
     meeting: &mut Meeting,
-    traced: Traced,
-    from: PointKey,
-    cell: Cell,
-    provenance: Provenance,
+    at: PointKey,
+    second: Brought,
+    kept: Option<Element>,
 ) -> Result<Option<CellOrigin>, AllocError> {
-    let second = Brought { from, cell };
-    if let Cell::Known(_) = cell {
-        let known = meeting.known;
-        return Ok(match known {
-            Some(first) if first.cell != cell => Some(CellOrigin::Joined {
-                at: traced.point,
-                first,
-                second,
-            }),
-            _ => {
-                meeting.known = Some(second);
-                None
-            }
-        });
+    if second.number.is_some() {
+        let first = meeting.known.unwrap_or(second);
+        let is_joined = first.number != second.number;
+        meeting.known = Some(second);
+        return Ok(is_joined.then_some(CellOrigin::Joined { at, first, second }));
     }
     meeting.unknown = Some(second);
-    match provenance {
-        Provenance::Kept(element) => {
-            note(
-                &mut trace.numbers,
-                Traced {
-                    point: from,
-                    element,
-                },
-            )?;
-            Ok(None)
-        }
-        Provenance::Made => Ok(Some(CellOrigin::Made(from))),
+    let point = second.from;
+    match kept {
+        Some(element) => note(&mut trace.numbers, Traced { point, element })?,
+        None => return Ok(Some(CellOrigin::Made(point))),
     }
+    Ok(None)
 }
 
 /// Looks at the ways that come to a point. Returns where the number comes from, if that is clear.
+/// Notes where a known number meets one that isn't known, the first time.
 fn look_back(
     alloc: Global,
     subject: &ExploredProgram<'_>,
@@ -146,44 +128,31 @@ fn look_back(
     trace: &mut Trace,
     traced: Traced,
 ) -> Result<Option<CellOrigin>, AllocError> {
+    let at = traced.point;
     let mut meeting = Meeting {
         known: None,
         unknown: None,
     };
     for edge in edges {
-        if edge.to == traced.point {
-            if let Some((cell, provenance)) = brought_from(
-                alloc,
-                subject,
-                edge.from,
-                traced.element,
-            )? {
-                let origin = add_way(trace, &mut meeting, traced, edge.from, cell, provenance)?;
-                if origin.is_some() {
-                    return Ok(origin);
-                }
-            }
+        if edge.to != at {
+            continue;
+        }
+        let Some((way, kept)) = brought_from(alloc, subject, edge.from, traced.element)? else {
+            continue;
+        };
+        let origin = add_way(trace, &mut meeting, at, way, kept)?;
+        if origin.is_some() {
+            return Ok(origin);
         }
     }
-    note_meeting(trace, traced, meeting);
+    if let (CellOrigin::Lost, Some(first), Some(second)) = (
+        trace.mixed,
+        meeting.known,
+        meeting.unknown,
+    ) {
+        trace.mixed = CellOrigin::Joined { at, first, second };
+    }
     Ok(start_of(traced))
-}
-
-/// Notes where a known number meets one that isn't known, the first time.
-fn note_meeting(trace: &mut Trace, traced: Traced, meeting: Meeting) {
-    if let CellOrigin::Lost = trace.mixed {
-        if let Meeting {
-            known: Some(first),
-            unknown: Some(second),
-        } = meeting
-        {
-            trace.mixed = CellOrigin::Joined {
-                at: traced.point,
-                first,
-                second,
-            };
-        }
-    }
 }
 
 /// Returns the origin of a number with which the program starts.

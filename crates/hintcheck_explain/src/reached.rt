@@ -3,7 +3,6 @@
 ghost use Rattle.hintcheck_explain.specs.Faults.{TellsFailure};
 
 use crate::asked::ExplainFault;
-use crate::calls::OpenCalls;
 use crate::effect_text::tell_effect;
 use crate::explored_program::ExploredProgram;
 use crate::knowledge::{StateText, tell_state};
@@ -28,15 +27,10 @@ fn tell_context<O: Sink>(
     ensures failures { TellsFailure result (O.failures out.old) (O.failures out.new) }
 {
     let frames = subject.frames(alloc, point.0)?;
-    tell_effect(subject.instruction_at(point), View::Strict(state), out)?;
-    let open = OpenCalls::Strict(frames.as_slice());
-    tell_state(
-        subject.name,
-        subject.setting,
-        open,
-        StateText::Strict(state),
-        out,
-    )?;
+    let instruction = subject.instruction_at(point);
+    let text = StateText::Strict(state, frames.as_slice());
+    tell_effect(instruction.as_ref(), View::Strict(state), out)?;
+    tell_state(subject.name, subject.setting, text, out)?;
     Ok(())
 }
 

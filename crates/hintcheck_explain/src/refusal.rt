@@ -8,16 +8,13 @@ ghost use Rattle.hintcheck_explain.specs.Representation.Causes.{IsCause, IsCaseO
 
 use crate::arrivals::{Edge, Ways, depths_at, edges_of};
 use crate::asked::ExplainFault;
-use crate::calls::OpenCalls;
-use crate::cause::{tell_cause, trouble_of_program};
-use crate::describing::Scene;
-use crate::effect_text::tell_effect;
+use crate::cause::{tell_cause, tell_cause_of_program};
 use crate::excerpt::{Code, Excerpt};
-use crate::explored_program::ExploredProgram;
+use crate::explored_program::{ExploredProgram, code_of};
 use crate::knowledge::{StateText, tell_state};
 use crate::origin::origin_of;
 use crate::origin_text::OriginText;
-use crate::route::{Route, branches_to};
+use crate::route::route_to;
 use crate::stepping::{StepOutcome, outcome_at};
 use crate::trouble::Trouble;
 use crate::view::View;
@@ -128,15 +125,14 @@ fn tell_knowledge<O: Sink>(
 ) -> Result<(), PrintFailed>
     ensures failures { CountsPrintFailure result (O.failures out.old) (O.failures out.new) }
 {
-    let open = OpenCalls::Strict(case.frames.as_slice());
-    let state = StateText::Strict(case.state);
+    let state = StateText::Strict(case.state, case.frames.as_slice());
     let point = case.point;
     let ways = Ways {
         subject,
         edges,
         point,
     };
-    tell_state(subject.name, subject.setting, open, state, out)?;
+    tell_state(subject.name, subject.setting, state, out)?;
     writeln!(out, "{ways}")
 }
 
@@ -150,12 +146,7 @@ fn tell_route<O: Sink>(
 ) -> Result<(), ExplainFault>
     ensures failures { TellsFailure result (O.failures out.old) (O.failures out.new) }
 {
-    let branches = branches_to(alloc, subject, edges, point)?;
-    let route = Route {
-        subject: &*subject,
-        branches: branches.as_slice(),
-        point,
-    };
+    let route = route_to(alloc, subject, edges, point)?;
     writeln!(out, "{route}")?;
     Ok(())
 }
@@ -178,39 +169,33 @@ fn tell_routes<O: Sink>(
     tell_route(alloc, subject, edges, case.point, out)
 }
 
-/// Prints why a program is refused; and, where the search has a state at the place of the refusal,
-/// what is known there and how the program comes there.
+/// Prints why a program is refused in this case, what is known there and how the program comes there.
 fn tell_case<O: Sink>(
     alloc: Global,
     subject: &ExploredProgram<'_>,
     edges: &[Edge],
-    case: Option<&Case<'_>>,
-    failed: Failed,
+    case: &Case<'_>,
+    reason: Reason,
     out: &mut O,
 ) -> Result<(), ExplainFault>
     ensures failures { TellsFailure result (O.failures out.old) (O.failures out.new) }
 {
-    let reason = failed.reason();
-    match case {
-        Some(case) => {
-            let view = View::Strict(case.state);
-            let instruction = subject.instruction_at(case.point);
-            let scene = Scene::at(subject.setting, instruction.as_ref(), case.point.1, view);
-            tell_cause(scene, reason, case.trouble, out)?;
-            tell_effect(instruction, view, out)?;
-            tell_origin(alloc, subject, edges, case, out)?;
-            tell_knowledge(subject, edges, case, out)?;
-            tell_routes(alloc, subject, edges, case, out)
-        }
-        None => {
-            let trouble = trouble_of_program(subject.setting, reason);
-            tell_cause(Scene::nowhere(subject.setting), reason, trouble, out)?;
-            Ok(())
-        }
-    }
+    tell_cause(
+        subject.setting,
+        subject.instruction_at(case.point),
+        case.point.1,
+        View::Strict(case.state),
+        reason,
+        case.trouble,
+        out,
+    )?;
+    tell_origin(alloc, subject, edges, case, out)?;
+    tell_knowledge(subject, edges, case, out)?;
+    tell_routes(alloc, subject, edges, case, out)
 }
 
-/// Explains why a program is refused at an offset of a spot.
+/// Explains why a program is refused at an offset of a spot: with what is known there, where the search
+/// has a state.
 ///
 /// # Errors
 /// `Write` where the text wasn't printed; `Exhausted`.
@@ -226,10 +211,13 @@ pub(crate) fn tell_refusal<O: Sink>(
 {
     let edges = edges_of(alloc, subject)?;
     let edges = edges.as_slice();
-    let case = case_of(alloc, subject, edges, spot, offset, failed)?;
-    tell_case(alloc, subject, edges, case.as_ref(), failed, out)?;
+    let reason = failed.reason();
+    match case_of(alloc, subject, edges, spot, offset, failed)? {
+        Some(case) => tell_case(alloc, subject, edges, &case, reason, out)?,
+        None => tell_cause_of_program(subject.setting, reason, out)?,
+    }
     let place = Place::at(subject.name, spot, offset);
-    let listing = Excerpt::around(Code::Cut(subject.code(spot)), place);
+    let listing = Excerpt::around(Code::Cut(code_of(subject.setting, spot)), place);
     writeln!(out, "{listing}")?;
     Ok(())
 }

@@ -13,19 +13,7 @@ const SHOWN_BRANCHES: usize = 12;
 /// Returns the index of the first way that leads from a point, or from one after it: the ways
 /// ascend by the points from which they lead.
 fn first_from(edges: &[Edge], point: PointKey) -> usize {
-    let mut low: usize = 0;
-    let mut high = edges.len();
-    for _ in 0..64 {
-        if low >= high {
-            break;
-        }
-        let middle = low + (high - low) / 2;
-        match edges.get(middle) {
-            Some(edge) if edge.from < point => low = middle + 1,
-            _ => high = middle,
-        }
-    }
-    low
+    edges.partition_point(|edge| edge.from < point)
 }
 
 /// Notes each new point to which a way leads from this one, with this one as the point before it.
@@ -66,9 +54,9 @@ fn reached_points(
     Ok(reached)
 }
 
-/// A step of a route, from one point to the next one: `is_branch` tells whether it is a branch.
+/// A step of a route, from one point to the next one.
 #[derive(Clone, Copy)]
-pub(crate) struct Branch {
+struct Branch {
     from: PointKey,
     to: PointKey,
 }
@@ -89,16 +77,25 @@ fn is_branch(subject: &ExploredProgram<'_>, edges: &[Edge], branch: Branch) -> b
     }
 }
 
-/// Returns the branches of one route from the program's start to a point.
+/// One route to a point, by its branches.
+#[derive(Drop)]
+pub(crate) struct Route<'a, 'b> {
+    subject: &'a ExploredProgram<'b>,
+    /// The branches, the first one first.
+    branches: Vec<Branch>,
+    point: PointKey,
+}
+
+/// Returns one route from the program's start to a point.
 ///
 /// # Errors
 /// If memory runs out.
-pub(crate) fn branches_to(
+pub(crate) fn route_to<'a, 'b>(
     alloc: Global,
-    subject: &ExploredProgram<'_>,
+    subject: &'a ExploredProgram<'b>,
     edges: &[Edge],
     point: PointKey,
-) -> Result<Vec<Branch>, AllocError> {
+) -> Result<Route<'a, 'b>, AllocError> {
     let reached = reached_points(alloc, edges)?;
     let mut branches = Vec::new(alloc);
     let mut to = point;
@@ -113,16 +110,11 @@ pub(crate) fn branches_to(
         to = *from;
     }
     branches.reverse();
-    Ok(branches)
-}
-
-/// One route to a point, by its branches.
-#[derive(Clone, Copy)]
-pub(crate) struct Route<'a, 'b> {
-    pub subject: &'a ExploredProgram<'b>,
-    /// The branches, the first one first.
-    pub branches: &'a [Branch],
-    pub point: PointKey,
+    Ok(Route {
+        subject,
+        branches,
+        point,
+    })
 }
 
 impl fmt::Display for Route<'_, '_> {
@@ -142,10 +134,7 @@ impl fmt::Display for Route<'_, '_> {
         if before > 0 {
             write!(f, "\n    {before} branches before")?;
         }
-        for index in 0..SHOWN_BRANCHES {
-            let Some(branch) = self.branches.get(before.saturating_add(index)) else {
-                break;
-            };
+        for branch in self.branches.iter().skip(before) {
             let from = self.subject.place(branch.from);
             let name = self.subject.name_at(branch.from);
             let to = self.subject.place(branch.to);

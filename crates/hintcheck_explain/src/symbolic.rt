@@ -5,15 +5,14 @@ ghost use Rattle.hintcheck_explain.specs.Faults.{TellsFailure};
 
 use crate::accepted::count_instructions;
 use crate::asked::{Asked, ExplainFault};
-use crate::calls::OpenCalls;
-use crate::cause::{tell_cause, trouble_of_program};
-use crate::describing::Scene;
+use crate::cause::{tell_cause, tell_cause_of_program};
 use crate::effect_text::tell_effect;
 use crate::excerpt::{Code, Excerpt};
+use crate::explored_program::{code_of, instruction_at};
 use crate::knowledge::{StateText, tell_state};
 use crate::legend::Legend;
-use crate::symbolic_case::{instruction_at, trouble_of};
-use crate::symbolic_origin::{SymbolOriginText, code_of};
+use crate::origin_text::SymbolOriginText;
+use crate::symbolic_case::trouble_of;
 use crate::trouble::Trouble;
 use crate::view::{View, symbolic_cell};
 use hintcheck_report::{Place, Refused};
@@ -22,6 +21,7 @@ use tt_abs::{Setting, Spot};
 use tt_cert::Name;
 use tt_code::Reason;
 use tt_stream::{PrintFailed, Sink};
+use tt_symbolic_check::Site;
 use tt_symbolic_search::{Insight, KnownState};
 
 /// A program that is explained: its name, what it is checked against, and what the search tells of
@@ -48,10 +48,8 @@ impl<'a> Searched<'a> {
 
     /// Returns the instructions around a place.
     fn listing(&self, place: Place) -> Excerpt<'a> {
-        Excerpt::around(
-            Code::Cut(code_of(self.setting, self.spot(place.program))),
-            place,
-        )
+        let code = code_of(self.setting, self.spot(place.program));
+        Excerpt::around(Code::Cut(code), place)
     }
 
     /// Returns the state that is refused, if the search tells it.
@@ -66,8 +64,10 @@ fn tell_accepted<O: Sink>(searched: Searched<'_>, out: &mut O) -> Result<(), Pri
 {
     let name = searched.name;
     let instructions = count_instructions(searched.setting.main);
-    writeln!(out, "accepted {name} (symbolic)")?;
-    writeln!(out, "Instructions: {instructions}")?;
+    writeln!(
+        out,
+        "accepted {name} (symbolic)\nInstructions: {instructions}"
+    )?;
     let Some(insight) = searched.insight else {
         return Ok(());
     };
@@ -78,11 +78,10 @@ fn tell_accepted<O: Sink>(searched: Searched<'_>, out: &mut O) -> Result<(), Pri
     let checked = insight.checked;
     writeln!(
         out,
-        "Greatest depth of the stack: {depth} of at most {most} (maxStackElements)"
-    )?;
-    writeln!(out, "Steps of the search: {steps}")?;
-    writeln!(out, "Listed states: {listed}")?;
-    writeln!(out, "Steps of the check: at most {checked}")
+        "Greatest depth of the stack: {depth} of at most {most} (maxStackElements)\n\
+        Steps of the search: {steps}\nListed states: {listed}\n\
+        Steps of the check: at most {checked}"
+    )
 }
 
 /// Prints the open calls of a state of the search, and what is known in it.
@@ -96,9 +95,8 @@ fn tell_known<O: Sink>(
 {
     let state = &known.state;
     let legend = Legend::of(alloc, state)?;
-    let open = OpenCalls::Symbolic(state.calls.as_slice(), &legend);
     let text = StateText::Symbolic(state, &legend);
-    tell_state(searched.name, searched.setting, open, text, out)?;
+    tell_state(searched.name, searched.setting, text, out)?;
     Ok(())
 }
 
@@ -112,12 +110,8 @@ fn tell_states<O: Sink>(
     ensures failures { TellsFailure result (O.failures out.old) (O.failures out.new) }
 {
     for known in seen {
-        let state = &known.state;
-        tell_effect(
-            instruction_at(searched.setting, state),
-            View::Symbolic(state),
-            out,
-        )?;
+        let instruction = instruction_at(searched.setting, Site::of(&known.state));
+        tell_effect(instruction.as_ref(), View::Symbolic(&known.state), out)?;
         tell_known(alloc, searched, known, out)?;
     }
     Ok(())
@@ -177,47 +171,45 @@ fn tell_origin<O: Sink>(
     writeln!(out, "Where the number comes from: {text}")
 }
 
-/// Prints why a program is refused; and, where the search tells the state that is refused, what is
-/// known there.
+/// Prints why a program is refused in this state, and what is known there.
 fn tell_case<O: Sink>(
     alloc: Global,
     searched: Searched<'_>,
+    known: &KnownState,
     reason: Reason,
     out: &mut O,
 ) -> Result<(), ExplainFault>
     ensures failures { TellsFailure result (O.failures out.old) (O.failures out.new) }
 {
-    let Some(known) = searched.refused() else {
-        let trouble = trouble_of_program(searched.setting, reason);
-        tell_cause(Scene::nowhere(searched.setting), reason, trouble, out)?;
-        return Ok(());
-    };
     let state = &known.state;
-    let instruction = instruction_at(searched.setting, state);
-    let view = View::Symbolic(state);
-    let scene = Scene::at(searched.setting, instruction.as_ref(), state.offset, view);
     let trouble = trouble_of(alloc, searched.setting, state, reason)?;
-    tell_cause(scene, reason, trouble, out)?;
-    tell_effect(instruction, view, out)?;
+    tell_cause(
+        searched.setting,
+        instruction_at(searched.setting, Site::of(state)),
+        state.offset,
+        View::Symbolic(state),
+        reason,
+        trouble,
+        out,
+    )?;
     tell_origin(searched, known, trouble, out)?;
     tell_known(alloc, searched, known, out)
 }
 
-/// Prints where and why a program is refused, and explains it unless a place is asked for.
-fn tell_refused<O: Sink>(
+/// Prints why a program is refused; where the search tells the state that is refused, what is known
+/// there; and the instructions around the place.
+fn tell_refusal<O: Sink>(
     alloc: Global,
     searched: Searched<'_>,
     refused: Refused,
-    place: Option<Place>,
     out: &mut O,
 ) -> Result<(), ExplainFault>
     ensures failures { TellsFailure result (O.failures out.old) (O.failures out.new) }
 {
-    writeln!(out, "{refused}")?;
-    if place.is_some() {
-        return Ok(());
+    match searched.refused() {
+        Some(known) => tell_case(alloc, searched, known, refused.reason, out)?,
+        None => tell_cause_of_program(searched.setting, refused.reason, out)?,
     }
-    tell_case(alloc, searched, refused.reason, out)?;
     let listing = searched.listing(refused.place);
     writeln!(out, "{listing}")?;
     Ok(())
@@ -245,11 +237,12 @@ pub fn explain_symbolic<O: Sink>(
         insight,
     };
     match refused {
-        Some(refused) => tell_refused(alloc, searched, refused, asked.place(), out)?,
+        Some(refused) => writeln!(out, "{refused}")?,
         None => tell_accepted(searched, out)?,
     }
-    match asked.place() {
-        Some(place) => tell_place(alloc, searched, place, out),
-        None => Ok(()),
+    match (asked.place(), refused) {
+        (Some(place), _) => tell_place(alloc, searched, place, out),
+        (None, Some(refused)) => tell_refusal(alloc, searched, refused, out),
+        (None, None) => Ok(()),
     }
 }

@@ -6,14 +6,12 @@ ghost use Rattle.hintcheck_explain.specs.Representation.Causes.{HasReason};
 use crate::describing::Beyond;
 use crate::element::Element;
 use crate::stepping::{StepOutcome, outcome_at};
-use crate::symbolic_origin::code_of;
 use crate::trouble::Trouble;
 use crate::view::{Known, View};
 use std::alloc::{AllocError, Global};
 use tt_abs::{Cell, Failed, Role, Setting, State};
 use tt_code::kinds::{Pointer, Reference};
-use tt_code::{Frame, Instr, Reason};
-use tt_symbolic_check::Site;
+use tt_code::{Frame, Reason};
 use tt_symbolic_state::state::State as SymbolicState;
 
 /// How many cells a state of the strict profile may have.
@@ -70,16 +68,12 @@ impl Ranged {
             Role::Turns => low > 0 || high <= 0,
             _ => false,
         };
-        if is_decided {
-            Some(Ranged {
-                element,
-                role,
-                low,
-                high,
-            })
-        } else {
-            None
-        }
+        is_decided.then_some(Ranged {
+            element,
+            role,
+            low,
+            high,
+        })
     }
 }
 
@@ -98,12 +92,14 @@ struct Trial<'a, 's> {
     state: &'a SymbolicState,
     /// Where the numbers are of which it is known that they pass their tests.
     settled: &'a [Element],
+    /// The number that is tried, if one is.
+    tried: Option<Tried>,
 }
 
 impl Trial<'_, '_> {
     /// Returns what is known of a number: the least one of its range, where it passes its test.
-    fn cell(&self, element: Element, tried: Option<Tried>) -> Cell {
-        match tried {
+    fn cell(&self, element: Element) -> Cell {
+        match self.tried {
             Some(tried) if tried.element == element => return Cell::Known(tried.number),
             _ => {}
         }
@@ -115,32 +111,32 @@ impl Trial<'_, '_> {
     }
 
     /// Sets the graphics state.
-    fn set_graphics(&self, strict: &mut State, tried: Option<Tried>) {
+    fn set_graphics(&self, strict: &mut State) {
         let view = View::Symbolic(self.state);
-        strict.set_reference_point(Reference::Rp0, self.cell(Element::Rp0, tried));
-        strict.set_reference_point(Reference::Rp1, self.cell(Element::Rp1, tried));
-        strict.set_reference_point(Reference::Rp2, self.cell(Element::Rp2, tried));
+        strict.set_reference_point(Reference::Rp0, self.cell(Element::Rp0));
+        strict.set_reference_point(Reference::Rp1, self.cell(Element::Rp1));
+        strict.set_reference_point(Reference::Rp2, self.cell(Element::Rp2));
         strict.set_zone_pointer(Pointer::Zp0, view.zone(Pointer::Zp0));
         strict.set_zone_pointer(Pointer::Zp1, view.zone(Pointer::Zp1));
         strict.set_zone_pointer(Pointer::Zp2, view.zone(Pointer::Zp2));
-        strict.set_loop(self.cell(Element::Loop, tried));
+        strict.set_loop(self.cell(Element::Loop));
     }
 
     /// Returns what the strict profile knows of the machine.
-    fn strict(&self, alloc: Global, tried: Option<Tried>) -> Result<State, AllocError> {
+    fn strict(&self, alloc: Global) -> Result<State, AllocError> {
         let mut strict = State::start(alloc, self.state.functions.as_slice())?;
-        self.set_graphics(&mut strict, tried);
+        self.set_graphics(&mut strict);
         for place in 0..self.state.stack.len() {
             if strict.depth() < MOST_CELLS {
-                strict.push(self.cell(Element::Stack(place), tried))?;
+                strict.push(self.cell(Element::Stack(place)))?;
             }
         }
         Ok(strict)
     }
 
     /// Returns which test fails, if one does.
-    fn failed(&self, alloc: Global, tried: Option<Tried>) -> Result<Option<Failed>, AllocError> {
-        let strict = self.strict(alloc, tried)?;
+    fn failed(&self, alloc: Global) -> Result<Option<Failed>, AllocError> {
+        let strict = self.strict(alloc)?;
         match outcome_at(self.setting, self.frames, self.state.offset, &strict)? {
             StepOutcome::Refused(failed) => Ok(Some(failed)),
             _ => Ok(None),
@@ -155,7 +151,11 @@ impl Trial<'_, '_> {
         number: i64,
     ) -> Result<Option<u32>, AllocError> {
         let number = nearest(number);
-        let Some(failed) = self.failed(alloc, Some(Tried { element, number }))? else {
+        let trial = Trial {
+            tried: Some(Tried { element, number }),
+            ..*self
+        };
+        let Some(failed) = trial.failed(alloc)? else {
             return Ok(None);
         };
         match Beyond::of(self.setting, failed) {
@@ -184,15 +184,6 @@ fn is_reason(reason: Reason, trouble: Trouble) -> bool
     }
 }
 
-/// Returns the instruction where a state is, if one is there.
-pub(crate) fn instruction_at<'a>(
-    setting: &Setting<'a>,
-    state: &SymbolicState,
-) -> Option<Instr<'a>> {
-    let place = Site::of(state);
-    code_of(setting, place.spot).at(place.offset)
-}
-
 /// Returns which test fails: numbers whose whole range passes their tests are passed over.
 fn first_trouble<'a>(
     alloc: Global,
@@ -207,8 +198,9 @@ fn first_trouble<'a>(
             frames: frames.as_slice(),
             state,
             settled: settled.as_slice(),
+            tried: None,
         };
-        let Some(failed) = trial.failed(alloc, None)? else {
+        let Some(failed) = trial.failed(alloc)? else {
             return Ok(Trouble::Other);
         };
         let Some(ranged) = Ranged::of(state, failed) else {

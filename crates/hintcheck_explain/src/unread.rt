@@ -40,9 +40,9 @@ impl fmt::Display for UnreadText<'_> {
                 let left = self.rest.len();
                 write!(
                     f,
-                    "{name} needs {length} bytes with its data, and the program has "
-                )?;
-                write!(f, "{left} from here on.")
+                    "{name} needs {length} bytes with its data, and the program has {left} \
+                    from here on."
+                )
             }
             _ => write!(f, "{name} isn't allowed here: {}", misplaced(name)),
         }
@@ -78,10 +78,7 @@ pub fn explain_unread<O: Sink>(
     ensures failures { CountsPrintFailure result (O.failures out.old) (O.failures out.new) }
 {
     let refused = Refused::at(asked.program, Spot::Main, offset, reason);
-    let rest = match bytes.get(offset as usize..) {
-        Some(rest) => rest,
-        None => &[],
-    };
+    let rest = bytes.get(offset as usize..).unwrap_or(&[]);
     let why = UnreadText { rest, reason };
     let class = class_of(reason, Trouble::Other);
     let kind = class_text(reason, class);

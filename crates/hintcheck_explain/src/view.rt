@@ -2,15 +2,15 @@
 
 use crate::element::Element;
 use tt_abs::{Cell, State, ZoneCell};
-use tt_code::kinds::Pointer;
-use tt_symbolic_state::cell::{Cell as SymbolicCell, bounds};
+use tt_code::kinds::{Pointer, Reference};
+use tt_symbolic_state::cell::{Cell as SymbolicCell, Range, bounds};
 use tt_symbolic_state::state::{State as SymbolicState, Zone};
 
 /// How many numbers the machine has, less 1: nothing is known of one whose range is as wide.
-pub(crate) const ALL_NUMBERS: i64 = (1 << 32) - 1;
+const ALL_NUMBERS: i64 = (1 << 32) - 1;
 
 /// What is known of a number.
-#[derive(Clone, Copy, PartialEq, Eq)]
+#[derive(Clone, Copy)]
 pub(crate) enum Known {
     /// Which it is.
     Number(i32),
@@ -20,33 +20,15 @@ pub(crate) enum Known {
     Nothing,
 }
 
-impl Known {
-    /// Returns what is known of the number of a cell of the strict profile.
-    pub(crate) fn of(cell: Cell) -> Known {
-        match cell {
-            Cell::Known(number) => Known::Number(number),
-            Cell::Unknown => Known::Nothing,
-        }
-    }
-
-    /// Returns what is known of a number that is between these.
-    fn between(low: i64, high: i64) -> Known {
-        if high.saturating_sub(low) >= ALL_NUMBERS {
-            return Known::Nothing;
-        }
-        match i32::try_from(low) {
-            Ok(number) if low == high => Known::Number(number),
-            _ => Known::Within(low, high),
-        }
-    }
-
-    /// Returns whether the number isn't 0, where that is known.
-    pub(crate) fn truth(self) -> Option<bool> {
-        match self {
-            Known::Number(number) => Some(number != 0),
-            Known::Within(low, high) if low > 0 || high < 0 => Some(true),
-            _ => None,
-        }
+/// Returns what a state of the strict profile knows of a number.
+fn strict_cell(state: &State, element: Element) -> Cell {
+    match element {
+        Element::Stack(place) => state.cell(place).unwrap_or(Cell::Unknown),
+        Element::Rp0 => state.reference_point(Reference::Rp0),
+        Element::Rp1 => state.reference_point(Reference::Rp1),
+        Element::Rp2 => state.reference_point(Reference::Rp2),
+        Element::Loop => state.loop_cell(),
+        Element::Storage(index) => state.storage(index),
     }
 }
 
@@ -62,11 +44,19 @@ pub(crate) fn symbolic_cell(state: &SymbolicState, element: Element) -> Option<S
     }
 }
 
-/// Returns what a symbolic state knows of a cell's number.
-pub(crate) fn known_of_cell(state: &SymbolicState, cell: SymbolicCell) -> Known {
-    match bounds(cell, state.ranges.as_slice()) {
-        Some((low, high)) => Known::between(low, high),
-        None => Known::Nothing,
+/// Returns the least and the greatest number that a cell may be, where anything is known of it.
+pub(crate) fn range_of(cell: SymbolicCell, ranges: &[Range]) -> Option<(i64, i64)> {
+    let (low, high) = bounds(cell, ranges)?;
+    (high.saturating_sub(low) < ALL_NUMBERS).then_some((low, high))
+}
+
+/// Returns what a symbolic state knows of a number.
+fn known_by_symbols(state: &SymbolicState, element: Element) -> Option<Known> {
+    let cell = symbolic_cell(state, element)?;
+    let (low, high) = range_of(cell, state.ranges.as_slice())?;
+    match i32::try_from(low) {
+        Ok(number) if low == high => Some(Known::Number(number)),
+        _ => Some(Known::Within(low, high)),
     }
 }
 
@@ -102,12 +92,25 @@ impl<'a> View<'a> {
     /// Returns what is known of a number.
     pub(crate) fn known(self, element: Element) -> Known {
         match self {
-            View::Strict(state) => Known::of(element.known_in(state)),
-            View::Symbolic(state) => match symbolic_cell(state, element) {
-                Some(cell) => known_of_cell(state, cell),
-                None => Known::Nothing,
+            View::Strict(state) => match strict_cell(state, element) {
+                Cell::Known(number) => Known::Number(number),
+                Cell::Unknown => Known::Nothing,
             },
+            View::Symbolic(state) => { known_by_symbols(state, element).unwrap_or(Known::Nothing) }
         }
+    }
+
+    /// Returns a number, if it is known.
+    pub(crate) fn number(self, element: Element) -> Option<i32> {
+        match self.known(element) {
+            Known::Number(number) => Some(number),
+            _ => None,
+        }
+    }
+
+    /// Returns the number on the stack under this many others, if it is known.
+    pub(crate) fn number_under(self, taken: usize) -> Option<i32> {
+        self.number(Element::under(self.depth(), taken)?)
     }
 
     /// Returns the zone that a pointer names.
