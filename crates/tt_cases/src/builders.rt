@@ -60,39 +60,49 @@ fn step(
     Ok(())
 }
 
-/// Adds a state and its point. It is looked for at the point, and not beyond the last context.
-fn show_state(
+/// Adds the contexts of a builder, each with this before it.
+pub(crate) fn show_contexts(
     alloc: Global,
     text: &mut String,
     builder: &Builder,
-    (context, offset): (u32, u32),
-    state: &State,
+    before: &str,
 ) -> Result<()> {
-    match builder.state(context, offset) {
-        Some(found) if found.is_same(state) => {}
-        _ => bail!("another state at {context}:{offset}"),
+    for number in 1..builder.contexts() {
+        if let Some((parent, frame)) = builder.context(number) {
+            write!(text, "{before}{parent}:{}", frame_text(alloc, &frame)?)?;
+        }
     }
-    ensure!(
-        builder.state(builder.contexts(), offset).is_none(),
-        "a state beyond the contexts"
-    );
-    write!(text, " {context}:{offset} {}", plain_text(alloc, state)?)?;
     Ok(())
 }
 
-/// Adds the contexts and the states that a builder holds.
-fn show_builder(alloc: Global, text: &mut String, builder: &Builder) -> Result<()> {
-    text.push_str(" contexts")?;
-    for number in 1..builder.contexts() {
-        if let Some((parent, frame)) = builder.context(number) {
-            write!(text, " {parent}:{}", frame_text(alloc, &frame)?)?;
-        }
-    }
-    write!(text, " points {}", builder.points())?;
+/// Ensures that a builder has this state at this point, and none there beyond its last context.
+fn ensure_at(builder: &Builder, context: u32, offset: u32, state: &State) -> Result<()> {
+    let found = builder.state(context, offset);
+    ensure!(
+        found.is_some_and(|found| found.is_same(state)),
+        "another state at {context}:{offset}"
+    );
+    let beyond = builder.state(builder.contexts(), offset);
+    ensure!(beyond.is_none(), "a state beyond the contexts");
+    Ok(())
+}
+
+/// Adds the states of a builder and their points, each with this before it.
+pub(crate) fn show_states(
+    alloc: Global,
+    text: &mut String,
+    builder: &Builder,
+    before: &str,
+) -> Result<()> {
     let mut states = builder.states();
     for _ in 0..builder.points() {
         if let Some((context, offset, state)) = states.take_first() {
-            show_state(alloc, text, builder, (context, offset), state)?;
+            ensure_at(builder, context, offset, state)?;
+            write!(
+                text,
+                "{before}{context}:{offset} {}",
+                plain_text(alloc, state)?
+            )?;
         }
     }
     Ok(())
@@ -107,7 +117,10 @@ fn told_by_steps(alloc: Global, builder: &mut Builder, words: &mut Words<'_>) ->
         }
         step(alloc, builder, words, &mut text)?;
     }
-    show_builder(alloc, &mut text, builder)?;
+    text.push_str(" contexts")?;
+    show_contexts(alloc, &mut text, builder, " ")?;
+    write!(text, " points {}", builder.points())?;
+    show_states(alloc, &mut text, builder, " ")?;
     Ok(text)
 }
 

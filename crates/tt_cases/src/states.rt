@@ -126,18 +126,8 @@ fn copy_over(alloc: Global, state: &mut State, words: &mut Words<'_>) -> Result<
     Ok(())
 }
 
-/// Joins a state with the one that the next words say.
-fn join_next(alloc: Global, state: &mut State, words: &mut Words<'_>) -> Result<()>
-    requires { state_order.InRange state.old }
-    ensures { IfOk result (λ _. state_order.InRange state.new) }
-{
-    let other = plain_state(alloc, words)?;
-    state.join(&other)?;
-    Ok(())
-}
-
-/// Changes a state by the next word: `copy`, `over STATE`, a copy over another state, `join STATE`,
-/// or `then`, before a change, or by a change; whether there is one of these.
+/// Changes a state by the next words: `copy`, `over STATE`, a copy over another state, `join STATE`,
+/// or `then`, and by the changes that follow; whether there is one of these.
 fn change_next(alloc: Global, state: &mut State, words: &mut Words<'_>) -> Result<bool>
     requires { state_order.InRange state.old }
     ensures { IfOk result (λ _. state_order.InRange state.new) }
@@ -147,34 +137,25 @@ fn change_next(alloc: Global, state: &mut State, words: &mut Words<'_>) -> Resul
     } else if words.take_word("over") {
         copy_over(alloc, state, words)?;
     } else if words.take_word("join") {
-        join_next(alloc, state, words)?;
-    } else {
-        let is_more = words.take_word("then");
-        return Ok(change(state, words, alloc)? || is_more);
+        state.join(&plain_state(alloc, words)?)?;
+    } else if !words.take_word("then") {
+        return Ok(false);
     }
+    change_all(state, words, alloc)?;
     Ok(true)
-}
-
-/// Changes a state by all of the next words that say how.
-fn change_by_all(alloc: Global, state: &mut State, words: &mut Words<'_>) -> Result<()>
-    requires { state_order.InRange state.old }
-    ensures { IfOk result (λ _. state_order.InRange state.new) }
-{
-    for _ in 0..MOST {
-        if !change_next(alloc, state, words)? {
-            return Ok(());
-        }
-    }
-    Err(anyhow!("too many changes"))
 }
 
 /// Returns the state that the next words say.
 pub(crate) fn state_of(alloc: Global, words: &mut Words<'_>) -> Result<State>
     ensures { IfOk result (λ state. state_order.InRange state) }
 {
-    let mut state = State::start(alloc, &[])?;
-    change_by_all(alloc, &mut state, words)?;
-    Ok(state)
+    let mut state = plain_state(alloc, words)?;
+    for _ in 0..MOST {
+        if !change_next(alloc, &mut state, words)? {
+            return Ok(state);
+        }
+    }
+    Err(anyhow!("too many changes"))
 }
 
 /// A cell as text.
@@ -251,12 +232,9 @@ fn show_functions(alloc: Global, text: &mut String, state: &State, before: &Stat
             write!(text, " f{}={}", function.0, body_text(alloc, function.1)?)?;
         }
     }
+    let known = state.functions();
     for (number, _) in before.functions() {
-        if !state
-            .functions()
-            .iter()
-            .any(|function| function.0 == *number)
-        {
+        if !known.iter().any(|function| function.0 == *number) {
             write!(text, " f{number}=?")?;
         }
     }

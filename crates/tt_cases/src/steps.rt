@@ -57,35 +57,6 @@ fn told(alloc: Global, setting: &Setting<'_>, point: &Point<'_>, state: &State) 
     }
 }
 
-/// Returns the same where an instruction belongs to a call, or to the main program.
-fn told_in(
-    alloc: Global,
-    setting: &Setting<'_>,
-    call: Option<Frame>,
-    offset: u32,
-    state: &State,
-) -> Result<String>
-    requires { state_order.InRange state.now }
-{
-    match call {
-        Some(frame) => {
-            let frames = [frame];
-            let point = Point {
-                frames: &frames,
-                offset,
-            };
-            told(alloc, setting, &point, state)
-        }
-        None => {
-            let point = Point {
-                frames: &[],
-                offset,
-            };
-            told(alloc, setting, &point, state)
-        }
-    }
-}
-
 /// Returns the state that the words say, with function 0 where that has a body.
 fn state_with(alloc: Global, words: &mut Words<'_>, function: Option<&str>) -> Result<State>
     ensures { IfOk result (λ state. state_order.InRange state) }
@@ -97,15 +68,8 @@ fn state_with(alloc: Global, words: &mut Words<'_>, function: Option<&str>) -> R
     Ok(state)
 }
 
-/// Takes the call that the words say after `in=`, if they do.
-fn call_of(words: &mut Words<'_>) -> Result<Option<Frame>> {
-    match words.take("in") {
-        Some(call) => Ok(Some(frame_of(call)?)),
-        None => Ok(None),
-    }
-}
-
-/// Returns the same of the bytes of a font program and of a glyph program.
+/// Returns the same of the bytes of a font program and of a glyph program, to whose instruction
+/// control comes in a call, or in the main program.
 fn told_of_bytes(
     context: &Context<'_>,
     font: &[u8],
@@ -128,7 +92,8 @@ fn told_of_bytes(
         prep: &font,
         start: &[],
     };
-    told_in(alloc, &setting, call, offset, state)
+    let frames = call.as_slice();
+    told(alloc, &setting, &Point { frames, offset }, state)
 }
 
 /// `step PROGRAM STATE`, with `at=OFFSET`, `in=CALL`, `f=FONT_PROGRAM`, `start=BODY`: where the
@@ -136,7 +101,7 @@ fn told_of_bytes(
 pub(crate) fn step(context: &Context<'_>, words: &mut Words<'_>) -> Result<String> {
     let alloc = context.rt.alloc();
     let offset = words.number("at", 0)?;
-    let call = call_of(words)?;
+    let call = words.take("in").map(frame_of).transpose()?;
     let function = words.take("start");
     let font = words.bytes(alloc, "f")?;
     let main = words.next_bytes(alloc)?;
