@@ -3,7 +3,7 @@
 use crate::context::Context;
 use crate::families::add_contexts;
 use crate::places::frame_text;
-use crate::states::{plain_state, plain_text};
+use crate::states::{plain_text, state_from};
 use crate::words::{Words, number_of, pair_of};
 use anyhow::{Context as _, Result, bail, ensure};
 use std::alloc::Global;
@@ -12,22 +12,17 @@ use tt_abs::State;
 use tt_family::{Builder, JoinFault};
 use tt_test_fixtures::families::join;
 
-/// Returns what a join tells.
-fn told_of_join(joined: Result<bool, JoinFault>) -> Result<&'static str> {
-    match joined {
+/// Joins the next state at its point, and returns what is told.
+fn put(alloc: Global, builder: &mut Builder, words: &mut Words<'_>) -> Result<&'static str> {
+    let (context, offset) = pair_of(words.next()?, ':')?;
+    let (context, offset) = (number_of(context)?, number_of(offset)?);
+    let state = state_from(alloc, words, &[])?;
+    match join(builder, context, offset, &state) {
         Ok(true) => Ok(" changed"),
         Ok(false) => Ok(" same"),
         Err(JoinFault::DepthMismatch) => Ok(" 38"),
         Err(_) => bail!("a state that can't be joined"),
     }
-}
-
-/// Joins the next state at its point, and returns what is told.
-fn put(alloc: Global, builder: &mut Builder, words: &mut Words<'_>) -> Result<&'static str> {
-    let (context, offset) = pair_of(words.next()?, ':')?;
-    let (context, offset) = (number_of(context)?, number_of(offset)?);
-    let state = plain_state(alloc, words)?;
-    told_of_join(join(builder, context, offset, &state))
 }
 
 /// Finishes a builder's family, and goes on in its memory.
@@ -108,25 +103,20 @@ pub(crate) fn show_states(
     Ok(())
 }
 
-/// Makes the steps that the words say, and returns what they tell and what the builder holds then.
-fn told_by_steps(alloc: Global, builder: &mut Builder, words: &mut Words<'_>) -> Result<String> {
+/// `builder STEPS`: what each put tells, and then the contexts and the states that are held.
+pub(crate) fn builder(context: &Context<'_>, words: &mut Words<'_>) -> Result<String> {
+    let alloc = context.rt.alloc();
+    let mut builder = Builder::new(alloc);
     let mut text = String::from_str(alloc, "puts")?;
     for _ in 0..words.len() {
         if words.is_empty() {
             break;
         }
-        step(alloc, builder, words, &mut text)?;
+        step(alloc, &mut builder, words, &mut text)?;
     }
     text.push_str(" contexts")?;
-    show_contexts(alloc, &mut text, builder, " ")?;
+    show_contexts(alloc, &mut text, &builder, " ")?;
     write!(text, " points {}", builder.points())?;
-    show_states(alloc, &mut text, builder, " ")?;
+    show_states(alloc, &mut text, &builder, " ")?;
     Ok(text)
-}
-
-/// `builder STEPS`: what each put tells, and then the contexts and the states that are held.
-pub(crate) fn builder(context: &Context<'_>, words: &mut Words<'_>) -> Result<String> {
-    let alloc = context.rt.alloc();
-    let mut builder = Builder::new(alloc);
-    told_by_steps(alloc, &mut builder, words)
 }

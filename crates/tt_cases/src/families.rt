@@ -1,23 +1,21 @@
 //! Cases of families: their check, and the search for the least one.
 
-ghost use Rattle.std.specs.Prelude.{IfOk};
 ghost use Rattle.tt_abs.specs.Entries.{Ascends};
 ghost use Rattle.tt_abs.specs.Settings.{setting_of};
 ghost use Rattle.tt_abs.specs.StateFlow.{FunctionsFit};
-ghost use Rattle.tt_abs.specs.States.{state_order};
 
 use crate::builders::show_contexts;
 use crate::context::Context;
 use crate::places::{calls_of, frame_text, refusal_text};
 use crate::programs::{Programs, bytes_given, cut_all};
-use crate::states::change_all;
+use crate::states::state_from;
 use crate::words::{Words, body_of, number_of, pair_of};
 use anyhow::{Context as _, Result, bail, ensure};
-use std::alloc::{AllocError, Global};
-use tt_abs::{Kind, Refusal, Setting, State};
+use std::alloc::Global;
+use tt_abs::{Kind, Setting};
 use tt_code::Frame;
 use tt_family::{Budget, Builder, Certificate, ContextFault, check, check_full};
-use tt_find::{Explored, Found, explore, find};
+use tt_find::{Found, explore, find};
 use tt_test_fixtures::families::{add, join};
 
 /// The most contexts that a word may say.
@@ -40,16 +38,6 @@ pub(crate) fn add_contexts(builder: &mut Builder, word: &str) -> Result<bool> {
         }
     }
     Ok(true)
-}
-
-/// Returns the state that begins with these functions, with the changes that the next words say.
-fn state_from(alloc: Global, words: &mut Words<'_>, start: &[(u16, u32)]) -> Result<State>
-    requires { Ascends start.now }
-    ensures { IfOk result (λ state. state_order.InRange state) }
-{
-    let mut state = State::start(alloc, start)?;
-    change_all(&mut state, words, alloc)?;
-    Ok(state)
 }
 
 /// Joins the next state, which begins with these functions, at its point, `1:3`; or in each of the
@@ -119,14 +107,6 @@ fn show_points(text: &mut String, family: &Certificate) -> Result<()> {
     Ok(())
 }
 
-/// Returns what a check tells.
-fn check_text(alloc: Global, told: Result<(), Refusal>) -> Result<String, AllocError> {
-    match told {
-        Ok(()) => String::from_str(alloc, "good"),
-        Err(refusal) => refusal_text(alloc, &refusal),
-    }
-}
-
 /// Returns how large a family is that was found, and which of its states are listed; also why it
 /// isn't good, if it isn't.
 fn found_text(alloc: Global, setting: &Setting<'_>, found: &Found, points: u32) -> Result<String>
@@ -157,23 +137,18 @@ fn find_text(alloc: Global, setting: &Setting<'_>) -> Result<String>
     }
 }
 
-/// Returns which states a search has listed, and why it has ended, where the program is refused.
-fn explored_text(alloc: Global, explored: &Explored) -> Result<String> {
-    let mut text = String::from_str(alloc, "listed")?;
-    show_points(&mut text, &explored.found.certificate)?;
-    if let Some(refusal) = &explored.fault {
-        write!(text, ", {}", refusal_text(alloc, refusal)?)?;
-    }
-    Ok(text)
-}
-
 /// Returns which states a search lists, and why it ends, where the program is refused.
 fn explore_text(alloc: Global, setting: &Setting<'_>) -> Result<String>
     requires ascends { Ascends setting.now.start.now }
     requires fits { FunctionsFit (setting_of setting.now) setting.now.start.now }
 {
     let explored = explore(alloc, setting, &mut Budget::unlimited())?;
-    explored_text(alloc, &explored)
+    let mut text = String::from_str(alloc, "listed")?;
+    show_points(&mut text, &explored.found.certificate)?;
+    if let Some(refusal) = &explored.fault {
+        write!(text, ", {}", refusal_text(alloc, refusal)?)?;
+    }
+    Ok(text)
 }
 
 /// Returns what is told of a program in a setting. For a check the words say the family, which
@@ -192,7 +167,11 @@ fn told(alloc: Global, setting: &Setting<'_>, words: &mut Words<'_>, kind: &str)
         "full" => check_full(alloc, setting, &family),
         _ => check(alloc, setting, &family),
     };
-    Ok(check_text(alloc, checked)?)
+    let text = match checked {
+        Ok(()) => String::from_str(alloc, "good"),
+        Err(refusal) => refusal_text(alloc, &refusal),
+    };
+    Ok(text?)
 }
 
 /// Returns what is told of a program of this kind, without functions, or with function 0, where the

@@ -1,6 +1,7 @@
 //! States as text: `[1 2 ?] rp0=1 zp0=? loop=2 f3=40 s1=7`.
 
 ghost use Rattle.std.specs.Prelude.{IfOk};
+ghost use Rattle.tt_abs.specs.Entries.{Ascends};
 ghost use Rattle.tt_abs.specs.States.{state_order};
 
 use crate::places::body_text;
@@ -94,7 +95,7 @@ fn change(state: &mut State, words: &mut Words<'_>, alloc: Global) -> Result<boo
 }
 
 /// Makes all changes that the next words say.
-pub(crate) fn change_all(state: &mut State, words: &mut Words<'_>, alloc: Global) -> Result<()>
+fn change_all(state: &mut State, words: &mut Words<'_>, alloc: Global) -> Result<()>
     requires { state_order.InRange state.old }
     ensures { IfOk result (λ _. state_order.InRange state.new) }
 {
@@ -106,11 +107,16 @@ pub(crate) fn change_all(state: &mut State, words: &mut Words<'_>, alloc: Global
     Err(anyhow!("too many changes"))
 }
 
-/// Returns the state at a start without functions, with the changes that the next words say.
-pub(crate) fn plain_state(alloc: Global, words: &mut Words<'_>) -> Result<State>
+/// Returns the state that begins with these functions, with the changes that the next words say.
+pub(crate) fn state_from(
+    alloc: Global,
+    words: &mut Words<'_>,
+    start: &[(u16, u32)],
+) -> Result<State>
+    requires { Ascends start.now }
     ensures { IfOk result (λ state. state_order.InRange state) }
 {
-    let mut state = State::start(alloc, &[])?;
+    let mut state = State::start(alloc, start)?;
     change_all(&mut state, words, alloc)?;
     Ok(state)
 }
@@ -120,7 +126,7 @@ fn copy_over(alloc: Global, state: &mut State, words: &mut Words<'_>) -> Result<
     requires { state_order.InRange state.old }
     ensures { IfOk result (λ _. state_order.InRange state.new) }
 {
-    let mut other = plain_state(alloc, words)?;
+    let mut other = state_from(alloc, words, &[])?;
     other.copy_from(state)?;
     *state = other;
     Ok(())
@@ -137,7 +143,7 @@ fn change_next(alloc: Global, state: &mut State, words: &mut Words<'_>) -> Resul
     } else if words.take_word("over") {
         copy_over(alloc, state, words)?;
     } else if words.take_word("join") {
-        state.join(&plain_state(alloc, words)?)?;
+        state.join(&state_from(alloc, words, &[])?)?;
     } else if !words.take_word("then") {
         return Ok(false);
     }
@@ -149,7 +155,7 @@ fn change_next(alloc: Global, state: &mut State, words: &mut Words<'_>) -> Resul
 pub(crate) fn state_of(alloc: Global, words: &mut Words<'_>) -> Result<State>
     ensures { IfOk result (λ state. state_order.InRange state) }
 {
-    let mut state = plain_state(alloc, words)?;
+    let mut state = state_from(alloc, words, &[])?;
     for _ in 0..MOST {
         if !change_next(alloc, &mut state, words)? {
             return Ok(state);
