@@ -4,20 +4,8 @@
 use crate::commands::{spelled, spelled_all};
 use anyhow::Result;
 use hintcheck::{TaskFault, read_words, word_bytes};
-use std::alloc::Global;
 use tt_cases::context::Context;
 use tt_cases::words::Words;
-
-/// Returns what words ask for.
-fn task_text(alloc: Global, words: &[&str]) -> Result<String> {
-    let mut text = String::new(alloc);
-    match read_words(alloc, words) {
-        Ok(task) => write!(text, "{task:?}")?,
-        Err(TaskFault::Words(error)) => write!(text, "{:?}", error.kind())?,
-        Err(TaskFault::OutOfMemory(_)) => text.push_str("9")?,
-    }
-    Ok(text)
-}
 
 /// `words WORDS`: the task that the words after the program's name ask for, or the kind of clap's
 /// error.
@@ -25,7 +13,12 @@ pub(crate) fn task(context: &Context<'_>, words: &mut Words<'_>) -> Result<Strin
     let alloc = context.rt.alloc();
     let spellings = spelled_all(context, words)?;
     let texts: Vec<&str> = spellings.iter().map(|word| word.as_str()).collect(alloc)?;
-    task_text(alloc, &texts)
+    let text = match read_words(alloc, &texts) {
+        Ok(task) => format!(in alloc; "{task:?}"),
+        Err(TaskFault::Words(error)) => format!(in alloc; "{:?}", error.kind()),
+        Err(TaskFault::OutOfMemory(_)) => String::from_str(alloc, "9"),
+    };
+    Ok(text?)
 }
 
 /// How many bytes are shown at most.

@@ -4,9 +4,8 @@ use crate::faults::{Fault, fault_text};
 use crate::sessions::refused_in_session;
 use anyhow::{Result, bail, ensure};
 use hintcheck_fonts::{
-    Budget, CheckFontFault, Refused, UpgradeFault, Verdict, bare, bare_within, check_font,
-    check_font_within, find_font, find_font_within, read_font, upgrade, verdict, verdict_symbolic,
-    verdict_within,
+    Budget, Refused, UpgradeFault, Verdict, bare, bare_within, check_font, check_font_within,
+    find_font, find_font_within, read_font, upgrade, verdict, verdict_symbolic, verdict_within,
 };
 use std::alloc::Global;
 use std::fmt::Write;
@@ -17,23 +16,22 @@ use tt_cases::words::{Words, bytes_of};
 use tt_stream::{Bytes, Counted};
 use tt_test_fixtures::streams::{ALL, Steps, Taker};
 
-/// Returns a refused program, the reason's number and the place.
-fn refused_text(alloc: Global, refused: &Refused) -> Result<String> {
-    let (name, number, place) = (refused.program, refused.reason.number(), refused.place);
-    Ok(format!(in alloc; "{name} {number} at {place}")?)
-}
-
 /// Returns how many programs there are, and that all are good, or each that is refused with the
 /// reason's number and the place.
-fn told_of_verdict(alloc: Global, verdict: &Verdict) -> Result<String> {
-    let programs = verdict.programs();
-    if verdict.accepted() {
+fn programs_text(alloc: Global, programs: u32, refused: &[Refused]) -> Result<String> {
+    if refused.is_empty() {
         return Ok(format!(in alloc; "{programs} good")?);
     }
     let mut text = format!(in alloc; "{programs}")?;
     let mut divider = ':';
-    for refused in verdict.refused() {
-        write!(text, "{divider} {}", refused_text(alloc, refused)?)?;
+    for one in refused {
+        write!(
+            text,
+            "{divider} {} {} at {}",
+            one.program,
+            one.reason.number(),
+            one.place
+        )?;
         divider = ',';
     }
     Ok(text)
@@ -42,7 +40,11 @@ fn told_of_verdict(alloc: Global, verdict: &Verdict) -> Result<String> {
 /// Returns what an answer tells: the verdict, or the fault.
 fn told_of<F: Fault + Drop>(alloc: Global, answer: Result<Verdict, F>) -> Result<String> {
     match answer {
-        Ok(verdict) => told_of_verdict(alloc, &verdict),
+        Ok(verdict) => {
+            let refused = verdict.refused();
+            ensure!(verdict.accepted() == refused.is_empty(), "another verdict");
+            programs_text(alloc, verdict.programs(), refused)
+        }
         Err(fault) => fault_text(alloc, &fault),
     }
 }
@@ -189,56 +191,32 @@ fn upgraded(alloc: Global, old: &[u8], room: Room) -> (Result<u32, UpgradeFault>
     (told, sink.into_inner().bytes)
 }
 
-/// Returns what a fault of an upgrade tells that has written this. Where a read failed, that is what
-/// is written where the old certificate ends there.
-fn told_of_upgrade_fault(
-    alloc: Global,
-    old: &[u8],
-    room: Room,
-    written: &[u8],
-    fault: UpgradeFault,
-) -> Result<String> {
-    if let UpgradeFault::Read = fault {
-        let cut = old.get(..room.reads).unwrap_or(old);
-        let (_, of_cut) = upgraded(alloc, cut, AMPLE);
-        ensure!(written == of_cut.as_slice(), "another beginning");
-    }
-    fault_text(alloc, &fault)
-}
-
 /// Returns how many sections an old certificate has, and how what its upgrade writes compares with
-/// the one that is wanted.
+/// the one that is wanted. Where a read failed, that is what is written where the old certificate
+/// ends there.
 fn told_of_upgrade(alloc: Global, old: &[u8], want: &[u8], room: Room) -> Result<String> {
     let (answer, written) = upgraded(alloc, old, room);
+    if let Err(UpgradeFault::Read) = answer {
+        let cut = old.get(..room.reads).unwrap_or(old);
+        let (_, of_cut) = upgraded(alloc, cut, AMPLE);
+        ensure!(written.as_slice() == of_cut.as_slice(), "another beginning");
+    }
     let told = match answer {
         Ok(sections) => format!(in alloc; "{sections} sections")?,
-        Err(fault) => told_of_upgrade_fault(alloc, old, room, &written, fault)?,
+        Err(fault) => fault_text(alloc, &fault)?,
     };
     let likeness = likeness(&written, room.wanted(want));
     Ok(format!(in alloc; "{told}, {likeness}")?)
-}
-
-/// Returns what a session of so many programs tells, of which one at most is refused.
-fn told_of_programs(
-    alloc: Global,
-    programs: u32,
-    answer: Result<Option<Refused>, CheckFontFault>,
-) -> Result<String> {
-    match answer {
-        Ok(None) => Ok(format!(in alloc; "{programs} good")?),
-        Ok(Some(refused)) => {
-            Ok(format!(in alloc; "{programs}: {}", refused_text(alloc, &refused)?)?)
-        }
-        Err(fault) => fault_text(alloc, &fault),
-    }
 }
 
 /// Returns what a session of a font tells, as its check tells it.
 fn told_of_session(alloc: Global, file: &[u8], certificate: Steps<'_>) -> Result<String> {
     let font = read_font(alloc, file)?;
     let programs = u32::from(font.glyph_count()) + 2;
-    let answer = refused_in_session(alloc, &font, certificate);
-    told_of_programs(alloc, programs, answer)
+    match refused_in_session(alloc, &font, certificate) {
+        Ok(refused) => programs_text(alloc, programs, refused.as_slice()),
+        Err(fault) => fault_text(alloc, &fault),
+    }
 }
 
 /// Calls the library with files: `verdict FONT`, `check_font FONT CERT`, `session FONT CERT`,

@@ -6,7 +6,7 @@ ghost use Rattle.hintcheck_fonts.specs.Sessions.{IsForChecking};
 use crate::faults::{Fault, fault_text};
 use anyhow::Result;
 use hintcheck_fonts::{
-    Budget, CheckFontFault, FindFontFault, Name, Outcome, Refused, Session, read_font,
+    Budget, CheckFontFault, FindFontFault, Outcome, Refused, Session, read_font,
 };
 use std::alloc::Global;
 use std::fmt::Write;
@@ -37,27 +37,8 @@ fn told_of_next(alloc: Global, next: Option<Outcome>) -> Result<String> {
     }
 }
 
-/// Returns the program that the calls of a session tell is refused, if one does, up to the end.
-fn refused_by_calls(
-    alloc: Global,
-    session: &mut Session<'_>,
-    programs: u32,
-    source: &mut Counted<Steps<'_>>,
-) -> Result<Option<Refused>, CheckFontFault>
-    requires { IsForChecking session.old }
-{
-    let mut refused = None;
-    for _ in 0..programs {
-        match session.check_next(alloc, source)? {
-            Some(outcome) if outcome.refused.is_some() => refused = outcome.refused,
-            Some(_) => {}
-            None => return Ok(refused),
-        }
-    }
-    Ok(refused)
-}
-
-/// Returns the program of a font that a session tells is refused, if one does.
+/// Returns the program of a font that the calls of a session tell is refused, if one does, up to the
+/// end.
 pub(crate) fn refused_in_session(
     alloc: Global,
     font: &Font<'_>,
@@ -65,8 +46,15 @@ pub(crate) fn refused_in_session(
 ) -> Result<Option<Refused>, CheckFontFault> {
     let mut source = Counted::new(certificate);
     let mut session = Session::new(font);
-    let calls = u32::from(font.glyph_count()) + 3;
-    refused_by_calls(alloc, &mut session, calls, &mut source)
+    let mut refused = None;
+    for _ in 0..u32::from(font.glyph_count()) + 3 {
+        match session.check_next(alloc, &mut source)? {
+            Some(outcome) if outcome.refused.is_some() => refused = outcome.refused,
+            Some(_) => {}
+            None => return Ok(refused),
+        }
+    }
+    Ok(refused)
 }
 
 /// Returns what a call answers, as text.
@@ -95,20 +83,9 @@ pub(crate) fn session(context: &Context<'_>, words: &mut Words<'_>) -> Result<St
     let alloc = context.rt.alloc();
     let file = next_held(context, words)?;
     let certificate = next_held(context, words)?;
-    let font = read_font(alloc, &file)?;
-    session_on(alloc, &font, &certificate, words)
-}
-
-/// Returns what the calls on a font and its certificate tell. The session is owned here, where
-/// nothing else can fail: each place where it may be dropped has a long proof.
-fn session_on(
-    alloc: Global,
-    font: &Font<'_>,
-    certificate: &[u8],
-    words: &mut Words<'_>,
-) -> Result<String> {
+    let font = &read_font(alloc, &file)?;
     let mut session = Session::new(font);
-    told_by_checks(alloc, &mut session, certificate, words)
+    told_by_checks(alloc, &mut session, &certificate, words)
 }
 
 /// Returns what the calls of a session tell that check the programs by a certificate.
@@ -143,8 +120,12 @@ fn add_check(
 {
     let told = told_of_answer(alloc, session.check_next_within(alloc, source, budget))?;
     let mark = if budget.is_exceeded() { "!" } else { "" };
-    let (made, left) = (budget.made(), source.ahead().len());
-    write!(text, "{told} [{made}{mark} {left}] ")?;
+    write!(
+        text,
+        "{told} [{}{mark} {}] ",
+        budget.made(),
+        source.ahead().len()
+    )?;
     Ok(())
 }
 
@@ -167,19 +148,6 @@ fn first_refused<S: Source>(
     Ok(None)
 }
 
-/// Returns what is told of the first refused program, and how many bytes are left.
-fn told_of_first(
-    alloc: Global,
-    first: Result<Option<Refused>, CheckFontFault>,
-    left: usize,
-) -> Result<String> {
-    match first {
-        Ok(None) => Ok(format!(in alloc; "none, {left} left")?),
-        Ok(Some(refused)) => Ok(format!(in alloc; "{refused}, {left} left")?),
-        Err(fault) => Ok(format!(in alloc; "{}, {left} left", fault_text(alloc, &fault)?)?),
-    }
-}
-
 /// `first FONT CERT`: the first refused program of a font by its certificate, and how many bytes of
 /// that aren't read.
 pub(crate) fn first(context: &Context<'_>, words: &mut Words<'_>) -> Result<String> {
@@ -188,23 +156,21 @@ pub(crate) fn first(context: &Context<'_>, words: &mut Words<'_>) -> Result<Stri
     let certificate = next_held(context, words)?;
     let font = read_font(alloc, &file)?;
     let mut source = Bytes::new(&certificate);
-    let first = first_refused(alloc, &font, &mut source);
-    told_of_first(alloc, first, source.ahead().len())
-}
-
-/// Writes the section of a program, if that was found.
-fn write_found(alloc: Global, name: Name, found: Option<Found>, sink: &mut Sections) -> Result<()> {
-    if let Some(found) = found {
-        encode(alloc, name, &found.certificate, sink)?;
-    }
-    Ok(())
+    let told = match first_refused(alloc, &font, &mut source) {
+        Ok(None) => String::from_str(alloc, "none")?,
+        Ok(Some(refused)) => format!(in alloc; "{refused}")?,
+        Err(fault) => fault_text(alloc, &fault)?,
+    };
+    Ok(format!(in alloc; "{told}, {} left", source.ahead().len())?)
 }
 
 /// Returns what a call answers that finds a program, whose section is written.
 fn told_of_found(alloc: Global, answer: Answer, sink: &mut Sections) -> Result<String> {
     match answer {
         Ok(Some((outcome, found))) => {
-            write_found(alloc, outcome.program, found, sink)?;
+            if let Some(found) = found {
+                encode(alloc, outcome.program, &found.certificate, sink)?;
+            }
             told_of_next(alloc, Some(outcome))
         }
         Ok(None) => told_of_next(alloc, None),
@@ -219,16 +185,10 @@ pub(crate) fn search(context: &Context<'_>, words: &mut Words<'_>) -> Result<Str
     let alloc = context.rt.alloc();
     let file = next_held(context, words)?;
     let want = next_held(context, words)?;
-    let font = read_font(alloc, &file)?;
-    search_on(alloc, &font, &want, words)
-}
-
-/// Returns what the calls that find a font's programs tell, and how their sections compare. The
-/// session is owned here, as in `session_on`.
-fn search_on(alloc: Global, font: &Font<'_>, want: &[u8], words: &mut Words<'_>) -> Result<String> {
-    let sections = u32::from(font.glyph_count()) + 2;
+    let font = &read_font(alloc, &file)?;
     let mut session = Session::new(font);
-    told_by_searches(alloc, &mut session, sections, want, words)
+    let sections = u32::from(font.glyph_count()) + 2;
+    told_by_searches(alloc, &mut session, sections, &want, words)
 }
 
 /// Returns what the calls of a session tell that find so many programs, and how the sections
@@ -247,14 +207,8 @@ fn told_by_searches(
     let mut budget = Budget::unlimited();
     let mut text = String::new(alloc);
     for _ in 0..words.len() {
-        add_search(
-            alloc,
-            &mut text,
-            session,
-            &mut sink,
-            words.next()?,
-            &mut budget,
-        )?;
+        let word = words.next()?;
+        add_search(alloc, &mut text, session, &mut sink, word, &mut budget)?;
     }
     text.push_str(likeness(&sink.into_inner(), want))?;
     Ok(text)

@@ -88,15 +88,26 @@ pub(crate) fn budgeted(context: &Context<'_>, words: &mut Words<'_>) -> Result<S
     Ok(text)
 }
 
-/// Returns what a call tells where a call of a writer after so many others fails, and the same where
-/// that takes nothing.
-fn told_of_writes(
+/// Returns what a call tells where a call of a reader, or of a writer, after so many others fails;
+/// the same where the call of the writer takes nothing.
+fn told_of_failure(
     context: &Context<'_>,
+    side: &str,
     kind: &str,
     names: &[&str],
-    writes: usize,
+    calls: usize,
 ) -> Result<String> {
-    let failing = Room { writes, ..AMPLE };
+    if side == "reads" {
+        let room = Room {
+            reads: calls,
+            ..AMPLE
+        };
+        return call(context, kind, names, room, &mut Budget::unlimited());
+    }
+    let failing = Room {
+        writes: calls,
+        ..AMPLE
+    };
     let told = call(context, kind, names, failing, &mut Budget::unlimited())?;
     let taking = Room {
         takes_nothing: true,
@@ -108,24 +119,6 @@ fn told_of_writes(
         "{told}, but {other} where nothing is taken"
     );
     Ok(told)
-}
-
-/// Returns what a call tells where a call of a reader, or of a writer, after so many others fails.
-fn told_of_failure(
-    context: &Context<'_>,
-    side: &str,
-    kind: &str,
-    names: &[&str],
-    calls: usize,
-) -> Result<String> {
-    if side != "reads" {
-        return told_of_writes(context, kind, names, calls);
-    }
-    let room = Room {
-        reads: calls,
-        ..AMPLE
-    };
-    call(context, kind, names, room, &mut Budget::unlimited())
 }
 
 /// Whether a failed call is told, after a beginning of what is to be written.

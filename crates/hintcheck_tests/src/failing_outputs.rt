@@ -48,11 +48,6 @@ fn tells_failed_writes(rt: HostRuntime) {
     }
 }
 
-/// Whether that is so of the list of a program.
-fn tells_failed_writes_of_list<R: Files + AllocGlobal>(rt: &R, font: &str, program: &str) -> bool {
-    tells_failed_writes_of(rt, &["hintcheck", "list", font, program])
-}
-
 /// A list of 34 bytes, and a refusal of as many.
 #[test]
 fn tells_failed_writes_of_a_list(rt: HostRuntime) -> Result<(), Fail> {
@@ -61,8 +56,10 @@ fn tells_failed_writes_of_a_list(rt: HostRuntime) -> Result<(), Fail> {
     let font = font_of(rt.alloc(), &[], &[], &[&listed, &refused])?;
     let path = path_of(&rt, "list.ttf").ok_or("a path")?;
     fs::write(&rt, path.as_str(), &font)?;
-    assert!(rt; tells_failed_writes_of_list(&rt, path.as_str(), "g0"));
-    assert!(rt; tells_failed_writes_of_list(&rt, path.as_str(), "g1"));
+    for program in ["g0", "g1"] {
+        let words = ["hintcheck", "list", path.as_str(), program];
+        assert!(rt; tells_failed_writes_of(&rt, &words), "{words:?}");
+    }
     fs::remove_file(&rt, path.as_str())?;
     Ok(())
 }

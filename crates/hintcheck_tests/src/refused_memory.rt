@@ -6,7 +6,6 @@ use crate::outputs::{ROOM, path_of, printed};
 use hintcheck::{command, find_font};
 use std::alloc::{AllocError, Global};
 use std::fs;
-use std::io::Print;
 use std::path::PathBuf;
 use std::test::Fail;
 use tt_stream::Counted;
@@ -25,30 +24,13 @@ const ONE_UNREAD: &[u8] = b"1 fonts: 0 accepted, 0 refused, 1 without an answer\
 #[derive(Drop)]
 struct Order<'a> {
     rt: &'a HostRuntime,
-    words: Vec<String>,
+    words: Vec<&'a str>,
     /// What it prints with ample memory.
     whole: Vec<u8>,
     /// What `scan` prints where memory ran out.
     fault: String,
     /// Whether it is a `scan` that tells on the error output how many fonts there were.
     is_counting: bool,
-}
-
-/// Returns words as they are lent to a command.
-fn lent(alloc: Global, words: &[String]) -> Result<Vec<&str>, AllocError> {
-    let mut texts = Vec::new(alloc);
-    for word in words {
-        texts.push(word.as_str())?;
-    }
-    Ok(texts)
-}
-
-/// Whether these are the words of an explanation.
-fn is_explanation(words: &[String]) -> bool {
-    match words.get(1) {
-        Some(word) => word.as_str() == "explain",
-        None => false,
-    }
 }
 
 impl Order<'_> {
@@ -65,7 +47,8 @@ impl Order<'_> {
     /// Returns what a status tells, and what was printed with it: only explanations are begun
     /// before memory runs out.
     fn told_by(&self, status: u8, out: &[u8], err: &[u8]) -> Told {
-        let is_begun = is_explanation(&self.words) && self.whole.starts_with(out);
+        let is_explanation = self.words.get(1) == Some(&"explain");
+        let is_begun = is_explanation && self.whole.starts_with(out);
         match (status, err) {
             (0 | 1, _) if out == self.whole.as_slice() && self.is_counted(err, ONE_ACCEPTED) => {
                 Told::Done
@@ -81,16 +64,15 @@ impl Order<'_> {
 
 impl Trial for Order<'_> {
     fn told(&self, heap: &mut Heap) -> Told {
-        let (Ok(out), Ok(err), Ok(words)) = (
+        let (Ok(out), Ok(err)) = (
             Vec::with_capacity(heap.alloc, ROOM),
             Vec::with_capacity(heap.alloc, ROOM),
-            lent(heap.alloc, &self.words),
         ) else {
             return Told::Wrong;
         };
         let (mut out, mut err) = (Counted::new(out), Counted::new(err));
         heap.take_room();
-        let status = command(self.rt, &words, &mut out, &mut err);
+        let status = command(self.rt, &self.words, &mut out, &mut err);
         heap.give_back();
         self.told_by(status, &out.into_inner(), &err.into_inner())
     }
@@ -111,15 +93,12 @@ fn write_files(rt: &HostRuntime) -> Result<[PathBuf; 4], Fail> {
         path_of(rt, "new").ok_or("a path")?,
     ];
     let font = font_with(rt.alloc(), &[0xB1, 0x07, 0x00, 0x2B])?;
+    let bad = font_with(rt.alloc(), &[0xB0, 0x00, 0x2B])?;
     let mut certificate = Counted::new(Vec::new(rt.alloc()));
     find_font(rt.alloc(), &font, &mut certificate)?;
     fs::write(rt, paths[0].as_str(), &font)?;
     fs::write(rt, paths[1].as_str(), &certificate.into_inner())?;
-    fs::write(
-        rt,
-        paths[2].as_str(),
-        &font_with(rt.alloc(), &[0xB0, 0x00, 0x2B])?,
-    )?;
+    fs::write(rt, paths[2].as_str(), &bad)?;
     Ok(paths)
 }
 
@@ -144,57 +123,47 @@ fn name_of<'a>(word: &'a str, paths: &'a [PathBuf; 4]) -> &'a str {
 }
 
 /// Returns the words of a command, with names of files.
-fn named(alloc: Global, command: &[&str], paths: &[PathBuf; 4]) -> Result<Vec<String>, AllocError> {
-    let mut words = Vec::new(alloc);
-    words.push(String::from_str(alloc, "hintcheck")?)?;
+fn named<'a>(
+    alloc: Global,
+    command: &[&'a str],
+    paths: &'a [PathBuf; 4],
+) -> Result<Vec<&'a str>, AllocError> {
+    let mut words = vec![in alloc; "hintcheck"]?;
     for word in command {
-        words.push(String::from_str(alloc, name_of(word, paths))?)?;
+        words.push(name_of(word, paths))?;
     }
     Ok(words)
 }
 
-/// Returns what a command prints with ample memory.
-fn whole_of(host: &HostRuntime, words: &[String]) -> Result<Vec<u8>, AllocError> {
-    let texts = lent(host.alloc(), words)?;
-    let (_, whole, _) = printed(host, &texts, ROOM, ROOM);
-    Ok(whole)
-}
-
 /// Asserts that a command is refused memory, and tells so. FONT, CERT, BAD and NEW stand for files.
 fn assert_command_refused(
-    rt: &impl Print,
-    host: &HostRuntime,
+    rt: &HostRuntime,
     command: &[&str],
     paths: &[PathBuf; 4],
 ) -> Result<(), Fail> {
-    let words = named(host.alloc(), command, paths)?;
-    let whole = whole_of(host, &words)?;
-    let fault = fault_of(host.alloc(), paths[0].as_str(), command.contains(&"--json"))?;
+    let words = named(rt.alloc(), command, paths)?;
+    let (_, whole, _) = printed(rt, &words, ROOM, ROOM);
+    let is_json = command.contains(&"--json");
+    let name = command.first().copied().unwrap_or("no words");
     let order = Order {
-        rt: host,
+        rt,
         words,
         whole,
-        fault,
-        is_counting: command.first() == Some(&"scan") && !command.contains(&"--json"),
+        fault: fault_of(rt.alloc(), paths[0].as_str(), is_json)?,
+        is_counting: name == "scan" && !is_json,
     };
-    let mut heap = Heap::new(host.alloc());
-    let name = command.first().copied().unwrap_or("no words");
-    assert_refused(rt, &mut heap, name, &order)
+    assert_refused(rt, &mut Heap::new(rt.alloc()), name, &order)
 }
 
 /// Asserts that these commands are refused memory.
-fn assert_commands_refused(
-    rt: &impl Print,
-    host: &HostRuntime,
-    commands: &[&[&str]],
-) -> Result<(), Fail> {
-    let paths = write_files(host)?;
+fn assert_commands_refused(rt: &HostRuntime, commands: &[&[&str]]) -> Result<(), Fail> {
+    let paths = write_files(rt)?;
     for command in commands {
-        assert_command_refused(rt, host, command, &paths)?;
+        assert_command_refused(rt, command, &paths)?;
     }
     for path in &paths {
-        if fs::exists(host, path.as_str())? {
-            fs::remove_file(host, path.as_str())?;
+        if fs::exists(rt, path.as_str())? {
+            fs::remove_file(rt, path.as_str())?;
         }
     }
     Ok(())
@@ -207,33 +176,33 @@ fn commands_that_read_files(rt: HostRuntime) -> Result<(), Fail> {
         &["check", "FONT", "CERT"],
         &["list", "FONT", "g0"],
     ];
-    assert_commands_refused(&rt, &rt, &commands)
+    assert_commands_refused(&rt, &commands)
 }
 
 #[test]
 fn certificate_to_a_file(rt: HostRuntime) -> Result<(), Fail> {
-    assert_commands_refused(&rt, &rt, &[&["find", "FONT", "NEW"]])
+    assert_commands_refused(&rt, &[&["find", "FONT", "NEW"]])
 }
 
 #[test]
 fn upgrade_to_a_file(rt: HostRuntime) -> Result<(), Fail> {
-    assert_commands_refused(&rt, &rt, &[&["upgrade", "CERT", "NEW"]])
+    assert_commands_refused(&rt, &[&["upgrade", "CERT", "NEW"]])
 }
 
 #[test]
 fn command_without_files(rt: HostRuntime) -> Result<(), Fail> {
     let words = ["bare", MAXP_WORD, "10", "4", "1", "B100093E"];
-    assert_commands_refused(&rt, &rt, &[&words])
+    assert_commands_refused(&rt, &[&words])
 }
 
 #[test]
 fn scan_of_a_file(rt: HostRuntime) -> Result<(), Fail> {
-    assert_commands_refused(&rt, &rt, &[&["scan", "FONT"]])
+    assert_commands_refused(&rt, &[&["scan", "FONT"]])
 }
 
 #[test]
 fn scan_of_a_file_as_json(rt: HostRuntime) -> Result<(), Fail> {
-    assert_commands_refused(&rt, &rt, &[&["scan", "--json", "FONT"]])
+    assert_commands_refused(&rt, &[&["scan", "--json", "FONT"]])
 }
 
 #[test]
@@ -244,5 +213,5 @@ fn explanations_of_files(rt: HostRuntime) -> Result<(), Fail> {
         &["explain", "BAD", "g0"],
         &["explain", "BAD", "g0", "0"],
     ];
-    assert_commands_refused(&rt, &rt, &commands)
+    assert_commands_refused(&rt, &commands)
 }

@@ -33,21 +33,17 @@ fn one_file_by_two_names(rt: HostRuntime) -> Result<(), Fail> {
     let bytes = font_of(rt.alloc(), &[], &[], &[&glyph])?;
     fs::write(&rt, font.as_str(), &bytes)?;
     fs::hard_link(&rt, font.as_str(), link.as_str())?;
-    let names = (font.as_str(), link.as_str());
-    assert!(rt; is_kept(&rt, "find", names, FIND, &bytes)?, "another link");
-    assert!(rt;
-        is_kept(&rt, "upgrade", names, UPGRADE, &bytes)?,
-        "another link"
-    );
-    let names = (font.as_str(), font.as_str());
-    assert!(rt;
-        is_kept(&rt, "upgrade", names, UPGRADE, &bytes)?,
-        "the same name"
-    );
     // The font's path again, by way of the root's own entry for itself.
     let dotted = format!(in rt.alloc(); "/.{}", font.as_str())?;
-    let names = (font.as_str(), dotted.as_str());
-    assert!(rt; is_kept(&rt, "find", names, FIND, &bytes)?, "another path");
+    for (subcommand, name, line) in [
+        ("find", link.as_str(), FIND),
+        ("upgrade", link.as_str(), UPGRADE),
+        ("upgrade", font.as_str(), UPGRADE),
+        ("find", dotted.as_str(), FIND),
+    ] {
+        let is_kept = is_kept(&rt, subcommand, (font.as_str(), name), line, &bytes)?;
+        assert!(rt; is_kept, "{subcommand} by the name {name}");
+    }
     fs::remove_file(&rt, link.as_str())?;
     fs::copy(&rt, font.as_str(), link.as_str())?;
     let find = ["hintcheck", "find", font.as_str(), link.as_str()];

@@ -3,7 +3,7 @@
 use crate::context::Context;
 use crate::families::add_contexts;
 use crate::places::frame_text;
-use crate::states::{plain_state, plain_text};
+use crate::states::{plain_text, state_from};
 use crate::words::{Words, number_of, pair_of};
 use anyhow::{Context as _, Result, bail, ensure};
 use std::alloc::Global;
@@ -12,22 +12,17 @@ use tt_abs::State;
 use tt_family::{Builder, JoinFault};
 use tt_test_fixtures::families::join;
 
-/// Returns what a join tells.
-fn told_of_join(joined: Result<bool, JoinFault>) -> Result<&'static str> {
-    match joined {
+/// Joins the next state at its point, and returns what is told.
+fn put(alloc: Global, builder: &mut Builder, words: &mut Words<'_>) -> Result<&'static str> {
+    let (context, offset) = pair_of(words.next()?, ':')?;
+    let (context, offset) = (number_of(context)?, number_of(offset)?);
+    let state = state_from(alloc, words, &[])?;
+    match join(builder, context, offset, &state) {
         Ok(true) => Ok(" changed"),
         Ok(false) => Ok(" same"),
         Err(JoinFault::DepthMismatch) => Ok(" 38"),
         Err(_) => bail!("a state that can't be joined"),
     }
-}
-
-/// Joins the next state at its point, and returns what is told.
-fn put(alloc: Global, builder: &mut Builder, words: &mut Words<'_>) -> Result<&'static str> {
-    let (context, offset) = pair_of(words.next()?, ':')?;
-    let (context, offset) = (number_of(context)?, number_of(offset)?);
-    let state = plain_state(alloc, words)?;
-    told_of_join(join(builder, context, offset, &state))
 }
 
 /// Finishes a builder's family, and goes on in its memory.
@@ -60,60 +55,68 @@ fn step(
     Ok(())
 }
 
-/// Adds a state and its point. It is looked for at the point, and not beyond the last context.
-fn show_state(
+/// Adds the contexts of a builder, each with this before it.
+pub(crate) fn show_contexts(
     alloc: Global,
     text: &mut String,
     builder: &Builder,
-    (context, offset): (u32, u32),
-    state: &State,
+    before: &str,
 ) -> Result<()> {
-    match builder.state(context, offset) {
-        Some(found) if found.is_same(state) => {}
-        _ => bail!("another state at {context}:{offset}"),
+    for number in 1..builder.contexts() {
+        if let Some((parent, frame)) = builder.context(number) {
+            write!(text, "{before}{parent}:{}", frame_text(alloc, &frame)?)?;
+        }
     }
-    ensure!(
-        builder.state(builder.contexts(), offset).is_none(),
-        "a state beyond the contexts"
-    );
-    write!(text, " {context}:{offset} {}", plain_text(alloc, state)?)?;
     Ok(())
 }
 
-/// Adds the contexts and the states that a builder holds.
-fn show_builder(alloc: Global, text: &mut String, builder: &Builder) -> Result<()> {
-    text.push_str(" contexts")?;
-    for number in 1..builder.contexts() {
-        if let Some((parent, frame)) = builder.context(number) {
-            write!(text, " {parent}:{}", frame_text(alloc, &frame)?)?;
-        }
-    }
-    write!(text, " points {}", builder.points())?;
+/// Ensures that a builder has this state at this point, and none there beyond its last context.
+fn ensure_at(builder: &Builder, context: u32, offset: u32, state: &State) -> Result<()> {
+    let found = builder.state(context, offset);
+    ensure!(
+        found.is_some_and(|found| found.is_same(state)),
+        "another state at {context}:{offset}"
+    );
+    let beyond = builder.state(builder.contexts(), offset);
+    ensure!(beyond.is_none(), "a state beyond the contexts");
+    Ok(())
+}
+
+/// Adds the states of a builder and their points, each with this before it.
+pub(crate) fn show_states(
+    alloc: Global,
+    text: &mut String,
+    builder: &Builder,
+    before: &str,
+) -> Result<()> {
     let mut states = builder.states();
     for _ in 0..builder.points() {
         if let Some((context, offset, state)) = states.take_first() {
-            show_state(alloc, text, builder, (context, offset), state)?;
+            ensure_at(builder, context, offset, state)?;
+            write!(
+                text,
+                "{before}{context}:{offset} {}",
+                plain_text(alloc, state)?
+            )?;
         }
     }
     Ok(())
-}
-
-/// Makes the steps that the words say, and returns what they tell and what the builder holds then.
-fn told_by_steps(alloc: Global, builder: &mut Builder, words: &mut Words<'_>) -> Result<String> {
-    let mut text = String::from_str(alloc, "puts")?;
-    for _ in 0..words.len() {
-        if words.is_empty() {
-            break;
-        }
-        step(alloc, builder, words, &mut text)?;
-    }
-    show_builder(alloc, &mut text, builder)?;
-    Ok(text)
 }
 
 /// `builder STEPS`: what each put tells, and then the contexts and the states that are held.
 pub(crate) fn builder(context: &Context<'_>, words: &mut Words<'_>) -> Result<String> {
     let alloc = context.rt.alloc();
     let mut builder = Builder::new(alloc);
-    told_by_steps(alloc, &mut builder, words)
+    let mut text = String::from_str(alloc, "puts")?;
+    for _ in 0..words.len() {
+        if words.is_empty() {
+            break;
+        }
+        step(alloc, &mut builder, words, &mut text)?;
+    }
+    text.push_str(" contexts")?;
+    show_contexts(alloc, &mut text, &builder, " ")?;
+    write!(text, " points {}", builder.points())?;
+    show_states(alloc, &mut text, &builder, " ")?;
+    Ok(text)
 }

@@ -27,19 +27,13 @@ pub struct Context<'a> {
 
 /// Takes the limits of a `maxp` table that words give, and those of the small fonts for the others.
 fn limits_given(words: &mut Words<'_>) -> Result<Limits> {
-    let storage = words.number("storage", LIMITS.storage)?;
-    let functions = words.number("functions", LIMITS.functions)?;
-    let stack = words.number("stack", LIMITS.stack)?;
-    let program_size = words.number("size", LIMITS.program_size)?;
-    let zones = words.number("zones", LIMITS.zones)?;
-    let twilight = words.number("twilight", LIMITS.twilight)?;
     Ok(Limits {
-        storage,
-        functions,
-        stack,
-        program_size,
-        zones,
-        twilight,
+        storage: words.number("storage", LIMITS.storage)?,
+        functions: words.number("functions", LIMITS.functions)?,
+        stack: words.number("stack", LIMITS.stack)?,
+        program_size: words.number("size", LIMITS.program_size)?,
+        zones: words.number("zones", LIMITS.zones)?,
+        twilight: words.number("twilight", LIMITS.twilight)?,
     })
 }
 

@@ -1,22 +1,21 @@
 //! Cases of families: their check, and the search for the least one.
 
-ghost use Rattle.std.specs.Prelude.{◌≡◌, [], IfOk};
 ghost use Rattle.tt_abs.specs.Entries.{Ascends};
 ghost use Rattle.tt_abs.specs.Settings.{setting_of};
 ghost use Rattle.tt_abs.specs.StateFlow.{FunctionsFit};
-ghost use Rattle.tt_abs.specs.States.{state_order};
 
+use crate::builders::show_contexts;
 use crate::context::Context;
 use crate::places::{calls_of, frame_text, refusal_text};
 use crate::programs::{Programs, bytes_given, cut_all};
-use crate::states::change_all;
+use crate::states::state_from;
 use crate::words::{Words, body_of, number_of, pair_of};
 use anyhow::{Context as _, Result, bail, ensure};
-use std::alloc::{AllocError, Global};
-use tt_abs::{Kind, Refusal, Setting, State};
+use std::alloc::Global;
+use tt_abs::{Kind, Setting};
 use tt_code::Frame;
 use tt_family::{Budget, Builder, Certificate, ContextFault, check, check_full};
-use tt_find::{Explored, Found, explore, find};
+use tt_find::{Found, explore, find};
 use tt_test_fixtures::families::{add, join};
 
 /// The most contexts that a word may say.
@@ -41,43 +40,26 @@ pub(crate) fn add_contexts(builder: &mut Builder, word: &str) -> Result<bool> {
     Ok(true)
 }
 
-/// Joins a state at an offset of each of these contexts; whether it can be joined.
-fn join_each(builder: &mut Builder, first: u32, last: u32, offset: u32, state: &State) -> bool
-    requires { state_order.InRange state.now }
-{
-    for context in first..=last.min(MOST) {
-        if join(builder, context, offset, state).is_err() {
-            return false;
-        }
-    }
-    true
-}
-
-/// Returns the state that begins with these functions, with the changes that the next words say.
-fn state_from(alloc: Global, words: &mut Words<'_>, start: &[(u16, u32)]) -> Result<State>
-    requires { Ascends start.now }
-    ensures { IfOk result (λ state. state_order.InRange state) }
-{
-    let mut state = State::start(alloc, start)?;
-    change_all(&mut state, words, alloc)?;
-    Ok(state)
-}
-
 /// Joins the next state, which begins with these functions, at its point, `1:3`; or in each of the
-/// contexts of `1-9:3`. Whether it can be joined.
+/// contexts of `1-9:3`.
 fn put_state(
     alloc: Global,
     builder: &mut Builder,
     words: &mut Words<'_>,
     start: &[(u16, u32)],
-) -> Result<bool>
+) -> Result<()>
     requires { Ascends start.now }
 {
     let (contexts, offset) = pair_of(words.next()?, ':')?;
     let (first, last) = contexts.split_once('-').unwrap_or((contexts, contexts));
-    let (first, last, offset) = (number_of(first)?, number_of(last)?, number_of(offset)?);
+    let (first, last): (u32, u32) = (number_of(first)?, number_of(last)?);
+    let offset = number_of(offset)?;
     let state = state_from(alloc, words, start)?;
-    Ok(join_each(builder, first, last, offset, &state))
+    for context in first..=last.min(MOST) {
+        let joined = join(builder, context, offset, &state);
+        ensure!(joined.is_ok(), "a state that can't be joined");
+    }
+    Ok(())
 }
 
 /// Adds what the words say to a family: its contexts, each after `call`, and its states.
@@ -90,14 +72,13 @@ fn add_all(
     requires { Ascends start.now }
 {
     for _ in 0..MOST {
-        if words.take_word("call") {
-            let are_added = add_contexts(builder, words.next()?)?;
-            ensure!(are_added, "too many contexts");
-        } else if words.is_empty() {
+        if words.is_empty() {
             break;
+        }
+        if words.take_word("call") {
+            ensure!(add_contexts(builder, words.next()?)?, "too many contexts");
         } else {
-            let is_joined = put_state(alloc, builder, words, start)?;
-            ensure!(is_joined, "a state that can't be joined");
+            put_state(alloc, builder, words, start)?;
         }
     }
     Ok(())
@@ -124,14 +105,6 @@ fn show_points(text: &mut String, family: &Certificate) -> Result<()> {
         }
     }
     Ok(())
-}
-
-/// Returns what a check tells.
-fn check_text(alloc: Global, told: Result<(), Refusal>) -> Result<String, AllocError> {
-    match told {
-        Ok(()) => String::from_str(alloc, "good"),
-        Err(refusal) => refusal_text(alloc, &refusal),
-    }
 }
 
 /// Returns how large a family is that was found, and which of its states are listed; also why it
@@ -164,8 +137,12 @@ fn find_text(alloc: Global, setting: &Setting<'_>) -> Result<String>
     }
 }
 
-/// Returns which states a search has listed, and why it has ended, where the program is refused.
-fn explored_text(alloc: Global, explored: &Explored) -> Result<String> {
+/// Returns which states a search lists, and why it ends, where the program is refused.
+fn explore_text(alloc: Global, setting: &Setting<'_>) -> Result<String>
+    requires ascends { Ascends setting.now.start.now }
+    requires fits { FunctionsFit (setting_of setting.now) setting.now.start.now }
+{
+    let explored = explore(alloc, setting, &mut Budget::unlimited())?;
     let mut text = String::from_str(alloc, "listed")?;
     show_points(&mut text, &explored.found.certificate)?;
     if let Some(refusal) = &explored.fault {
@@ -174,72 +151,32 @@ fn explored_text(alloc: Global, explored: &Explored) -> Result<String> {
     Ok(text)
 }
 
-/// Returns which states a search lists, and why it ends, where the program is refused.
-fn explore_text(alloc: Global, setting: &Setting<'_>) -> Result<String>
-    requires ascends { Ascends setting.now.start.now }
-    requires fits { FunctionsFit (setting_of setting.now) setting.now.start.now }
-{
-    let explored = explore(alloc, setting, &mut Budget::unlimited())?;
-    explored_text(alloc, &explored)
-}
-
-/// Checks a family, all states of which are listed where the check is to be `full`.
-fn told_of_check(
-    alloc: Global,
-    setting: &Setting<'_>,
-    family: &Certificate,
-    kind: &str,
-) -> Result<(), Refusal>
-    requires { Ascends setting.now.start.now }
-{
-    if kind == "full" {
-        check_full(alloc, setting, family)
-    } else {
-        check(alloc, setting, family)
-    }
-}
-
-/// Returns what is told of a program in a setting.
+/// Returns what is told of a program in a setting. For a check the words say the family, which
+/// lists all of its states where the check is to be `full`.
 fn told(alloc: Global, setting: &Setting<'_>, words: &mut Words<'_>, kind: &str) -> Result<String>
     requires ascends { Ascends setting.now.start.now }
     requires fits { FunctionsFit (setting_of setting.now) setting.now.start.now }
 {
     match kind {
-        "find" => find_text(alloc, setting),
-        "explore" => explore_text(alloc, setting),
-        _ => {
-            let family = family_of(alloc, words, setting.start)?;
-            Ok(check_text(alloc, told_of_check(alloc, setting, &family, kind))?)
-        }
+        "find" => return find_text(alloc, setting),
+        "explore" => return explore_text(alloc, setting),
+        _ => {}
     }
+    let family = family_of(alloc, words, setting.start)?;
+    let checked = match kind {
+        "full" => check_full(alloc, setting, &family),
+        _ => check(alloc, setting, &family),
+    };
+    let text = match checked {
+        Ok(()) => String::from_str(alloc, "good"),
+        Err(refusal) => refusal_text(alloc, &refusal),
+    };
+    Ok(text?)
 }
 
-/// Returns what is told of a program in a setting without functions, or with function 0, where the
+/// Returns what is told of a program of this kind, without functions, or with function 0, where the
 /// words give its body.
-fn told_from(
-    alloc: Global,
-    setting: &Setting<'_>,
-    words: &mut Words<'_>,
-    kind: &str,
-) -> Result<String>
-    requires { setting.now.start.now ≡ [] }
-{
-    ensure!(setting.limits.functions > 0, "no function may be defined");
-    match words.take("start") {
-        Some(body) => {
-            let start = [(0, body_of(body)?)];
-            let setting = Setting {
-                start: &start,
-                ..*setting
-            };
-            told(alloc, &setting, words, kind)
-        }
-        None => told(alloc, setting, words, kind),
-    }
-}
-
-/// Returns what is told of the program of this kind.
-fn told_of_programs(
+fn told_of_program(
     context: &Context<'_>,
     programs: &Programs<'_>,
     program: Kind,
@@ -260,7 +197,19 @@ fn told_of_programs(
         prep: &programs.prep,
         start: &[],
     };
-    told_from(context.rt.alloc(), &setting, words, kind)
+    let alloc = context.rt.alloc();
+    ensure!(context.limits.functions > 0, "no function may be defined");
+    match words.take("start") {
+        Some(body) => {
+            let start = [(0, body_of(body)?)];
+            let setting = Setting {
+                start: &start,
+                ..setting
+            };
+            told(alloc, &setting, words, kind)
+        }
+        None => told(alloc, &setting, words, kind),
+    }
 }
 
 /// `full PROGRAMS FAMILY` and `sparse PROGRAMS FAMILY`: what the check of a family tells, and that
@@ -278,7 +227,7 @@ pub(crate) fn told_of(context: &Context<'_>, kind: &str, words: &mut Words<'_>) 
     let alloc = context.rt.alloc();
     let bytes = bytes_given(alloc, words)?;
     let programs = cut_all(alloc, &bytes.font, &bytes.prep, &bytes.glyph)?;
-    told_of_programs(context, &programs, program, words, kind)
+    told_of_program(context, &programs, program, words, kind)
 }
 
 /// Adds the calls that are open in a context of a family, the outermost first.
@@ -320,11 +269,7 @@ fn family_text(
     end: Option<&str>,
 ) -> Result<String> {
     let mut text = String::from_str(alloc, "contexts")?;
-    for number in 1..family.contexts() {
-        if let Some((parent, frame)) = family.context(number) {
-            write!(text, " {parent}:{}", frame_text(alloc, &frame)?)?;
-        }
-    }
+    show_contexts(alloc, &mut text, family.builder(), " ")?;
     text.push_str(" points")?;
     show_points(&mut text, family)?;
     if let Some(number) = calls {

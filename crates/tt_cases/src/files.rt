@@ -2,7 +2,7 @@
 
 use crate::context::Context;
 use crate::words::{Words, bytes_of, number_of, pair_of};
-use anyhow::{Result, anyhow, ensure};
+use anyhow::{Context as _, Result, anyhow, ensure};
 use std::alloc::{AllocError, Global};
 use std::fs;
 use tt_test_fixtures::fonts::{Glyphs, MADE, NoFile, file_of, square};
@@ -88,7 +88,7 @@ fn table_of<'a>(context: &Context<'_>, word: &'a str, glyphs: u16) -> Result<(&'
 
 /// Returns the font file with the tables that words tell, in their order, and for `maxp=limits` as
 /// many glyphs as `glyphs=` says.
-pub(crate) fn file_of_tables(context: &Context<'_>, words: &mut Words<'_>) -> Result<Vec<u8>> {
+fn file_of_tables(context: &Context<'_>, words: &mut Words<'_>) -> Result<Vec<u8>> {
     let alloc = context.rt.alloc();
     let glyphs = words.number("glyphs", 1)?;
     let mut tables = Vec::new(alloc);
@@ -123,10 +123,9 @@ fn piece_of(context: &Context<'_>, piece: &str) -> Result<Vec<u8>> {
     };
     let (from, to) = pair_of(range, ':')?;
     let bytes = held(context, name)?;
-    match bytes.get(number_of(from)?..number_of(to)?) {
-        Some(part) => Ok(Vec::from_slice(alloc, part)?),
-        None => Err(anyhow!("{name} has no bytes {range}")),
-    }
+    let part = bytes.get(number_of(from)?..number_of(to)?);
+    let part = part.context(format_args!("{name} has no bytes {range}"))?;
+    Ok(Vec::from_slice(alloc, part)?)
 }
 
 /// Takes the words up to `as`, and returns the bytes of their pieces.
@@ -141,15 +140,16 @@ pub(crate) fn pieces_of(context: &Context<'_>, words: &mut Words<'_>) -> Result<
     Ok(bytes)
 }
 
-/// Returns the bytes of a file that a line of this kind makes.
-fn bytes_of_file(context: &Context<'_>, kind: &str, words: &mut Words<'_>) -> Result<Vec<u8>> {
+/// Returns the bytes of a file of this kind: a `font` of programs, `tables`, or pieces.
+pub(crate) fn bytes_of_file(
+    context: &Context<'_>,
+    kind: &str,
+    words: &mut Words<'_>,
+) -> Result<Vec<u8>> {
     match kind {
         "font" => font_of(context, words),
         "tables" => file_of_tables(context, words),
-        _ => {
-            ensure!(words.take_word("="), "= is missing");
-            pieces_of(context, words)
-        }
+        _ => pieces_of(context, words),
     }
 }
 
@@ -160,6 +160,9 @@ pub(crate) fn make_file(context: &Context<'_>, words: &mut Words<'_>) -> Result<
     };
     words.next()?;
     let name = words.next()?;
+    if kind == "file" {
+        ensure!(words.take_word("="), "= is missing");
+    }
     let bytes = bytes_of_file(context, kind, words)?;
     fs::write(context.rt, name, &bytes)?;
     Ok(true)

@@ -1,7 +1,7 @@
 //! Cases of font files: what is read of them.
 
 use crate::context::Context;
-use crate::files::{file_of_tables, font_of, pieces_of};
+use crate::files::{bytes_of_file, pieces_of};
 use crate::words::Words;
 use anyhow::{Result, ensure};
 use std::alloc::Global;
@@ -49,16 +49,9 @@ const MOST_READS: u64 = 17 * 16_000;
 fn font_text(alloc: Global, font: &Font<'_>) -> Result<String> {
     let mut text = String::new(alloc);
     show_limits(&mut text, &font.limits())?;
-    ensure!(
-        font.component_reads() <= MOST_READS,
-        "too many reads of components"
-    );
-    let has_components = font.component_reads() > 0;
-    write!(
-        text,
-        " cvt={} components={has_components}",
-        font.cvt_count()
-    )?;
+    let reads = font.component_reads();
+    ensure!(reads <= MOST_READS, "too many reads of components");
+    write!(text, " cvt={} components={}", font.cvt_count(), reads > 0)?;
     write!(text, "\n| f={}", hex::encode_upper(alloc, font.fpgm())?)?;
     write!(text, "\n| p={}", hex::encode_upper(alloc, font.prep())?)?;
     show_glyphs(alloc, &mut text, font)?;
@@ -69,11 +62,7 @@ fn font_text(alloc: Global, font: &Font<'_>) -> Result<String> {
 /// what the font has, or its fault.
 pub(crate) fn read(context: &Context<'_>, words: &mut Words<'_>) -> Result<String> {
     let alloc = context.rt.alloc();
-    let file = match words.next()? {
-        "font" => font_of(context, words)?,
-        "tables" => file_of_tables(context, words)?,
-        _ => pieces_of(context, words)?,
-    };
+    let file = bytes_of_file(context, words.next()?, words)?;
     match Font::read(alloc, &file) {
         Ok(font) => font_text(alloc, &font),
         Err(fault) => fault_text(alloc, &fault),

@@ -2,7 +2,7 @@
 
 use crate::context::Context;
 use crate::files::next_held;
-use crate::words::{Words, number_of};
+use crate::words::Words;
 use anyhow::Result;
 use tt_names::GlyphNames;
 
@@ -11,8 +11,8 @@ pub(crate) fn name(context: &Context<'_>, words: &mut Words<'_>) -> Result<Strin
     let alloc = context.rt.alloc();
     let font = next_held(context, words)?;
     let names = GlyphNames::of(alloc, &font)?;
-    let glyph = number_of(words.next()?)?;
-    Ok(String::from_str(alloc, names.name(glyph).unwrap_or("none"))?)
+    let name = names.name(words.next_number()?);
+    Ok(String::from_str(alloc, name.unwrap_or("none"))?)
 }
 
 /// `named FILE NAME`: the first glyph that has the name, or `none`.

@@ -28,15 +28,6 @@ fn relation(one: &State, other: &State) -> &'static str {
     }
 }
 
-/// Returns how one state compares with another, and whether the functions are the same.
-fn order_text(alloc: Global, one: &State, other: &State) -> Result<String> {
-    let relation = relation(one, other);
-    if one.has_same_functions(other) {
-        return Ok(String::from_str(alloc, relation)?);
-    }
-    Ok(format!(in alloc; "{relation}, other functions")?)
-}
-
 /// Returns the state that the words say after `|`.
 fn other_of(alloc: Global, words: &mut Words<'_>) -> Result<State>
     ensures { IfOk result (λ state. state_order.InRange state) }
@@ -51,7 +42,12 @@ pub(crate) fn order(context: &Context<'_>, words: &mut Words<'_>) -> Result<Stri
     let alloc = context.rt.alloc();
     let one = state_of(alloc, words)?;
     let other = other_of(alloc, words)?;
-    order_text(alloc, &one, &other)
+    let functions = if one.has_same_functions(&other) {
+        ""
+    } else {
+        ", other functions"
+    };
+    Ok(format!(in alloc; "{}{functions}", relation(&one, &other))?)
 }
 
 /// Joins a state with another twice, and returns what is told.
@@ -69,24 +65,15 @@ fn joined(one: &mut State, other: &State) -> &'static str
     }
 }
 
-/// Joins a state with another, and returns how they compared, what is told, how they compare
-/// afterwards, and the state.
-fn join_text(alloc: Global, one: &mut State, other: &State) -> Result<String>
-    requires one { state_order.InRange one.old }
-    requires other { state_order.InRange other.now }
-{
-    let before = relation(one, other);
-    let told = joined(one, other);
-    let after = relation(one, other);
-    let state = plain_text(alloc, one)?;
-    Ok(format!(in alloc; "{before}, {told}, {after} {state}")?)
-}
-
 /// `join STATE | STATE`: how the one compared with the other, what the join tells, how it compares
 /// afterwards, and the state.
 pub(crate) fn join(context: &Context<'_>, words: &mut Words<'_>) -> Result<String> {
     let alloc = context.rt.alloc();
     let mut one = state_of(alloc, words)?;
     let other = other_of(alloc, words)?;
-    join_text(alloc, &mut one, &other)
+    let before = relation(&one, &other);
+    let told = joined(&mut one, &other);
+    let after = relation(&one, &other);
+    let state = plain_text(alloc, &one)?;
+    Ok(format!(in alloc; "{before}, {told}, {after} {state}")?)
 }

@@ -72,29 +72,30 @@ pub(crate) fn cut_all<'a>(
     })
 }
 
-/// Returns why bytes can't be cut, if they can't.
-fn fault_of(alloc: Global, bytes: &[u8]) -> Result<Option<CodeFault>> {
-    ensure!(bytes.len() <= MOST_BYTES, "a program that is too long");
-    Ok(Program::cut(alloc, bytes).err())
-}
-
 /// `cut PROGRAM`: whether it can be cut.
 pub(crate) fn cut_text(context: &Context<'_>, words: &mut Words<'_>) -> Result<String> {
     let alloc = context.rt.alloc();
     let bytes = words.next_bytes(alloc)?;
-    let text = match fault_of(alloc, &bytes)? {
-        None => String::from_str(alloc, "good"),
-        Some(CodeFault::CannotCut(offset)) => format!(in alloc; "20 at {offset}"),
-        Some(CodeFault::Structure(offset)) => format!(in alloc; "21 at {offset}"),
-        Some(CodeFault::OutOfMemory(_)) => String::from_str(alloc, "9"),
+    ensure!(bytes.len() <= MOST_BYTES, "a program that is too long");
+    let text = match Program::cut(alloc, &bytes) {
+        Ok(_) => String::from_str(alloc, "good"),
+        Err(CodeFault::CannotCut(offset)) => format!(in alloc; "20 at {offset}"),
+        Err(CodeFault::Structure(offset)) => format!(in alloc; "21 at {offset}"),
+        Err(CodeFault::OutOfMemory(_)) => String::from_str(alloc, "9"),
     };
     Ok(text?)
 }
 
-/// Adds a target and its name, if there is one.
-fn show_target(text: &mut String, name: &str, target: Option<u32>) -> Result<()> {
-    if let Some(offset) = target {
-        write!(text, ", {name} {offset}")?;
+/// Adds the targets of an instruction, each after its name.
+fn show_targets(text: &mut String, program: &Program<'_>, offset: u32) -> Result<()> {
+    for (name, target) in [
+        ("if", program.after_if(offset)),
+        ("else", program.after_else(offset)),
+        ("fdef", program.after_fdef(offset)),
+    ] {
+        if let Some(target) = target {
+            write!(text, ", {name} {target}")?;
+        }
     }
     Ok(())
 }
@@ -117,10 +118,8 @@ fn ensure_found(program: &Program<'_>, offset: u32) -> Result<()> {
         Some((instruction, body)) => (Some(instruction.len()), Some(body)),
         None => (None, None),
     };
-    ensure!(
-        found == program.at(offset).map(|i| i.len()),
-        "found_at tells another length"
-    );
+    let length = program.at(offset).map(|instruction| instruction.len());
+    ensure!(found == length, "found_at tells another length");
     ensure!(
         body == program.body_at(offset),
         "found_at tells another body"
@@ -135,9 +134,7 @@ fn show_at(text: &mut String, program: &Program<'_>, offset: u32) -> Result<()> 
         None => write!(text, "none of {}", program.len()),
     };
     shown?;
-    show_target(text, "if", program.after_if(offset))?;
-    show_target(text, "else", program.after_else(offset))?;
-    show_target(text, "fdef", program.after_fdef(offset))?;
+    show_targets(text, program, offset)?;
     show_body(text, program.body_at(offset))?;
     ensure_found(program, offset)
 }

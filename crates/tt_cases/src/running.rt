@@ -78,8 +78,7 @@ fn run_case<K: Kinds>(
     let is = is.trim_end();
     let has_passed = fits(want.as_str(), is);
     if !has_passed {
-        let (file, number) = (context.file, block.number);
-        println!(context.rt; "{file}:{number}: wanted {want}, is {is}")?;
+        println!(context.rt; "{}:{}: wanted {want}, is {is}", context.file, block.number)?;
     }
     Ok(has_passed)
 }
@@ -124,10 +123,7 @@ fn run_text<K: Kinds>(kinds: &K, rt: &HostRuntime, file: &str, text: &str) -> Re
     let mut tally = Tally::default();
     let blocks = blocks_of(rt.alloc(), text)?;
     for (place, block) in blocks.iter().enumerate() {
-        let has_rows = match blocks.get(place.saturating_add(1)) {
-            Some(next) => is_row(next),
-            None => false,
-        };
+        let has_rows = blocks.get(place.saturating_add(1)).is_some_and(is_row);
         if let Err(error) = run_block(kinds, &mut context, &mut tally, block, has_rows) {
             println!(rt; "{file}:{}: can't be read: {error}", block.number)?;
             tally.count(true);

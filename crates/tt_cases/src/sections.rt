@@ -1,20 +1,19 @@
 //! Cases of certificate files: their headers, their sections, each rule broken once, and what is
 //! written.
 
+use crate::builders::{show_contexts, show_states};
 use crate::context::Context;
 use crate::files::pieces_of;
-use crate::places::frame_text;
-use crate::states::plain_text;
 use crate::words::{Words, number_of};
-use anyhow::{Context as _, Result, anyhow, bail, ensure};
+use anyhow::{Result, anyhow, bail, ensure};
 use std::alloc::{AllocError, Global};
-use tt_cert::Form;
-use tt_family::Certificate;
-use tt_test_fixtures::section_calls::{
-    Section, Told, decoded, encoded, read_ahead, told_of_end, told_of_file_by, told_of_header,
-    written_header,
+use tt_cert::{
+    DecodeFault, EncodeFault, Form, NEWEST_FORM, Name, Source, decode, encode, read_end,
+    read_header, write_header,
 };
-use tt_test_fixtures::streams::{ALL, Steps, Taker, steps_of};
+use tt_family::Certificate;
+use tt_stream::{Buffered, Bytes, Counted, read_all};
+use tt_test_fixtures::streams::{ALL, Steps, Taker};
 
 /// What is read from bytes.
 #[derive(Clone, Copy)]
@@ -31,46 +30,90 @@ enum Reading {
     End(u64),
 }
 
-/// Returns the text of what is told, where places are counted from a start.
-fn told_text(alloc: Global, told: &Told, start: u64) -> Result<String, AllocError> {
-    match told {
-        Told::Section { after, left: 0 } => {
-            format!(in alloc; "ends at {}", after.wrapping_sub(start))
-        }
-        Told::Section { after, left } => {
-            format!(in alloc; "ends at {}, {left} left", after.wrapping_sub(start))
-        }
-        Told::Header(form, sections) => format!(in alloc; "form {form}, {sections} sections"),
-        Told::Done => String::from_str(alloc, "end"),
-        Told::Form(place) => format!(in alloc; "43 at {}", place.wrapping_sub(start)),
-        Told::Read => String::from_str(alloc, "44"),
-        Told::Write => String::from_str(alloc, "45"),
-        Told::OutOfMemory => String::from_str(alloc, "9"),
+/// Returns how long something is, and how many bytes are left after it, if any are.
+fn end_text(alloc: Global, length: u64, left: usize) -> Result<String, AllocError> {
+    if left == 0 {
+        return format!(in alloc; "ends at {length}");
     }
+    format!(in alloc; "ends at {length}, {left} left")
 }
 
-/// Returns what reading a section tells.
-fn told_of_section(alloc: Global, steps: Steps<'_>, start: u64, form: Form) -> Told {
-    let (_, told) = decoded(alloc, steps, start, form);
-    told
+/// Reads a section from a place on, and returns how many bytes it has.
+fn section_length<S: Source>(
+    alloc: Global,
+    source: &mut S,
+    start: u64,
+    form: Form,
+) -> Result<u64, DecodeFault> {
+    let (_, _, after) = decode(alloc, source, start, form.number())?;
+    Ok(after.wrapping_sub(start))
 }
 
-/// Returns what reading tells, of a section from a place on.
+/// Reads a file, its header, its sections and its end, and returns how many bytes it has.
+fn file_length<S: Source>(alloc: Global, source: &mut S) -> Result<u64, DecodeFault> {
+    let (form, sections) = read_header(source)?;
+    let mut place = 10;
+    for _ in 0..sections {
+        let (_, _, after) = decode(alloc, source, place, form)?;
+        place = after;
+    }
+    read_end(source, place)?;
+    Ok(place)
+}
+
+/// Reads, a section from a place on, and returns what is told.
+fn told_of(
+    alloc: Global,
+    reading: Reading,
+    steps: Steps<'_>,
+    start: u64,
+) -> Result<String, DecodeFault> {
+    let mut source = Counted::new(steps);
+    let told = match reading {
+        Reading::Section(form) => {
+            let length = section_length(alloc, &mut source, start, form)?;
+            end_text(alloc, length, source.into_inner().bytes.len())
+        }
+        Reading::Ahead(form) => {
+            let mut source = Buffered::new(alloc, source)?;
+            let length = section_length(alloc, &mut source, start, form)?;
+            let rest = read_all(alloc, &mut source).map_err(|_| DecodeFault::Read)?;
+            end_text(alloc, length, rest.len())
+        }
+        Reading::File => end_text(alloc, file_length(alloc, &mut source)?, 0),
+        Reading::Header => {
+            let (form, sections) = read_header(&mut source)?;
+            format!(in alloc; "form {form}, {sections} sections")
+        }
+        Reading::End(place) => {
+            read_end(&mut source, place)?;
+            String::from_str(alloc, "end")
+        }
+    };
+    Ok(told?)
+}
+
+/// Returns what reading tells, of a section from a place on, from which places are counted then.
 fn told_by(
     alloc: Global,
     reading: Reading,
     steps: Steps<'_>,
     start: u64,
 ) -> Result<String, AllocError> {
-    let (told, start) = match reading {
-        Reading::Section(form) => (told_of_section(alloc, steps, start, form), start),
-        Reading::Ahead(form) => (read_ahead(alloc, steps, form), 0),
-        Reading::File => (told_of_file_by(alloc, steps), 0),
-        Reading::Header => (told_of_header(steps), 0),
-        Reading::End(place) => (told_of_end(steps, place), 0),
+    let start = match reading {
+        Reading::Section(_) => start,
+        _ => 0,
     };
-    told_text(alloc, &told, start)
+    match told_of(alloc, reading, steps, start) {
+        Ok(told) => Ok(told),
+        Err(DecodeFault::Form(place)) => format!(in alloc; "43 at {}", place.wrapping_sub(start)),
+        Err(DecodeFault::Read) => String::from_str(alloc, FAILED),
+        Err(DecodeFault::OutOfMemory(_)) => String::from_str(alloc, "9"),
+    }
 }
+
+/// What is told of a failed read.
+const FAILED: &str = "44";
 
 /// How many bytes a call gives, and where a section begins.
 const WAYS: [(usize, u64); 6] = [(1000, 0), (1000, 1000), (1, 0), (2, 7), (3, 0), (5, 0)];
@@ -81,16 +124,17 @@ const WAYS_AHEAD: [(usize, u64); 3] = [(1, 0), (7, 0), (1000, 0)];
 /// More ways to read a section ahead, up to as many bytes a call as there are.
 const LONG_WAYS: [(usize, u64); 3] = [(1000, 0), (262_144, 0), (ALL, 0)];
 
-/// Returns what reading bytes tells: the same however many a call gives, and wherever a section
-/// begins.
+/// Returns what reading bytes tells in each of these ways: the same, and the same as was told
+/// before, if anything was.
 fn told_in_ways(
     alloc: Global,
     reading: Reading,
     bytes: &[u8],
     calls: usize,
     ways: &[(usize, u64)],
+    before: String,
 ) -> Result<String, AllocError> {
-    let mut told = String::new(alloc);
+    let mut told = before;
     for &(step, start) in ways {
         let next = told_by(alloc, reading, Steps { bytes, step, calls }, start)?;
         if !told.is_empty() && told.as_str() != next.as_str() {
@@ -101,25 +145,33 @@ fn told_in_ways(
     Ok(told)
 }
 
-/// Returns what reading bytes tells: where no call fails, a section tells the same ahead.
+/// Returns what reading bytes tells: the same however many a call gives, wherever a section begins,
+/// ahead too, where no call fails, and as was told before.
 fn told_alike(
     alloc: Global,
     reading: Reading,
     bytes: &[u8],
     calls: usize,
+    before: String,
 ) -> Result<String, AllocError> {
-    let told = told_in_ways(alloc, reading, bytes, calls, &WAYS)?;
-    let Reading::Section(form) = reading else {
-        return Ok(told);
-    };
-    if calls < ALL {
-        return Ok(told);
+    let told = told_in_ways(alloc, reading, bytes, calls, &WAYS, before)?;
+    match reading {
+        Reading::Section(form) if calls == ALL => {
+            told_in_ways(alloc, Reading::Ahead(form), bytes, calls, &WAYS_AHEAD, told)
+        }
+        _ => Ok(told),
     }
-    let ahead = told_in_ways(alloc, Reading::Ahead(form), bytes, ALL, &WAYS_AHEAD)?;
-    if told.as_str() == ahead.as_str() {
-        return Ok(told);
-    }
-    format!(in alloc; "{told}, but ahead {ahead}")
+}
+
+/// Returns what two ways of reading bytes tell, which is the same.
+fn told_by_both(
+    alloc: Global,
+    [reading, other]: [Reading; 2],
+    bytes: &[u8],
+    calls: usize,
+) -> Result<String, AllocError> {
+    let told = told_alike(alloc, reading, bytes, calls, String::new(alloc))?;
+    told_alike(alloc, other, bytes, calls, told)
 }
 
 /// Returns the form that the words give, if they do.
@@ -134,8 +186,8 @@ fn form_of(words: &mut Words<'_>) -> Result<Option<Form>> {
     }
 }
 
-/// Takes what is read: `section`, in the forms 3 and 4 or in that of `form=1`, `whole`, a file, `header`, or
-/// `end PLACE`. Returns it twice where it is one.
+/// Takes what is read: `section`, in the forms 3 and 4 or in that of `form=1`, `whole`, a file,
+/// `header`, or `end PLACE`. Returns it twice where it is one.
 fn readings_of(kind: &str, words: &mut Words<'_>) -> Result<[Reading; 2]> {
     match kind {
         "section" => match form_of(words)? {
@@ -157,19 +209,6 @@ fn changed_unit(context: &Context<'_>, words: &mut Words<'_>) -> Result<usize> {
     Ok(number)
 }
 
-/// Adds the bytes of all units, of which the one with this number is another one.
-fn push_units(
-    bytes: &mut Vec<u8>,
-    units: &[Vec<u8>],
-    changed: usize,
-    other: &[u8],
-) -> Result<(), AllocError> {
-    for (number, unit) in units.iter().enumerate() {
-        bytes.extend_from_slice(if number == changed { other } else { unit })?;
-    }
-    Ok(())
-}
-
 /// Takes the bytes that the words say: all units, those with one changed, `unit 3 = 0002`, or the
 /// words' own.
 fn bytes_said(context: &Context<'_>, words: &mut Words<'_>) -> Result<Vec<u8>> {
@@ -182,23 +221,10 @@ fn bytes_said(context: &Context<'_>, words: &mut Words<'_>) -> Result<Vec<u8>> {
     };
     let other = pieces_of(context, words)?;
     let mut bytes = Vec::new(context.rt.alloc());
-    push_units(&mut bytes, &context.units, changed, &other)?;
-    Ok(bytes)
-}
-
-/// Returns what two ways of reading bytes tell, once where they tell the same.
-fn told_by_both(
-    alloc: Global,
-    [reading, other]: [Reading; 2],
-    bytes: &[u8],
-    calls: usize,
-) -> Result<String, AllocError> {
-    let told = told_alike(alloc, reading, bytes, calls)?;
-    let told_otherwise = told_alike(alloc, other, bytes, calls)?;
-    if told.as_str() == told_otherwise.as_str() {
-        return Ok(told);
+    for (number, unit) in context.units.iter().enumerate() {
+        bytes.extend_from_slice(if number == changed { &other } else { unit })?;
     }
-    format!(in alloc; "{told} in form 3, {told_otherwise} in form 4")
+    Ok(bytes)
 }
 
 /// `section BYTES`, `whole BYTES`, `header BYTES`, `end PLACE BYTES`: what reading tells, where the
@@ -220,18 +246,6 @@ pub(crate) fn told(context: &Context<'_>, kind: &str, words: &mut Words<'_>) -> 
     Ok(told_by_both(alloc, [reading, other], &bytes, calls)?)
 }
 
-/// Returns the reader that gives a byte a call, and of which the call after so many others fails.
-fn byte_steps(bytes: &[u8], calls: usize) -> Steps<'_> {
-    Steps {
-        bytes,
-        step: 1,
-        calls,
-    }
-}
-
-/// What is told of a failed read.
-const FAILED: &str = "44";
-
 /// Returns what reading a byte a call tells, where the call after so many others fails; ahead too,
 /// if a section is read, where that is a failed read.
 fn told_of_calls(
@@ -240,11 +254,14 @@ fn told_of_calls(
     bytes: &[u8],
     calls: usize,
 ) -> Result<String, AllocError> {
-    let told = told_by(alloc, reading, byte_steps(bytes, calls), 0)?;
-    if let (FAILED, Reading::Section(form)) = (told.as_str(), reading) {
-        return told_by(alloc, Reading::Ahead(form), byte_steps(bytes, calls), 0);
+    let step = 1;
+    let told = told_by(alloc, reading, Steps { bytes, step, calls }, 0)?;
+    match reading {
+        Reading::Section(form) if told.as_str() == FAILED => {
+            told_by(alloc, Reading::Ahead(form), Steps { bytes, step, calls }, 0)
+        }
+        _ => Ok(told),
     }
-    Ok(told)
 }
 
 /// `calls section BYTES` and the like: how many bytes are read, one a call, before another failed
@@ -266,7 +283,8 @@ pub(crate) fn calls(context: &Context<'_>, words: &mut Words<'_>) -> Result<Stri
 pub(crate) fn ahead(context: &Context<'_>, words: &mut Words<'_>) -> Result<String> {
     let bytes = bytes_said(context, words)?;
     let alloc = context.rt.alloc();
-    Ok(told_in_ways(alloc, Reading::Ahead(Form::Four), &bytes, ALL, &LONG_WAYS)?)
+    let reading = Reading::Ahead(Form::Four);
+    Ok(told_in_ways(alloc, reading, &bytes, ALL, &LONG_WAYS, String::new(alloc))?)
 }
 
 /// `cuts section BYTES` and the like: whether each beginning of the bytes tells that it is cut
@@ -276,136 +294,115 @@ pub(crate) fn cuts(context: &Context<'_>, words: &mut Words<'_>) -> Result<Strin
     let readings = readings_of(words.next()?, words)?;
     let bytes = bytes_said(context, words)?;
     for length in 0..bytes.len() {
+        let told = told_by_both(alloc, readings, &bytes[..length], ALL)?;
         let want = format!(in alloc; "43 at {length}")?;
-        for reading in readings {
-            let told = told_alike(alloc, reading, &bytes[..length], ALL)?;
-            if told.as_str() != want.as_str() {
-                return Ok(format!(in alloc; "{told} after {length}")?);
-            }
+        if told.as_str() != want.as_str() {
+            return Ok(format!(in alloc; "{told} after {length}")?);
         }
     }
     Ok(format!(in alloc; "43 at the end of each of {}", bytes.len())?)
 }
 
-/// Reads the section that the words say.
-fn section_of(context: &Context<'_>, words: &mut Words<'_>, start: u64) -> Result<(Section, Told)> {
-    let form = form_of(words)?.unwrap_or(Form::Four);
-    let bytes = bytes_said(context, words)?;
-    let (section, told) = decoded(context.rt.alloc(), steps_of(&bytes), start, form);
-    Ok((section.context("no section")?, told))
-}
-
-/// Adds a line for each context and each state of a section's family.
-fn show_family(alloc: Global, text: &mut String, family: &Certificate) -> Result<()> {
-    for number in 1..family.contexts() {
-        if let Some((parent, frame)) = family.context(number) {
-            write!(text, "\n| call {parent}:{}", frame_text(alloc, &frame)?)?;
-        }
-    }
-    let mut states = family.states();
-    for _ in 0..family.points() {
-        if let Some((context, offset, state)) = states.take_first() {
-            write!(text, "\n| {context}:{offset} {}", plain_text(alloc, state)?)?;
-        }
-    }
-    Ok(())
-}
-
-/// Returns whose section it is, what was told of it, and its contexts and states.
-fn section_text(alloc: Global, section: &Section, told: &Told) -> Result<String> {
-    let told = told_text(alloc, told, 100)?;
-    let mut text = format!(in alloc; "{} {told}", section.name)?;
-    show_family(alloc, &mut text, &section.certificate)?;
-    Ok(text)
-}
-
 /// `content BYTES`: whose section it is, how long, what is left, and its contexts and states.
 pub(crate) fn content(context: &Context<'_>, words: &mut Words<'_>) -> Result<String> {
-    let (section, told) = section_of(context, words, 100)?;
-    section_text(context.rt.alloc(), &section, &told)
-}
-
-/// Whether a writer that takes a byte a call, and of which a call fails or takes nothing, is told of
-/// and has taken a beginning of the bytes, as long as it should be.
-fn is_told_of_failure((told, taken): &(Told, Vec<u8>), beginning: &[u8]) -> bool {
-    *told == Told::Write && taken.as_slice() == beginning
+    let alloc = context.rt.alloc();
+    let form = form_of(words)?.unwrap_or(Form::Four);
+    let bytes = bytes_said(context, words)?;
+    let mut source = Bytes::new(&bytes);
+    let (name, family, after) = decode(alloc, &mut source, 100, form.number())?;
+    let end = end_text(alloc, after.wrapping_sub(100), source.ahead().len())?;
+    let mut text = format!(in alloc; "{name} {end}")?;
+    show_contexts(alloc, &mut text, family.builder(), "\n| call ")?;
+    show_states(alloc, &mut text, family.builder(), "\n| ")?;
+    Ok(text)
 }
 
 /// What is written.
 #[derive(Clone, Copy)]
 enum Writing<'a> {
-    /// A section.
-    Section(&'a Section),
+    /// The section of a program with this name and this family.
+    Section(Name, &'a Certificate),
     /// The header of a file with so many sections.
     Header(u32),
 }
 
 /// Writes it to this writer: what is told, and what was taken.
-fn written_to(alloc: Global, writing: Writing<'_>, taker: Taker) -> (Told, Vec<u8>) {
-    match writing {
-        Writing::Section(section) => encoded(alloc, section, taker),
-        Writing::Header(sections) => written_header(sections, taker),
-    }
+fn written_to(
+    alloc: Global,
+    writing: Writing<'_>,
+    taker: Taker,
+) -> (Result<(), EncodeFault>, Vec<u8>) {
+    let mut sink = Counted::new(taker);
+    let told = match writing {
+        Writing::Section(name, family) => encode(alloc, name, family, &mut sink),
+        Writing::Header(sections) => write_header(NEWEST_FORM, sections, &mut sink),
+    };
+    (told, sink.into_inner().bytes)
+}
+
+/// Whether a failed write is told, and a beginning of the bytes was taken, as long as it should be,
+/// where the writer takes a byte a call, and the one after so many others fails or takes nothing.
+fn is_failure_told(
+    alloc: Global,
+    writing: Writing<'_>,
+    want: &[u8],
+    calls: usize,
+    takes_nothing: bool,
+) -> bool {
+    let taker = Taker {
+        takes_nothing,
+        ..Taker::new(alloc, 1, calls)
+    };
+    let (told, taken) = written_to(alloc, writing, taker);
+    matches!(told, Err(EncodeFault::Write)) && want.get(..calls) == Some(taken.as_slice())
 }
 
 /// Returns how many calls of a writer are made before one fails, untold, where these bytes are
 /// written; nothing where each is told.
 fn untold_call(alloc: Global, writing: Writing<'_>, want: &[u8]) -> Option<usize> {
     for calls in 0..want.len() {
-        for takes_nothing in [false, true] {
-            let taker = Taker::failing(alloc, calls, takes_nothing);
-            if !is_told_of_failure(&written_to(alloc, writing, taker), &want[..calls]) {
-                return Some(calls);
-            }
+        if !is_failure_told(alloc, writing, want, calls, false)
+            || !is_failure_told(alloc, writing, want, calls, true)
+        {
+            return Some(calls);
         }
     }
     None
 }
 
-/// Whether a section is written as these bytes to a writer that takes so many a call.
-fn is_written_as(alloc: Global, section: &Section, step: usize, want: &[u8]) -> bool {
-    let (told, bytes) = encoded(alloc, section, Taker::new(alloc, step, ALL));
-    told == Told::Done && bytes.as_slice() == want
-}
-
-/// Returns whether a section is written as these bytes, and each failed call of the writer is told.
-fn writing_text(alloc: Global, section: &Section, want: &[u8]) -> Result<String, AllocError> {
+/// Returns whether these bytes are written, and each failed call of the writer is told.
+fn writing_text(alloc: Global, writing: Writing<'_>, want: &[u8]) -> Result<String, AllocError> {
     for step in [ALL, 1] {
-        if !is_written_as(alloc, section, step, want) {
+        let (told, bytes) = written_to(alloc, writing, Taker::new(alloc, step, ALL));
+        if told.is_err() || bytes.as_slice() != want {
             return format!(in alloc; "other bytes by {step}");
         }
     }
-    match untold_call(alloc, Writing::Section(section), want) {
+    match untold_call(alloc, writing, want) {
         Some(calls) => format!(in alloc; "another answer after {calls}"),
         None => String::from_str(alloc, "same"),
     }
 }
 
-/// Takes `as` and the bytes that are wanted, and returns what writing a section comes to.
-fn told_of_writing(
-    context: &Context<'_>,
-    section: &Section,
-    words: &mut Words<'_>,
-) -> Result<String> {
-    ensure!(words.take_word("as"), "as is missing");
-    let want = bytes_said(context, words)?;
-    Ok(writing_text(context.rt.alloc(), section, &want)?)
-}
-
 /// `written BYTES as BYTES`: whether the section is written as these bytes, and each failed call of
 /// the writer is told.
 pub(crate) fn written(context: &Context<'_>, words: &mut Words<'_>) -> Result<String> {
-    let (section, _) = section_of(context, words, 0)?;
-    told_of_writing(context, &section, words)
+    let alloc = context.rt.alloc();
+    let form = form_of(words)?.unwrap_or(Form::Four);
+    let bytes = bytes_said(context, words)?;
+    ensure!(words.take_word("as"), "as is missing");
+    let want = bytes_said(context, words)?;
+    let (name, family, _) = decode(alloc, &mut Bytes::new(&bytes), 0, form.number())?;
+    Ok(writing_text(alloc, Writing::Section(name, &family), &want)?)
 }
 
 /// `head SECTIONS`: the header that is written. Each failed call of the writer is told.
 pub(crate) fn head(context: &Context<'_>, words: &mut Words<'_>) -> Result<String> {
     let alloc = context.rt.alloc();
-    let sections = words.next_number()?;
-    let (told, bytes) = written_header(sections, Taker::new(alloc, 4, ALL));
-    ensure!(told == Told::Done, "no header is written");
-    if let Some(calls) = untold_call(alloc, Writing::Header(sections), &bytes) {
+    let header = Writing::Header(words.next_number()?);
+    let (told, bytes) = written_to(alloc, header, Taker::new(alloc, 4, ALL));
+    told?;
+    if let Some(calls) = untold_call(alloc, header, &bytes) {
         bail!("another answer after {calls}");
     }
     Ok(hex::encode_upper(alloc, &bytes)?)

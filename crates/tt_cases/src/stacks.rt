@@ -15,35 +15,10 @@ fn push_each(stack: &mut Stack, cells: &[Cell]) -> Result<(), AllocError> {
     Ok(())
 }
 
-/// Pushes the next cells: one at a time, or, after `cells`, at once.
-fn push_cells(alloc: Global, stack: &mut Stack, kind: &str, words: &mut Words<'_>) -> Result<()> {
-    let cells = words.stack(alloc)?;
-    let pushed = match kind {
-        "cells" => stack.push_cells(&cells),
-        _ => push_each(stack, &cells),
-    };
-    Ok(pushed?)
-}
-
-/// Pushes the next bytes, or, after `words`, the words that they are.
-fn push_data(alloc: Global, stack: &mut Stack, kind: &str, words: &mut Words<'_>) -> Result<()> {
-    let bytes = words.next_bytes(alloc)?;
-    let pushed = match kind {
-        "words" => stack.push_words(&bytes),
-        _ => stack.push_bytes(&bytes),
-    };
-    Ok(pushed?)
-}
-
-/// Cuts as many cells as the next word says, or, after `remove`, removes the cell under so many.
-fn shorten(stack: &mut Stack, kind: &str, words: &mut Words<'_>) -> Result<()> {
-    let number = words.next_number()?;
-    if kind == "remove" {
-        ensure!(number < stack.len(), "no such cell");
-        stack.remove(number);
-    } else {
-        stack.cut(number);
-    }
+/// Removes the cell under so many others.
+fn remove(stack: &mut Stack, others: usize) -> Result<()> {
+    ensure!(others < stack.len(), "no such cell");
+    stack.remove(others);
     Ok(())
 }
 
@@ -51,15 +26,16 @@ fn shorten(stack: &mut Stack, kind: &str, words: &mut Words<'_>) -> Result<()> {
 /// `words HEX`, `remove N`, the cell under N others, `cut N`, from the top, or `clear`.
 fn change(alloc: Global, stack: &mut Stack, words: &mut Words<'_>) -> Result<()> {
     match words.next()? {
-        kind @ ("push" | "cells") => push_cells(alloc, stack, kind, words),
-        kind @ ("bytes" | "words") => push_data(alloc, stack, kind, words),
-        kind @ ("remove" | "cut") => shorten(stack, kind, words),
-        "clear" => {
-            stack.clear();
-            Ok(())
-        }
+        "push" => push_each(stack, &words.stack(alloc)?)?,
+        "cells" => stack.push_cells(&words.stack(alloc)?)?,
+        "bytes" => stack.push_bytes(&words.next_bytes(alloc)?)?,
+        "words" => stack.push_words(&words.next_bytes(alloc)?)?,
+        "remove" => remove(stack, words.next_number()?)?,
+        "cut" => stack.cut(words.next_number()?),
+        "clear" => stack.clear(),
         word => bail!("no change of a stack is called {word}"),
     }
+    Ok(())
 }
 
 /// Returns what an empty stack becomes by the changes up to `|`.
@@ -94,27 +70,16 @@ fn stack_text(alloc: Global, stack: &Stack) -> Result<String> {
 /// `stack CHANGES`: the cells that an empty stack has then, counted from below and from above.
 pub(crate) fn stack(context: &Context<'_>, words: &mut Words<'_>) -> Result<String> {
     let alloc = context.rt.alloc();
-    let stack = stack_of(alloc, words)?;
-    stack_text(alloc, &stack)
+    stack_text(alloc, &stack_of(alloc, words)?)
 }
 
-/// Whether two stacks, each by its changes, have as many cells at the bottom as the first word says,
-/// and the same ones.
-fn shares_bottom(alloc: Global, words: &mut Words<'_>) -> Result<bool> {
+/// `share COUNT CHANGES | CHANGES`: whether two stacks, each by its changes, have that many cells at
+/// the bottom, and the same ones.
+pub(crate) fn share(context: &Context<'_>, words: &mut Words<'_>) -> Result<String> {
+    let alloc = context.rt.alloc();
     let count = words.next_number()?;
     let one = stack_of(alloc, words)?;
     let other = stack_of(alloc, words)?;
-    Ok(one.shares_bottom(&other, count))
-}
-
-/// `share COUNT CHANGES | CHANGES`: whether two stacks have that many cells at the bottom, and the
-/// same ones.
-pub(crate) fn share(context: &Context<'_>, words: &mut Words<'_>) -> Result<String> {
-    let alloc = context.rt.alloc();
-    let answer = if shares_bottom(alloc, words)? {
-        "yes"
-    } else {
-        "no"
-    };
-    Ok(String::from_str(alloc, answer)?)
+    let is_shared = one.shares_bottom(&other, count);
+    Ok(String::from_str(alloc, if is_shared { "yes" } else { "no" })?)
 }

@@ -1,6 +1,7 @@
 //! States as text: `[1 2 ?] rp0=1 zp0=? loop=2 f3=40 s1=7`.
 
 ghost use Rattle.std.specs.Prelude.{IfOk};
+ghost use Rattle.tt_abs.specs.Entries.{Ascends};
 ghost use Rattle.tt_abs.specs.States.{state_order};
 
 use crate::places::body_text;
@@ -94,7 +95,7 @@ fn change(state: &mut State, words: &mut Words<'_>, alloc: Global) -> Result<boo
 }
 
 /// Makes all changes that the next words say.
-pub(crate) fn change_all(state: &mut State, words: &mut Words<'_>, alloc: Global) -> Result<()>
+fn change_all(state: &mut State, words: &mut Words<'_>, alloc: Global) -> Result<()>
     requires { state_order.InRange state.old }
     ensures { IfOk result (λ _. state_order.InRange state.new) }
 {
@@ -106,11 +107,16 @@ pub(crate) fn change_all(state: &mut State, words: &mut Words<'_>, alloc: Global
     Err(anyhow!("too many changes"))
 }
 
-/// Returns the state at a start without functions, with the changes that the next words say.
-pub(crate) fn plain_state(alloc: Global, words: &mut Words<'_>) -> Result<State>
+/// Returns the state that begins with these functions, with the changes that the next words say.
+pub(crate) fn state_from(
+    alloc: Global,
+    words: &mut Words<'_>,
+    start: &[(u16, u32)],
+) -> Result<State>
+    requires { Ascends start.now }
     ensures { IfOk result (λ state. state_order.InRange state) }
 {
-    let mut state = State::start(alloc, &[])?;
+    let mut state = State::start(alloc, start)?;
     change_all(&mut state, words, alloc)?;
     Ok(state)
 }
@@ -120,24 +126,14 @@ fn copy_over(alloc: Global, state: &mut State, words: &mut Words<'_>) -> Result<
     requires { state_order.InRange state.old }
     ensures { IfOk result (λ _. state_order.InRange state.new) }
 {
-    let mut other = plain_state(alloc, words)?;
+    let mut other = state_from(alloc, words, &[])?;
     other.copy_from(state)?;
     *state = other;
     Ok(())
 }
 
-/// Joins a state with the one that the next words say.
-fn join_next(alloc: Global, state: &mut State, words: &mut Words<'_>) -> Result<()>
-    requires { state_order.InRange state.old }
-    ensures { IfOk result (λ _. state_order.InRange state.new) }
-{
-    let other = plain_state(alloc, words)?;
-    state.join(&other)?;
-    Ok(())
-}
-
-/// Changes a state by the next word: `copy`, `over STATE`, a copy over another state, `join STATE`,
-/// or `then`, before a change, or by a change; whether there is one of these.
+/// Changes a state by the next words: `copy`, `over STATE`, a copy over another state, `join STATE`,
+/// or `then`, and by the changes that follow; whether there is one of these.
 fn change_next(alloc: Global, state: &mut State, words: &mut Words<'_>) -> Result<bool>
     requires { state_order.InRange state.old }
     ensures { IfOk result (λ _. state_order.InRange state.new) }
@@ -147,34 +143,25 @@ fn change_next(alloc: Global, state: &mut State, words: &mut Words<'_>) -> Resul
     } else if words.take_word("over") {
         copy_over(alloc, state, words)?;
     } else if words.take_word("join") {
-        join_next(alloc, state, words)?;
-    } else {
-        let is_more = words.take_word("then");
-        return Ok(change(state, words, alloc)? || is_more);
+        state.join(&state_from(alloc, words, &[])?)?;
+    } else if !words.take_word("then") {
+        return Ok(false);
     }
+    change_all(state, words, alloc)?;
     Ok(true)
-}
-
-/// Changes a state by all of the next words that say how.
-fn change_by_all(alloc: Global, state: &mut State, words: &mut Words<'_>) -> Result<()>
-    requires { state_order.InRange state.old }
-    ensures { IfOk result (λ _. state_order.InRange state.new) }
-{
-    for _ in 0..MOST {
-        if !change_next(alloc, state, words)? {
-            return Ok(());
-        }
-    }
-    Err(anyhow!("too many changes"))
 }
 
 /// Returns the state that the next words say.
 pub(crate) fn state_of(alloc: Global, words: &mut Words<'_>) -> Result<State>
     ensures { IfOk result (λ state. state_order.InRange state) }
 {
-    let mut state = State::start(alloc, &[])?;
-    change_by_all(alloc, &mut state, words)?;
-    Ok(state)
+    let mut state = state_from(alloc, words, &[])?;
+    for _ in 0..MOST {
+        if !change_next(alloc, &mut state, words)? {
+            return Ok(state);
+        }
+    }
+    Err(anyhow!("too many changes"))
 }
 
 /// A cell as text.
@@ -251,12 +238,9 @@ fn show_functions(alloc: Global, text: &mut String, state: &State, before: &Stat
             write!(text, " f{}={}", function.0, body_text(alloc, function.1)?)?;
         }
     }
+    let known = state.functions();
     for (number, _) in before.functions() {
-        if !state
-            .functions()
-            .iter()
-            .any(|function| function.0 == *number)
-        {
+        if !known.iter().any(|function| function.0 == *number) {
             write!(text, " f{number}=?")?;
         }
     }

@@ -1,6 +1,6 @@
 //! Cases of instructions: where they lead, and what they make of what is known.
 
-ghost use Rattle.std.specs.Prelude.{◌≡◌, IfOk, false};
+ghost use Rattle.std.specs.Prelude.{◌≡◌, false};
 ghost use Rattle.tt_abs.specs.Covers.{has_body_twice};
 ghost use Rattle.tt_abs.specs.Settings.{frames_of};
 ghost use Rattle.tt_abs.specs.States.{state_order};
@@ -32,18 +32,6 @@ fn successor_text(alloc: Global, next: &Successor, before: &State) -> Result<Str
     Ok(format!(in alloc; "{way} {state}")?)
 }
 
-/// Returns where two successors lead.
-fn both_texts(
-    alloc: Global,
-    next: &Successor,
-    other: &Successor,
-    before: &State,
-) -> Result<String> {
-    let one = successor_text(alloc, next, before)?;
-    let other = successor_text(alloc, other, before)?;
-    Ok(format!(in alloc; "{one} or {other}")?)
-}
-
 /// Returns what an instruction tells at a point, if one starts there.
 fn told(alloc: Global, setting: &Setting<'_>, point: &Point<'_>, state: &State) -> Result<String>
     requires in_range { state_order.InRange state.now }
@@ -52,60 +40,17 @@ fn told(alloc: Global, setting: &Setting<'_>, point: &Point<'_>, state: &State) 
     ensure!(setting.starts(point, point.offset), "no instruction there");
     match transfer(setting, point, state) {
         Ok(Successors::One(next)) => successor_text(alloc, &next, state),
-        Ok(Successors::Two(next, other)) => both_texts(alloc, &next, &other, state),
+        Ok(Successors::Two(next, other)) => {
+            let one = successor_text(alloc, &next, state)?;
+            let other = successor_text(alloc, &other, state)?;
+            Ok(format!(in alloc; "{one} or {other}")?)
+        }
         Err(refusal) => Ok(refusal_text(alloc, &refusal)?),
     }
 }
 
-/// Returns the same where an instruction belongs to a call, or to the main program.
-fn told_in(
-    alloc: Global,
-    setting: &Setting<'_>,
-    call: Option<Frame>,
-    offset: u32,
-    state: &State,
-) -> Result<String>
-    requires { state_order.InRange state.now }
-{
-    match call {
-        Some(frame) => {
-            let frames = [frame];
-            let point = Point {
-                frames: &frames,
-                offset,
-            };
-            told(alloc, setting, &point, state)
-        }
-        None => {
-            let point = Point {
-                frames: &[],
-                offset,
-            };
-            told(alloc, setting, &point, state)
-        }
-    }
-}
-
-/// Returns the state that the words say, with function 0 where that has a body.
-fn state_with(alloc: Global, words: &mut Words<'_>, function: Option<&str>) -> Result<State>
-    ensures { IfOk result (λ state. state_order.InRange state) }
-{
-    let mut state = state_of(alloc, words)?;
-    if let Some(body) = function {
-        state.define(0, body_of(body)?)?;
-    }
-    Ok(state)
-}
-
-/// Takes the call that the words say after `in=`, if they do.
-fn call_of(words: &mut Words<'_>) -> Result<Option<Frame>> {
-    match words.take("in") {
-        Some(call) => Ok(Some(frame_of(call)?)),
-        None => Ok(None),
-    }
-}
-
-/// Returns the same of the bytes of a font program and of a glyph program.
+/// Returns the same of the bytes of a font program and of a glyph program, to whose instruction
+/// control comes in a call, or in the main program.
 fn told_of_bytes(
     context: &Context<'_>,
     font: &[u8],
@@ -128,7 +73,8 @@ fn told_of_bytes(
         prep: &font,
         start: &[],
     };
-    told_in(alloc, &setting, call, offset, state)
+    let frames = call.as_slice();
+    told(alloc, &setting, &Point { frames, offset }, state)
 }
 
 /// `step PROGRAM STATE`, with `at=OFFSET`, `in=CALL`, `f=FONT_PROGRAM`, `start=BODY`: where the
@@ -136,10 +82,13 @@ fn told_of_bytes(
 pub(crate) fn step(context: &Context<'_>, words: &mut Words<'_>) -> Result<String> {
     let alloc = context.rt.alloc();
     let offset = words.number("at", 0)?;
-    let call = call_of(words)?;
+    let call = words.take("in").map(frame_of).transpose()?;
     let function = words.take("start");
     let font = words.bytes(alloc, "f")?;
     let main = words.next_bytes(alloc)?;
-    let state = state_with(alloc, words, function)?;
+    let mut state = state_of(alloc, words)?;
+    if let Some(body) = function {
+        state.define(0, body_of(body)?)?;
+    }
     told_of_bytes(context, &font, &main, call, offset, &state)
 }

@@ -145,25 +145,16 @@ pub(crate) fn turns(context: &Context<'_>, words: &mut Words<'_>) -> Result<Stri
     check_glyph(context, &font, &glyph, &starts, &NOTHING_KEPT, &listed)
 }
 
-/// Takes the index that the words give after a name, if they do.
-fn indexes_given(alloc: Global, words: &mut Words<'_>, name: &str) -> Result<Vec<u16>> {
-    let mut indexes = Vec::new(alloc);
-    if let Some(index) = words.take(name) {
-        indexes.push(number_of(index)?)?;
-    }
-    Ok(indexes)
-}
-
 /// `kept storage=1 g=GLYPH`, `kept control=2 g=GLYPH`: what the check of a program tells that has to
 /// leave a storage cell or a control value as it is.
 pub(crate) fn kept(context: &Context<'_>, words: &mut Words<'_>) -> Result<String> {
     let alloc = context.rt.alloc();
     let glyph = words.bytes(alloc, "g")?;
-    let storage = indexes_given(alloc, words, "storage")?;
-    let controls = indexes_given(alloc, words, "control")?;
+    let storage = words.take("storage").map(number_of).transpose()?;
+    let control = words.take("control").map(number_of).transpose()?;
     let kept = Kept {
-        storage: &storage,
-        controls: &controls,
+        storage: storage.as_slice(),
+        controls: control.as_slice(),
     };
     let starts = [Start::unknown(alloc)];
     check_glyph(context, &[], &glyph, &starts, &kept, &[])

@@ -1,6 +1,6 @@
 //! The words of a line, and what they say: numbers, cells, stacks, bytes and places.
 
-use anyhow::{Result, anyhow, ensure};
+use anyhow::{Context as _, Result, anyhow, ensure};
 use std::alloc::Global;
 use std::collections::VecDeque;
 use std::mem;
@@ -26,10 +26,8 @@ pub fn number_of<T: FromStr>(word: &str) -> Result<T>
 where
     T::Err: Drop,
 {
-    match word.parse() {
-        Ok(number) => Ok(number),
-        Err(_) => Err(anyhow!("{word} isn't a number that fits")),
-    }
+    let number = word.parse().ok();
+    number.context(format_args!("{word} isn't a number that fits"))
 }
 
 /// Returns a number, or an unknown one: `?`.
@@ -60,9 +58,7 @@ pub fn body_of(word: &str) -> Result<u32> {
 
 /// Returns what is repeated in `PART*TIMES`, and how often.
 fn repeated(word: &str) -> Result<(&str, usize)> {
-    let Some((part, times)) = word.split_once('*') else {
-        return Ok((word, 1));
-    };
+    let (part, times) = word.split_once('*').unwrap_or((word, "1"));
     let times = number_of(times)?;
     ensure!(times <= MOST_TIMES, "{times} times is too often");
     Ok((part, times))
@@ -107,10 +103,8 @@ pub fn bytes_of(alloc: Global, word: &str) -> Result<Vec<u8>> {
 
 /// Returns the two parts of a word that is divided once.
 pub fn pair_of(word: &str, divider: char) -> Result<(&str, &str)> {
-    match word.split_once(divider) {
-        Some(pair) => Ok(pair),
-        None => Err(anyhow!("{word} has no {divider}")),
-    }
+    word.split_once(divider)
+        .context(format_args!("{word} has no {divider}"))
 }
 
 /// Adds a cell to a stack, as often as its word says.
@@ -126,23 +120,17 @@ fn push_cells(stack: &mut Vec<Cell>, word: &str) -> Result<()> {
 impl<'a> Words<'a> {
     /// Returns the words of two texts, one after the other.
     pub fn of(alloc: Global, first: &'a str, second: &'a str) -> Result<Words<'a>> {
-        let mut words = VecDeque::new(alloc);
-        for word in first.split_whitespace() {
-            words.push_back(word)?;
-        }
-        for word in second.split_whitespace() {
-            words.push_back(word)?;
-        }
-        Ok(Words { words })
+        let texts = first.split_whitespace().chain(second.split_whitespace());
+        Ok(Words {
+            words: texts.collect(alloc)?,
+        })
     }
 
     /// Returns the words of a list.
     pub(crate) fn listed(alloc: Global, list: &[&'a str]) -> Result<Words<'a>> {
-        let mut words = VecDeque::new(alloc);
-        for word in list {
-            words.push_back(*word)?;
-        }
-        Ok(Words { words })
+        Ok(Words {
+            words: list.iter().copied().collect(alloc)?,
+        })
     }
 
     /// Whether all words have been read.
@@ -162,10 +150,7 @@ impl<'a> Words<'a> {
 
     /// Takes the next word.
     pub fn next(&mut self) -> Result<&'a str> {
-        match self.words.pop_front() {
-            Some(word) => Ok(word),
-            None => Err(anyhow!("a word is missing")),
-        }
+        self.words.pop_front().context("a word is missing")
     }
 
     /// Takes the number that the next word says.
@@ -183,10 +168,7 @@ impl<'a> Words<'a> {
 
     /// Takes the next word if it is this one; whether it is.
     pub fn take_word(&mut self, word: &str) -> bool {
-        if self.first() != Some(word) {
-            return false;
-        }
-        self.words.pop_front().is_some()
+        self.first() == Some(word) && self.words.pop_front().is_some()
     }
 
     /// Takes all words that are left.
@@ -233,9 +215,8 @@ impl<'a> Words<'a> {
     /// Takes a stack, the bottom first: `[1 2 ?]`; in `[7*40]` a cell is repeated.
     pub fn stack(&mut self, alloc: Global) -> Result<Vec<Cell>> {
         let mut stack = Vec::new(alloc);
-        let Some(mut word) = self.next()?.strip_prefix('[') else {
-            return Err(anyhow!("a stack is missing"));
-        };
+        let first = self.next()?.strip_prefix('[');
+        let mut word = first.context("a stack is missing")?;
         for _ in 0..MOST_TIMES {
             if let Some(last) = word.strip_suffix(']') {
                 if !last.is_empty() {

@@ -53,19 +53,13 @@ fn push_table(data: &mut Vec<u8>, bytes: &[u8]) -> Result<(), NoFile> {
     Ok(())
 }
 
-/// Returns what comes before the directory's records.
-fn header(alloc: Global, tables: usize) -> Result<Vec<u8>, NoFile> {
-    let [high, low] = u16::try_from(tables)?.to_be_bytes();
-    let bytes = [0, 1, 0, 0, high, low, 0, 0, 0, 0, 0, 0];
-    Ok(bytes.to_vec(alloc)?)
-}
-
 /// Returns a font file with these tables, each beginning at a multiple of 4.
 ///
 /// # Errors
 /// `OutOfMemory`; `TooLong` where a number doesn't fit its field.
 pub fn file_of(alloc: Global, tables: &[(&str, &[u8])]) -> Result<Vec<u8>, NoFile> {
-    let mut file = header(alloc, tables.len())?;
+    let [high, low] = u16::try_from(tables.len())?.to_be_bytes();
+    let mut file = [0, 1, 0, 0, high, low, 0, 0, 0, 0, 0, 0].to_vec(alloc)?;
     let mut data: Vec<u8> = Vec::new(alloc);
     let start = tables.len().saturating_mul(16).saturating_add(12);
     for (tag, bytes) in tables {
@@ -75,15 +69,6 @@ pub fn file_of(alloc: Global, tables: &[(&str, &[u8])]) -> Result<Vec<u8>, NoFil
     }
     file.extend_from_slice(data.as_slice())?;
     Ok(file)
-}
-
-/// Returns a `maxp` table for this many glyphs.
-fn maxp_for(glyphs: u16) -> [u8; 32] {
-    let mut maxp = MAXP;
-    let [high, low] = glyphs.to_be_bytes();
-    maxp[4] = high;
-    maxp[5] = low;
-    maxp
 }
 
 /// The `glyf` and `loca` tables of some glyphs.
@@ -165,7 +150,11 @@ pub fn font_of(
     for glyph in glyphs {
         tables.push(glyph)?;
     }
-    tables.font_within(alloc, &maxp_for(tables.count), fpgm, prep)
+    let mut maxp = MAXP;
+    let [high, low] = tables.count.to_be_bytes();
+    maxp[4] = high;
+    maxp[5] = low;
+    tables.font_within(alloc, &maxp, fpgm, prep)
 }
 
 /// Returns a glyph of 4 points with a program.

@@ -5,8 +5,6 @@
 pub mod families;
 pub mod fonts;
 pub mod heap;
-pub mod hex_bytes;
 pub mod programs;
-pub mod section_calls;
 pub mod streams;
 pub mod trials;

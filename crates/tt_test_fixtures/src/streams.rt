@@ -51,15 +51,6 @@ impl Taker {
             takes_nothing: false,
         }
     }
-
-    /// Makes the writer that takes a byte a call, of which the one after `calls` others fails, or
-    /// takes nothing.
-    pub fn failing(alloc: Global, calls: usize, takes_nothing: bool) -> Taker {
-        Taker {
-            takes_nothing,
-            ..Taker::new(alloc, 1, calls)
-        }
-    }
 }
 
 impl Write for Taker {
@@ -79,14 +70,5 @@ impl Write for Taker {
 
     fn flush(&mut self) -> io::Result<()> {
         Ok(())
-    }
-}
-
-/// Returns these bytes, all of which a call may give.
-pub fn steps_of(bytes: &[u8]) -> Steps<'_> {
-    Steps {
-        bytes,
-        step: ALL,
-        calls: ALL,
     }
 }

@@ -1,5 +1,5 @@
 use Rattle.hintcheck_fonts.specs.Sessions.{IsForChecking}
-use Rattle.hintcheck_font_cases.proofs.sessions.refused_by_calls.Given as goal
+use Rattle.hintcheck_font_cases.proofs.sessions.refused_in_session.Given as goal
 
 abbrev pub invariant-loop : goal.invariant-loop
 invariant-loop l = IsForChecking l.session
