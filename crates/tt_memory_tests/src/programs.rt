@@ -13,7 +13,7 @@ use tt_abs::{Point, Setting, State, transfer};
 use tt_cert::{NEWEST_FORM, Name, decode, encode};
 use tt_code::Program;
 use tt_family::{Budget, check, check_full};
-use tt_find::{Explored, Finder, Found, explore, find};
+use tt_find::{Explored, Finder, Found, ListedStates, explore, find};
 use tt_stream::{Bytes, Counted};
 use tt_test_fixtures::families::state_of;
 use tt_test_fixtures::heap::Heap;
@@ -60,7 +60,9 @@ fn inputs_of(alloc: Global, setting: &Setting<'_>) -> Option<Inputs>
     let mut large = state_of(alloc, &[(0, 3)], &[70_000; 40]).ok()?;
     large.set_storage(2, Known(7)).ok()?;
     let mut finder = Finder::new(alloc);
-    finder.find(alloc, setting, &mut Budget::unlimited()).ok()?;
+    finder
+        .find(alloc, setting, ListedStates::Kept, &mut Budget::unlimited())
+        .ok()?;
     let found = finder.into_found()?;
     let mut sink = Counted::new(Vec::new(alloc));
     encode(alloc, Name::Glyph(0), &found.certificate, &mut sink).ok()?;
