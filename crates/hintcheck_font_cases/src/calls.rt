@@ -25,13 +25,8 @@ fn programs_text(alloc: Global, programs: u32, refused: &[Refused]) -> Result<St
     let mut text = format!(in alloc; "{programs}")?;
     let mut divider = ':';
     for one in refused {
-        write!(
-            text,
-            "{divider} {} {} at {}",
-            one.program,
-            one.reason.number(),
-            one.place
-        )?;
+        let (name, number, place) = (one.program, one.reason.number(), one.place);
+        write!(text, "{divider} {name} {number} at {place}")?;
         divider = ',';
     }
     Ok(text)

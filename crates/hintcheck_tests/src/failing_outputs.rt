@@ -57,8 +57,8 @@ fn tells_failed_writes_of_a_list(rt: HostRuntime) -> Result<(), Fail> {
     let path = path_of(&rt, "list.ttf").ok_or("a path")?;
     fs::write(&rt, path.as_str(), &font)?;
     for program in ["g0", "g1"] {
-        let words = ["hintcheck", "list", path.as_str(), program];
-        assert!(rt; tells_failed_writes_of(&rt, &words), "{words:?}");
+        let is_told = tells_failed_writes_of(&rt, &["hintcheck", "list", path.as_str(), program]);
+        assert!(rt; is_told, "the list of {program}");
     }
     fs::remove_file(&rt, path.as_str())?;
     Ok(())

@@ -136,10 +136,10 @@ fn named<'a>(
 }
 
 /// Asserts that a command is refused memory, and tells so. FONT, CERT, BAD and NEW stand for files.
-fn assert_command_refused(
-    rt: &HostRuntime,
-    command: &[&str],
-    paths: &[PathBuf; 4],
+fn assert_command_refused<'a>(
+    rt: &'a HostRuntime,
+    command: &[&'a str],
+    paths: &'a [PathBuf; 4],
 ) -> Result<(), Fail> {
     let words = named(rt.alloc(), command, paths)?;
     let (_, whole, _) = printed(rt, &words, ROOM, ROOM);
