@@ -116,7 +116,8 @@ impl Beyond {
     pub(crate) fn of(setting: &Setting<'_>, failed: Failed) -> Option<Beyond> {
         let limits = setting.limits;
         let (role, number, bound) = match failed {
-            Failed::NoPoint { zone, number } | Failed::NoReferencePoint { zone, number, .. } => {
+            Failed::NoPoint { zone, number } => (Role::Point, number, setting.points_in(zone)),
+            Failed::NoReferencePoint { zone, number, .. } => {
                 (Role::Point, number, setting.points_in(zone))
             }
             Failed::NoControlValue { index } => (Role::ControlValue, index, setting.cvt),
