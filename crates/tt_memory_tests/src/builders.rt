@@ -8,11 +8,21 @@ use tt_test_fixtures::families::{CALL, add, join, state_of};
 use tt_test_fixtures::heap::Heap;
 use tt_test_fixtures::trials::{Told, Trial, assert_refused, told_of};
 
-/// A call on a builder with this many contexts and states: a context is added, a state is joined
-/// where there is none, or the builder becomes a certificate.
+/// A call on a builder.
+#[derive(Clone, Copy, Debug)]
+enum Call {
+    /// A context is added.
+    Add,
+    /// A state is joined where there is none.
+    Join,
+    /// The builder becomes a certificate.
+    Finish,
+}
+
+/// A call on a builder with this many contexts and states.
 #[derive(Drop)]
 struct OnBuilder {
-    call: &'static str,
+    call: Call,
     size: u32,
 }
 
@@ -39,10 +49,9 @@ impl Trial for OnBuilder {
         };
         heap.take_room();
         let told = match self.call {
-            "Add" => told_of(add(&mut builder, 0, Frame { call: 5, ..CALL })),
-            "Join" => told_of(join(&mut builder, 0, 5, &state)),
-            "Finish" => told_of(builder.finish().map_err(|_| AllocError)),
-            _ => Told::Wrong,
+            Call::Add => told_of(add(&mut builder, 0, Frame { call: 5, ..CALL })),
+            Call::Join => told_of(join(&mut builder, 0, 5, &state)),
+            Call::Finish => told_of(builder.finish().map_err(|_| AllocError)),
         };
         heap.give_back();
         told
@@ -53,9 +62,9 @@ impl Trial for OnBuilder {
 #[test]
 fn calls_on_builders(rt: HostRuntime) -> Result<(), Fail> {
     let mut heap = Heap::new(rt.alloc());
-    for call in ["Add", "Join", "Finish"] {
+    for call in [Call::Add, Call::Join, Call::Finish] {
         for size in [4, 8] {
-            let name = format!(in rt.alloc(); "{call} with {size}")?;
+            let name = format!(in rt.alloc(); "{call:?} with {size}")?;
             assert_refused(&rt, &mut heap, &name, &OnBuilder { call, size })?;
         }
     }

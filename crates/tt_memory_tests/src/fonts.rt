@@ -21,21 +21,33 @@ const TWICE: [u8; 27] = [
     0x2E,
 ];
 
+/// A call on a font.
+#[derive(Clone, Copy, Debug)]
+enum Call {
+    Read,
+    Verdict,
+    Needs,
+    CheckFont,
+    FindFont,
+    Upgrade,
+    Bare,
+}
+
 /// The calls on a font.
-const CALLS: [&str; 7] = [
-    "Read",
-    "Verdict",
-    "Needs",
-    "CheckFont",
-    "FindFont",
-    "Upgrade",
-    "Bare",
+const CALLS: [Call; 7] = [
+    Call::Read,
+    Call::Verdict,
+    Call::Needs,
+    Call::CheckFont,
+    Call::FindFont,
+    Call::Upgrade,
+    Call::Bare,
 ];
 
 /// A call on a font, on its certificate, or on the program of its first glyph.
 #[derive(Drop)]
 struct OnFont<'a> {
-    call: &'static str,
+    call: Call,
     font: &'a [u8],
     certificate: &'a [u8],
     glyph: &'a [u8],
@@ -62,16 +74,16 @@ impl Trial for OnFont<'_> {
         let mut sink = Counted::new(io::sink());
         heap.take_room();
         let told = match self.call {
-            "Read" => told_of(Font::read(alloc, self.font)),
-            "Verdict" => told_of(verdict(alloc, self.font)),
-            "Needs" => told_of(storage_needed(alloc, self.font)),
-            "CheckFont" => told_of(check_font(alloc, self.font, &mut source)),
-            "FindFont" => told_of(find_font(alloc, self.font, &mut sink)),
-            "Upgrade" => told_of(upgrade(alloc, &mut source, &mut sink)),
-            "Bare" if self.glyph.len() < 100 => {
+            Call::Read => told_of(Font::read(alloc, self.font)),
+            Call::Verdict => told_of(verdict(alloc, self.font)),
+            Call::Needs => told_of(storage_needed(alloc, self.font)),
+            Call::CheckFont => told_of(check_font(alloc, self.font, &mut source)),
+            Call::FindFont => told_of(find_font(alloc, self.font, &mut sink)),
+            Call::Upgrade => told_of(upgrade(alloc, &mut source, &mut sink)),
+            Call::Bare if self.glyph.len() < 100 => {
                 told_of(bare(alloc, &MAXP, 10, 4, 1, self.glyph))
             }
-            _ => Told::Wrong,
+            Call::Bare => Told::Wrong,
         };
         heap.give_back();
         told
@@ -89,7 +101,7 @@ fn calls_on_fonts(rt: HostRuntime) -> Result<(), Fail> {
         find_font(rt.alloc(), &font, &mut sink)?;
         let certificate = sink.into_inner();
         for call in CALLS {
-            let name = format!(in rt.alloc(); "{call} on {program}")?;
+            let name = format!(in rt.alloc(); "{call:?} on {program}")?;
             let trial = OnFont {
                 call,
                 font: &font,

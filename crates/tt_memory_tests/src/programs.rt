@@ -20,22 +20,35 @@ use tt_test_fixtures::heap::Heap;
 use tt_test_fixtures::programs::{GLYPH, LIMITS, POPPING, cut};
 use tt_test_fixtures::trials::{Told, Trial, assert_refused, told_of};
 
+/// A call on a program.
+#[derive(Clone, Copy, Debug)]
+enum Call {
+    Cut,
+    Copy,
+    Transfer,
+    Check,
+    CheckFull,
+    Find,
+    Decode,
+    Encode,
+}
+
 /// The calls on a program.
-const CALLS: [&str; 8] = [
-    "Cut",
-    "Copy",
-    "Transfer",
-    "Check",
-    "CheckFull",
-    "Find",
-    "Decode",
-    "Encode",
+const CALLS: [Call; 8] = [
+    Call::Cut,
+    Call::Copy,
+    Call::Transfer,
+    Call::Check,
+    Call::CheckFull,
+    Call::Find,
+    Call::Decode,
+    Call::Encode,
 ];
 
 /// A call on the program of a glyph.
 #[derive(Drop)]
 struct OnProgram<'a> {
-    call: &'static str,
+    call: Call,
     glyph: &'a [u8],
 }
 
@@ -95,14 +108,14 @@ fn told_in(heap: &mut Heap, trial: &OnProgram<'_>, setting: &Setting<'_>) -> Tol
     let mut sink = Counted::new(io::sink());
     heap.take_room();
     let told = match trial.call {
-        "Cut" if trial.glyph.len() < 100 => told_of(Program::cut(alloc, trial.glyph)),
-        "Copy" => told_of(inputs.large.copy()),
-        "Transfer" if setting.starts(&point, 0) => told_of(transfer(setting, &point, &state)),
-        "Check" => told_of(check(alloc, setting, family)),
-        "CheckFull" => told_of(check_full(alloc, setting, &inputs.full.found.certificate)),
-        "Find" => told_of(find(alloc, setting)),
-        "Decode" => told_of(decode(alloc, &mut source, 0, NEWEST_FORM)),
-        "Encode" => told_of(encode(alloc, Name::Glyph(0), family, &mut sink)),
+        Call::Cut if trial.glyph.len() < 100 => told_of(Program::cut(alloc, trial.glyph)),
+        Call::Copy => told_of(inputs.large.copy()),
+        Call::Transfer if setting.starts(&point, 0) => told_of(transfer(setting, &point, &state)),
+        Call::Check => told_of(check(alloc, setting, family)),
+        Call::CheckFull => told_of(check_full(alloc, setting, &inputs.full.found.certificate)),
+        Call::Find => told_of(find(alloc, setting)),
+        Call::Decode => told_of(decode(alloc, &mut source, 0, NEWEST_FORM)),
+        Call::Encode => told_of(encode(alloc, Name::Glyph(0), family, &mut sink)),
         _ => Told::Wrong,
     };
     heap.give_back();
@@ -133,7 +146,7 @@ fn calls_on_programs(rt: HostRuntime) -> Result<(), Fail> {
     let mut heap = Heap::new(rt.alloc());
     for (program, glyph) in PROGRAMS {
         for call in CALLS {
-            let name = format!(in rt.alloc(); "{call} on {program}")?;
+            let name = format!(in rt.alloc(); "{call:?} on {program}")?;
             assert_refused(&rt, &mut heap, &name, &OnProgram { call, glyph })?;
         }
     }
