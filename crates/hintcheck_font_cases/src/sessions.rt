@@ -83,9 +83,20 @@ pub(crate) fn session(context: &Context<'_>, words: &mut Words<'_>) -> Result<St
     let alloc = context.rt.alloc();
     let file = next_held(context, words)?;
     let certificate = next_held(context, words)?;
-    let font = &read_font(alloc, &file)?;
+    let font = read_font(alloc, &file)?;
+    session_on(alloc, &font, &certificate, words)
+}
+
+/// Returns what the calls on a font and its certificate tell. The session is owned here, where
+/// nothing else can fail: each place where it may be dropped has a long proof.
+fn session_on(
+    alloc: Global,
+    font: &Font<'_>,
+    certificate: &[u8],
+    words: &mut Words<'_>,
+) -> Result<String> {
     let mut session = Session::new(font);
-    told_by_checks(alloc, &mut session, &certificate, words)
+    told_by_checks(alloc, &mut session, certificate, words)
 }
 
 /// Returns what the calls of a session tell that check the programs by a certificate.
@@ -185,10 +196,16 @@ pub(crate) fn search(context: &Context<'_>, words: &mut Words<'_>) -> Result<Str
     let alloc = context.rt.alloc();
     let file = next_held(context, words)?;
     let want = next_held(context, words)?;
-    let font = &read_font(alloc, &file)?;
-    let mut session = Session::new(font);
+    let font = read_font(alloc, &file)?;
+    search_on(alloc, &font, &want, words)
+}
+
+/// Returns what the calls that find a font's programs tell, and how their sections compare. The
+/// session is owned here, as in `session_on`.
+fn search_on(alloc: Global, font: &Font<'_>, want: &[u8], words: &mut Words<'_>) -> Result<String> {
     let sections = u32::from(font.glyph_count()) + 2;
-    told_by_searches(alloc, &mut session, sections, &want, words)
+    let mut session = Session::new(font);
+    told_by_searches(alloc, &mut session, sections, want, words)
 }
 
 /// Returns what the calls of a session tell that find so many programs, and how the sections
