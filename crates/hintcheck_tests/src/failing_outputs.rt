@@ -48,6 +48,11 @@ fn tells_failed_writes(rt: HostRuntime) {
     }
 }
 
+/// Whether that is so of the list of a program.
+fn tells_failed_writes_of_list<R: Files + AllocGlobal>(rt: &R, font: &str, program: &str) -> bool {
+    tells_failed_writes_of(rt, &["hintcheck", "list", font, program])
+}
+
 /// A list of 34 bytes, and a refusal of as many.
 #[test]
 fn tells_failed_writes_of_a_list(rt: HostRuntime) -> Result<(), Fail> {
@@ -56,10 +61,8 @@ fn tells_failed_writes_of_a_list(rt: HostRuntime) -> Result<(), Fail> {
     let font = font_of(rt.alloc(), &[], &[], &[&listed, &refused])?;
     let path = path_of(&rt, "list.ttf").ok_or("a path")?;
     fs::write(&rt, path.as_str(), &font)?;
-    for program in ["g0", "g1"] {
-        let is_told = tells_failed_writes_of(&rt, &["hintcheck", "list", path.as_str(), program]);
-        assert!(rt; is_told, "the list of {program}");
-    }
+    assert!(rt; tells_failed_writes_of_list(&rt, path.as_str(), "g0"));
+    assert!(rt; tells_failed_writes_of_list(&rt, path.as_str(), "g1"));
     fs::remove_file(&rt, path.as_str())?;
     Ok(())
 }
