@@ -17,7 +17,9 @@ fn list_called(word: &str) -> &str {
     if word == "-" { STANDARD_INPUT } else { word }
 }
 
-/// A name that isn't UTF-8: no file is found by it, and its line tells it.
+/// A name that isn't UTF-8, as its line tells it: the bytes that aren't printed by their digits, and at
+/// the end a NUL. No file's name has one, so that no file is found by this text: not even one that has
+/// the digits in its name.
 #[derive(Clone, Copy)]
 struct OtherName<'a>(&'a [u8]);
 
@@ -30,7 +32,7 @@ impl fmt::Display for OtherName<'_> {
                 write!(f, "\\x{byte:02x}")?;
             }
         }
-        Ok(())
+        f.write_str("\0")
     }
 }
 
