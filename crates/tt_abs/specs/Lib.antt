@@ -6,6 +6,7 @@ pub mod Covers
 pub mod Registers
 pub mod Settings
 pub mod Spots
+pub mod Refusals
 pub mod Successors
 pub mod Stacks
 pub mod Failures

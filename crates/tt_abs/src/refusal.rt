@@ -1,10 +1,15 @@
 //! Why a program is refused, and where.
 
+ghost use Rattle.std.specs.Prelude.{◌≡◌};
+ghost use Rattle.tt_abs.specs.Refusals.{told_reason};
+ghost use Rattle.tt_abs.specs.declared.failed.Failed.TheVariants.{Only};
+
 use crate::exhausted::Exhausted;
 use crate::failed::Failed;
 use crate::spot::Spot;
 use std::alloc::AllocError;
 use thiserror::Error;
+use tt_code::Reason;
 
 /// Why a program isn't accepted: it is refused by the finder, since no family is good for it, or by
 /// the check, since its certificate's family isn't; or the work ended without an answer.
@@ -21,6 +26,30 @@ pub enum Refusal {
     /// Memory ran out, or the budget did.
     #[error(transparent)]
     Exhausted(Exhausted),
+}
+
+impl Refusal {
+    /// Returns the refusal for this reason at an offset of the program that runs, outside all
+    /// functions.
+    pub fn in_main(offset: u32, reason: Reason) -> Refusal
+        ensures { result ≡ Refusal.Refused Spot.Main offset (Only reason) }
+    {
+        Refusal::Refused {
+            spot: Spot::Main,
+            offset,
+            failed: Failed::Only(reason),
+        }
+    }
+
+    /// Returns the reason for which the program is refused, if it is.
+    pub fn reason(&self) -> Option<Reason>
+        ensures { result ≡ told_reason self.now }
+    {
+        match self {
+            Refusal::Refused { failed, .. } => Some(failed.reason()),
+            Refusal::Exhausted(_) => None,
+        }
+    }
 }
 
 impl From<Exhausted> for Refusal {

@@ -1,10 +1,17 @@
-//! Why an instruction is refused.
+//! Why an instruction is refused, where its place isn't told with it.
 
+ghost use Rattle.std.specs.Prelude.{◌≡◌};
+ghost use Rattle.tt_abs.specs.Refusals.{refusal_at};
+
+use crate::exhausted::Exhausted;
 use crate::failed::Failed;
+use crate::refusal::Refusal;
+use crate::spot::Spot;
 use std::alloc::AllocError;
 use thiserror::Error;
+use tt_code::Reason;
 
-/// Why an instruction is refused at its place.
+/// Why an instruction is refused at its place, or what it leads to can't be kept.
 #[derive(Debug, Drop, Error)]
 pub enum StepFault {
     /// A test of the instruction fails.
@@ -15,6 +22,22 @@ pub enum StepFault {
     OutOfMemory(AllocError),
 }
 
+impl StepFault {
+    /// Returns the refusal of the instruction that is at this place.
+    pub fn at(self, spot: Spot, offset: u32) -> Refusal
+        ensures { result ≡ refusal_at spot offset self }
+    {
+        match self {
+            StepFault::Refused(failed) => Refusal::Refused {
+                spot,
+                offset,
+                failed,
+            },
+            StepFault::OutOfMemory(_) => Refusal::Exhausted(Exhausted::Memory),
+        }
+    }
+}
+
 impl From<Failed> for StepFault {
     ghost use Rattle.std.specs.Prelude.{◌≡◌};
     ghost use Rattle.tt_abs.specs.declared.step_fault.StepFault.{StepFault};
@@ -23,6 +46,18 @@ impl From<Failed> for StepFault {
 
     fn from(failed: Failed) -> StepFault {
         StepFault::Refused(failed)
+    }
+}
+
+impl From<Reason> for StepFault {
+    ghost use Rattle.std.specs.Prelude.{◌≡◌};
+    ghost use Rattle.tt_abs.specs.declared.failed.Failed.TheVariants.{Only};
+    ghost use Rattle.tt_abs.specs.declared.step_fault.StepFault.{StepFault};
+
+    ghost from_gives = { λ r e. e ≡ StepFault.Refused (Only r) };
+
+    fn from(reason: Reason) -> StepFault {
+        StepFault::Refused(Failed::Only(reason))
     }
 }
 

@@ -110,11 +110,6 @@ pub fn transfer(
             let way = Move::To(other);
             Ok(Successors::Two(first, Successor { way, state }))
         }
-        Err(StepFault::Refused(failed)) => Err(Refusal::Refused {
-            spot: point.spot(),
-            offset: point.offset,
-            failed,
-        }),
-        Err(StepFault::OutOfMemory(error)) => Err(Refusal::from(error)),
+        Err(fault) => Err(fault.at(point.spot(), point.offset)),
     }
 }
