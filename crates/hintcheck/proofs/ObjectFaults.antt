@@ -7,7 +7,7 @@ use Rattle.hintcheck_words.specs.declared.words.Format.TheVariants.{Lines, Json,
 use Rattle.hintcheck.specs.CommandFaults.{IsFaultOfExplainingAs, IsFaultOfFileExplaining, IsFaultOfFontFile, IsUnexplained, IsWithin}
 use Rattle.hintcheck.specs.Commands.{IsNoWriteFault, status_of}
 use Rattle.tt_names.specs.Post.{post_of}
-use Rattle.tt_symbolic_check.specs.declared.refusal.Site.{Site}
+use Rattle.tt_symbolic_check.specs.declared.site.Site.{Site}
 use Rattle.hintcheck.specs.CalledGlyphs.{called_of}
 use Rattle.hintcheck.specs.JsonObjects.{explanation_object, unread_object}
 use Rattle.hintcheck.specs.Explanations.{status_of_explained}

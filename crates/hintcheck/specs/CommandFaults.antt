@@ -21,7 +21,7 @@ use Rattle.hintcheck.specs.Listing.{HoldNoSuchProgram}
 use Rattle.hintcheck.specs.Neighbours.{HoldNoSuchPlace}
 use Rattle.hintcheck.specs.ScannedNames.{HoldsOfNames}
 use Rattle.hintcheck.specs.SiteWords.{AskForSite, IsNoSite}
-use Rattle.tt_symbolic_check.specs.declared.refusal.Site.{Site}
+use Rattle.tt_symbolic_check.specs.declared.site.Site.{Site}
 use Rattle.hintcheck.specs.declared.commands.faults.CommandFault.{CommandFault}
 use Rattle.hintcheck.specs.declared.commands.faults.Container.TheVariants.{Other}
 use Rattle.hintcheck.specs.declared.commands.faults.Numbered.{Numbered}

@@ -9,7 +9,7 @@ use Rattle.tt_abs.specs.declared.refusal.Refusal.{Refusal}
 use Rattle.tt_abs.specs.declared.refusal.Refusal.TheVariants as fault
 use Rattle.tt_abs.specs.declared.spot.Spot.{Spot}
 use Rattle.tt_abs.specs.declared.spot.Spot.TheVariants as spot
-use Rattle.tt_symbolic_check.specs.declared.refusal.Site.{Site}
+use Rattle.tt_symbolic_check.specs.declared.site.Site.{Site}
 use Rattle.hintcheck_explain.specs.declared.asked.Explained.{Explained}
 use Rattle.hintcheck_explain.specs.declared.asked.Explained.TheVariants as explained
 use Rattle.hintcheck_fonts.specs.FontPrograms.{cvt_subject, font_of, font_subject, glyph_subject}

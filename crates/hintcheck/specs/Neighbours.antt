@@ -6,7 +6,7 @@ use Rattle.tt_code.specs.Table.{name_of}
 use Rattle.tt_font.specs.Reading.{FontData, Reads}
 use Rattle.hintcheck.specs.Explanations.{BeginsInstruction, HasSite, bytes_at}
 use Rattle.hintcheck.specs.Listing.{Names}
-use Rattle.tt_symbolic_check.specs.declared.refusal.Site.{Site}
+use Rattle.tt_symbolic_check.specs.declared.site.Site.{Site}
 use Rattle.hintcheck.specs.declared.commands.faults.CommandFault.{CommandFault}
 use Rattle.hintcheck.specs.declared.commands.faults.CommandFault.TheVariants as fault
 use Rattle.hintcheck.specs.declared.neighbours.Neighbour.{Neighbour}

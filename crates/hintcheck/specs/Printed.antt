@@ -23,7 +23,7 @@ use Rattle.hintcheck.specs.Listing.{HoldListedProgram, HoldToldProgram}
 use Rattle.hintcheck.specs.MeansSafe.{HoldExplainedBy, IsVerdictAsked}
 use Rattle.hintcheck.specs.ScannedNames.{HoldsOfNames}
 use Rattle.hintcheck.specs.SiteWords.{AskForSite}
-use Rattle.tt_symbolic_check.specs.declared.refusal.Site.{Site}
+use Rattle.tt_symbolic_check.specs.declared.site.Site.{Site}
 use Rattle.hintcheck.specs.Scans.{IsOfScan}
 use Rattle.hintcheck.specs.Texts.{upgraded_line, verdict_text}
 use Rattle.hintcheck_explain.specs.Texts.{WritesFirst, reason_line}

@@ -4,7 +4,7 @@ use Rattle.std.specs.Prelude.{◌≡◌, ◌++◌, ◌<◌, ◌^◌, codes, ℕ,
 use Rattle.std.specs.Fmt.{decimal}
 use Rattle.tt_abs.specs.declared.spot.Spot.{Spot}
 use Rattle.tt_abs.specs.declared.spot.Spot.TheVariants as spot
-use Rattle.tt_symbolic_check.specs.declared.refusal.Site.{Site}
+use Rattle.tt_symbolic_check.specs.declared.site.Site.{Site}
 
 -- what is before the offset
 abbrev pub spot_text : Spot → List ℕ

@@ -2,7 +2,7 @@
 //! calls.
 
 ghost use Rattle.std.specs.Prelude.{◌≡◌, ◌↔◌, ◌<◌, ◌^◌, IfErr, IfOk, IfSome, IsTrue, OnOk, Some, length, option_map, string_bytes};
-ghost use Rattle.tt_symbolic_check.specs.declared.refusal.Site.{Site as AnySite};
+ghost use Rattle.tt_symbolic_check.specs.declared.site.Site.{Site as AnySite};
 ghost use Rattle.hintcheck.specs.Explanations.{BeginsInstruction, HasSite, bytes_at as bytes_of};
 ghost use Rattle.hintcheck.specs.Neighbours.{IsFaultOfSite};
 ghost use Rattle.hintcheck.specs.SiteWords.{IsNoSite, IsOf32Bits, site_text};

@@ -11,7 +11,7 @@ use crate::font::list_outcome;
 use crate::program::cut;
 use crate::programs::refused as refused_outcome;
 use crate::report::{Name, Refused, Verdict};
-use crate::symbolic_check::{check_in_turn, refusal_of};
+use crate::symbolic_check::check_in_turn;
 use crate::symbolic_verdict::USUAL_STEPS;
 use std::alloc::{AllocError, Global};
 use tt_abs::{Exhausted, Kind, Refusal, Setting};
@@ -56,10 +56,8 @@ fn judge_bare(
         main: &program,
         ..for_font
     };
-    match check_in_turn(alloc, steps, &for_font, &for_cvt, &setting) {
-        Ok(()) => Ok(()),
-        Err(refusal) => Err(refusal_of(refusal)),
-    }
+    check_in_turn(alloc, steps, &for_font, &for_cvt, &setting)?;
+    Ok(())
 }
 
 /// Returns the only program, `g0`, if it is refused: that of the glyph of a font whose font program

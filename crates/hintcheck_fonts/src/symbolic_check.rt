@@ -5,17 +5,17 @@ ghost use Rattle.tt_abs.specs.Entries.{Ascends};
 ghost use Rattle.tt_abs.specs.Settings.{setting_of};
 ghost use Rattle.tt_symbolic_font.specs.Known.{StartGlyphs};
 ghost use Rattle.hintcheck_fonts.specs.Representation.FontVerdicts.{ComesToEnd};
-ghost use Rattle.hintcheck_fonts.specs.Representation.SymbolicChecks.{AreCheckedInTurn, IsCheckedBy, IsEnded, IsEndedBy, IsRunnable, refusal_as};
+ghost use Rattle.hintcheck_fonts.specs.Representation.SymbolicChecks.{AreCheckedInTurn, IsCheckedBy, IsEnded, IsEndedBy, IsRunnable};
 
 use crate::judge::Judge;
 use crate::report::Name;
 use std::alloc::{AllocError, Global};
 use std::mem;
-use tt_abs::{Failed, Kind, Refusal, Setting, SortedMap, Spot};
+use tt_abs::{Exhausted, Kind, Refusal, Setting, SortedMap};
 use tt_code::Reason;
 use tt_family::{Budget, is_short};
 use tt_symbolic::{Kept, NOTHING_KEPT};
-use tt_symbolic_check::{CheckRefusal, Effort, Start};
+use tt_symbolic_check::{Effort, Start};
 use tt_symbolic_font::{Ends, GlyphStarts, check_before_glyphs, start_with};
 use tt_symbolic_search::{Insight, Question, Search, USUAL_SEARCH};
 
@@ -73,7 +73,7 @@ fn check_to_end(
     effort: Effort,
     setting: &Setting<'_>,
     functions: &[(u16, u32)],
-) -> Result<Ends, CheckRefusal>
+) -> Result<Ends, Refusal>
     requires { Ascends functions.now }
     ensures { IfOk result (IsEnded (setting_of setting.now) functions.now) }
 {
@@ -100,15 +100,12 @@ fn check_glyph(
     effort: Effort,
     setting: &Setting<'_>,
     starts: &GlyphStarts,
-) -> Result<(), CheckRefusal>
+) -> Result<(), Refusal>
     ensures { OnOk result (IsRunnable (setting_of setting.now) starts.now) }
 {
     if !is_short(setting) {
-        return Err(CheckRefusal::Refused {
-            spot: Spot::Main,
-            offset: u32::from(setting.limits.program_size),
-            reason: Reason::ProgramTooLong,
-        });
+        let most = u32::from(setting.limits.program_size);
+        return Err(Refusal::in_main(most, Reason::ProgramTooLong));
     }
     let kept = Kept {
         storage: starts.storage.as_slice(),
@@ -160,7 +157,7 @@ fn check_found(
     font: &Setting<'_>,
     cvt: &Setting<'_>,
     glyph: &Setting<'_>,
-) -> Result<(), CheckRefusal>
+) -> Result<(), Refusal>
     ensures { OnOk result (AreCheckedInTurn (setting_of font.now) (setting_of cvt.now)
         (setting_of glyph.now)) }
 {
@@ -185,40 +182,12 @@ pub(crate) fn check_in_turn(
     font: &Setting<'_>,
     cvt: &Setting<'_>,
     glyph: &Setting<'_>,
-) -> Result<(), CheckRefusal>
+) -> Result<(), Refusal>
     ensures { OnOk result (AreCheckedInTurn (setting_of font.now) (setting_of cvt.now)
         (setting_of glyph.now)) }
 {
     let mut search = Search::new(alloc);
     check_found(alloc, &mut search, most_steps, font, cvt, glyph)
-}
-
-/// Returns the fault of a program that is refused so. Too many steps are told at the program's start.
-pub(crate) fn refusal_of(refusal: CheckRefusal) -> Refusal
-    ensures { result ≡ refusal_as refusal }
-{
-    match refusal {
-        CheckRefusal::Refused {
-            spot,
-            offset,
-            reason,
-        } => Refusal::Refused {
-            spot,
-            offset,
-            failed: Failed::Only(reason),
-        },
-        CheckRefusal::KeptEntry { spot, offset } => Refusal::Refused {
-            spot,
-            offset,
-            failed: Failed::Only(Reason::KeptEntry),
-        },
-        CheckRefusal::BudgetMet => Refusal::Refused {
-            spot: Spot::Main,
-            offset: 0,
-            failed: Failed::Only(Reason::TooManySteps),
-        },
-        CheckRefusal::OutOfMemory(error) => Refusal::from(error),
-    }
 }
 
 /// Returns what the search is asked about a program, where this is to be explained.
@@ -298,7 +267,7 @@ impl SymbolicCheck {
         alloc: Global,
         setting: &Setting<'_>,
         functions: &[(u16, u32)],
-    ) -> Result<(), CheckRefusal>
+    ) -> Result<(), Refusal>
         requires { Ascends functions.now }
         ensures ended { OnOk result (ComesToEnd (setting_of setting.now).kind
             → IsEnded (setting_of setting.now) functions.now self.new.ends) }
@@ -342,12 +311,24 @@ impl Judge for SymbolicCheck {
         self.search.ask(question_on(self.explained, program));
         match self.check(alloc, setting, start) {
             Ok(()) => Ok(()),
-            Err(refusal) => {
-                if let CheckRefusal::KeptEntry { .. } = &refusal {
+            Err(
+                Refusal::Refused {
+                    spot,
+                    offset,
+                    failed,
+                },
+            ) => {
+                if failed.reason() == Reason::KeptEntry {
                     self.may_write_kept = true;
                 }
-                Err(refusal_of(refusal))
+                Err(Refusal::Refused {
+                    spot,
+                    offset,
+                    failed,
+                })
             }
+            // No budget is handed to the search: memory ran out.
+            Err(Refusal::Exhausted(_)) => Err(Refusal::Exhausted(Exhausted::Memory)),
         }
     }
 

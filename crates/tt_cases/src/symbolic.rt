@@ -6,9 +6,9 @@ use crate::words::{Words, number_of};
 use anyhow::Result;
 use std::alloc::{AllocError, Global};
 use std::mem;
-use tt_abs::Setting;
+use tt_abs::{Refusal, Setting};
 use tt_symbolic::kept::{Kept, NOTHING_KEPT};
-use tt_symbolic_check::{CheckRefusal, Effort, Start, USUAL_EFFORT, check, start_state};
+use tt_symbolic_check::{Effort, Start, USUAL_EFFORT, check, start_state};
 use tt_symbolic_state::{Cell, OpenCall, Range, State};
 
 /// How much a check of programs may do: a comparison splits the range of any symbol.
@@ -24,19 +24,17 @@ const SMALL: Effort = Effort {
 };
 
 /// Returns the text of what a check tells.
-fn told_text<T: Drop>(alloc: Global, told: Result<T, CheckRefusal>) -> Result<String, AllocError> {
+fn told_text<T: Drop>(alloc: Global, told: Result<T, Refusal>) -> Result<String, AllocError> {
     let number = match told {
         Ok(_) => return String::from_str(alloc, "good"),
-        Err(CheckRefusal::Refused { reason, .. }) => reason.number(),
-        Err(CheckRefusal::KeptEntry { .. }) => 47,
-        Err(CheckRefusal::OutOfMemory(_)) => 9,
-        Err(CheckRefusal::BudgetMet) => 46,
+        Err(Refusal::Refused { failed, .. }) => failed.reason().number(),
+        Err(Refusal::Exhausted(_)) => 9,
     };
     format!(in alloc; "{number}")
 }
 
 /// Checks a program from a start, and returns what is known at the last of its ends.
-fn end_of(alloc: Global, setting: &Setting<'_>, start: Start) -> Result<Start, CheckRefusal> {
+fn end_of(alloc: Global, setting: &Setting<'_>, start: Start) -> Result<Start, Refusal> {
     let ends = check(alloc, setting, &NOTHING_KEPT, &[start], &[], WIDE)?;
     match ends.last() {
         Some(end) => Ok(Start::after(alloc, end)?),
@@ -45,7 +43,7 @@ fn end_of(alloc: Global, setting: &Setting<'_>, start: Start) -> Result<Start, C
 }
 
 /// Checks a font program, and returns what is known at the last of its ends: only the functions.
-fn functions_after(alloc: Global, setting: &Setting<'_>) -> Result<Start, CheckRefusal> {
+fn functions_after(alloc: Global, setting: &Setting<'_>) -> Result<Start, Refusal> {
     let mut end = end_of(alloc, setting, Start::unknown(alloc))?;
     let mut start = Start::unknown(alloc);
     mem::swap(&mut start.functions, &mut end.functions);
@@ -54,7 +52,7 @@ fn functions_after(alloc: Global, setting: &Setting<'_>) -> Result<Start, CheckR
 
 /// Checks programs one after the other, each from what is known at the end of the one before; of
 /// the font program's end only the functions.
-fn check_all(context: &Context<'_>, programs: &Programs<'_>) -> Result<Start, CheckRefusal> {
+fn check_all(context: &Context<'_>, programs: &Programs<'_>) -> Result<Start, Refusal> {
     let alloc = context.rt.alloc();
     let cvt = u32::from(context.cvt);
     let for_font = Setting::for_font_program(context.limits, cvt, &programs.font);

@@ -9,10 +9,10 @@ ghost use Rattle.tt_symbolic_state.specs.Shows.{values, zone_number};
 ghost use Rattle.tt_symbolic.specs.Representation.Changing.{Changes, ChangesAll, StoresAt, StoresBetween};
 
 use crate::areas::forget;
+use tt_abs::StepFault;
 use tt_code::Reason;
 use tt_code::kinds::{NewNumber, Pointer, Reference, Update};
 use tt_symbolic_cells::{reference, set_pointer, set_reference};
-use tt_symbolic_state::StepRefusal;
 use tt_symbolic_state::cell::{Cell, Range, bounds, is_in_machine, known, number};
 use tt_symbolic_state::stack::Stack;
 use tt_symbolic_state::state::{State, Zone};
@@ -88,7 +88,7 @@ fn change_reference(
     count: usize,
     which: Reference,
     position: u8,
-) -> Result<(), StepRefusal>
+) -> Result<(), StepFault>
     ensures { OnOk result (Changes count
         (update_kind.SetReference which (new_number.Taken position)) state.old state.new) }
 {
@@ -112,7 +112,7 @@ fn change_pointer(
     count: usize,
     which: Pointer,
     position: u8,
-) -> Result<(), StepRefusal>
+) -> Result<(), StepFault>
     ensures { OnOk result (Changes count
         (update_kind.SetPointer which position) state.old state.new) }
 {
@@ -123,7 +123,7 @@ fn change_pointer(
 }
 
 /// Sets the loop number.
-fn change_loop(state: &mut State, count: usize, position: u8) -> Result<(), StepRefusal>
+fn change_loop(state: &mut State, count: usize, position: u8) -> Result<(), StepFault>
     ensures { OnOk result (Changes count (update_kind.SetLoop position) state.old state.new) }
 {
     let cell = taken(&state.stack, count, position)?;
@@ -139,7 +139,7 @@ fn reset_loop(state: &mut State, count: usize)
 }
 
 /// Stores a cell at a known index.
-fn store_at(state: &mut State, index: u16, cell: Cell) -> Result<(), StepRefusal>
+fn store_at(state: &mut State, index: u16, cell: Cell) -> Result<(), StepFault>
     ensures { OnOk result (StoresAt index cell state.old state.new) }
 {
     state.storage.put(index, cell)?;
@@ -154,14 +154,14 @@ fn store_between(state: &mut State, low: i64, high: i64)
 }
 
 /// Stores an element in the storage area.
-fn store(state: &mut State, count: usize, at: u8, position: u8) -> Result<(), StepRefusal>
+fn store(state: &mut State, count: usize, at: u8, position: u8) -> Result<(), StepFault>
     ensures { OnOk result (Changes count (update_kind.Store at position) state.old state.new) }
 {
     let place = taken(&state.stack, count, at)?;
     let cell = taken(&state.stack, count, position)?;
     let ranges = state.ranges.as_slice();
     if !is_in_machine(cell, ranges) {
-        return Err(StepRefusal::Refused(Reason::UnknownOperand));
+        return Err(StepFault::from(Reason::UnknownOperand));
     }
     if let Ok(index) = index_of(place, ranges) {
         return store_at(state, index, cell);
@@ -172,7 +172,7 @@ fn store(state: &mut State, count: usize, at: u8, position: u8) -> Result<(), St
 }
 
 /// Makes one change by the `count` elements that are taken.
-fn update(state: &mut State, count: usize, change: Update) -> Result<(), StepRefusal>
+fn update(state: &mut State, count: usize, change: Update) -> Result<(), StepFault>
     ensures { OnOk result (Changes count change state.old state.new) }
 {
     match change {
@@ -197,7 +197,7 @@ fn update(state: &mut State, count: usize, change: Update) -> Result<(), StepRef
 ///
 /// # Errors
 /// `Refused` where one isn't known well enough; `OutOfMemory`.
-pub fn update_all(state: &mut State, count: usize, changes: &[Update]) -> Result<(), StepRefusal>
+pub fn update_all(state: &mut State, count: usize, changes: &[Update]) -> Result<(), StepFault>
     ensures { OnOk result (ChangesAll count changes.now state.old state.new) }
 {
     for change in changes {

@@ -6,9 +6,9 @@ ghost use Rattle.tt_symbolic_cells.specs.Answers.{IsAnswer, takes_one as takes_o
 ghost use Rattle.tt_symbolic.specs.Sound.{Computes, Puts};
 
 use crate::push::{pop, put};
+use tt_abs::StepFault;
 use tt_code::kinds::Arithmetic;
 use tt_symbolic_cells::{Answer, result_of_one, result_of_two, takes_one};
-use tt_symbolic_state::StepRefusal;
 use tt_symbolic_state::cell::{Range, known};
 use tt_symbolic_state::state::{State, fresh};
 
@@ -16,7 +16,7 @@ use tt_symbolic_state::state::{State, fresh};
 ///
 /// # Errors
 /// `OutOfMemory`; `Refused`, where a symbol's number is in use.
-fn put_within(state: &mut State, range: Range) -> Result<(), StepRefusal>
+fn put_within(state: &mut State, range: Range) -> Result<(), StepFault>
     ensures { OnOk result (Puts (λ v m controls z. IsWithin range z) state.old state.new) }
 {
     if range.low == range.high {
@@ -30,7 +30,7 @@ fn put_within(state: &mut State, range: Range) -> Result<(), StepRefusal>
 ///
 /// # Errors
 /// `OutOfMemory`; `Refused`, where a symbol's number is in use.
-pub fn put_answer(state: &mut State, answer: Answer) -> Result<(), StepRefusal>
+pub fn put_answer(state: &mut State, answer: Answer) -> Result<(), StepFault>
     ensures { OnOk result (Puts (λ v m controls z. IsAnswer answer v z) state.old state.new) }
 {
     match answer {
@@ -40,7 +40,7 @@ pub fn put_answer(state: &mut State, answer: Answer) -> Result<(), StepRefusal>
 }
 
 /// Carries out an instruction that takes the top.
-fn compute_one(state: &mut State, operation: Arithmetic) -> Result<(), StepRefusal>
+fn compute_one(state: &mut State, operation: Arithmetic) -> Result<(), StepFault>
     requires { takes_only_one operation ≡ true }
     ensures { OnOk result (Computes operation state.old state.new) }
 {
@@ -50,7 +50,7 @@ fn compute_one(state: &mut State, operation: Arithmetic) -> Result<(), StepRefus
 }
 
 /// Carries out an instruction that takes two cells.
-fn compute_two(state: &mut State, operation: Arithmetic) -> Result<(), StepRefusal>
+fn compute_two(state: &mut State, operation: Arithmetic) -> Result<(), StepFault>
     requires { takes_only_one operation ≡ false }
     ensures { OnOk result (Computes operation state.old state.new) }
 {
@@ -64,7 +64,7 @@ fn compute_two(state: &mut State, operation: Arithmetic) -> Result<(), StepRefus
 ///
 /// # Errors
 /// `Refused` where it may fault; `OutOfMemory`.
-pub fn compute(state: &mut State, operation: Arithmetic) -> Result<(), StepRefusal>
+pub fn compute(state: &mut State, operation: Arithmetic) -> Result<(), StepFault>
     ensures { OnOk result (Computes operation state.old state.new) }
 {
     if takes_one(operation) {

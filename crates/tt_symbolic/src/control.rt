@@ -11,11 +11,10 @@ ghost use Rattle.tt_symbolic.specs.Representation.Leading.{Closes, GoesTo, IsAt,
 use crate::push::pop;
 use std::alloc::AllocError;
 use tt_abs::setting::body_offset;
-use tt_abs::{Kind, Point, Setting, SortedMap};
+use tt_abs::{Kind, Point, Setting, SortedMap, StepFault};
 use tt_code::Reason;
 use tt_code::kinds::Control;
 use tt_symbolic_cells::truth_of;
-use tt_symbolic_state::StepRefusal;
 use tt_symbolic_state::cell::{Cell, Range, bounds, difference, known, number};
 use tt_symbolic_state::state::{OpenCall, State};
 
@@ -47,13 +46,13 @@ fn go_to(state: &mut State, offset: u32)
 }
 
 /// Carries out IF.
-fn branch(setting: &Setting<'_>, point: &Point<'_>, state: &mut State) -> Result<(), StepRefusal>
+fn branch(setting: &Setting<'_>, point: &Point<'_>, state: &mut State) -> Result<(), StepFault>
     requires { IsAt point.now state.old }
     ensures { OnOk result (Leads setting.now control.If state.old state.new) }
 {
     let condition = pop(state)?;
     let Some(holds) = truth_of(condition, state.ranges.as_slice()) else {
-        return Err(StepRefusal::Refused(Reason::UnknownOperand));
+        return Err(StepFault::from(Reason::UnknownOperand));
     };
     if holds {
         let next = next_offset(point)?;
@@ -61,19 +60,19 @@ fn branch(setting: &Setting<'_>, point: &Point<'_>, state: &mut State) -> Result
         return Ok(());
     }
     let Some(after) = setting.program(point).after_if(point.offset) else {
-        return Err(StepRefusal::Refused(Reason::Target));
+        return Err(StepFault::from(Reason::Target));
     };
     go_to(state, after);
     Ok(())
 }
 
 /// Carries out ELSE, where it is reached.
-fn skip_else(setting: &Setting<'_>, point: &Point<'_>, state: &mut State) -> Result<(), StepRefusal>
+fn skip_else(setting: &Setting<'_>, point: &Point<'_>, state: &mut State) -> Result<(), StepFault>
     requires { IsAt point.now state.old }
     ensures { OnOk result (Leads setting.now control.Else state.old state.new) }
 {
     let Some(after) = setting.program(point).after_else(point.offset) else {
-        return Err(StepRefusal::Refused(Reason::Target));
+        return Err(StepFault::from(Reason::Target));
     };
     go_to(state, after);
     Ok(())
@@ -110,14 +109,14 @@ fn is_within_depth(setting: &Setting<'_>, state: &State) -> bool
 }
 
 /// Carries out JMPR.
-fn jump(setting: &Setting<'_>, point: &Point<'_>, state: &mut State) -> Result<(), StepRefusal>
+fn jump(setting: &Setting<'_>, point: &Point<'_>, state: &mut State) -> Result<(), StepFault>
     requires { IsAt point.now state.old }
     ensures { OnOk result (Leads setting.now control.Jump state.old state.new) }
 {
     let distance = pop(state)?;
     let by = number_of(distance, state.ranges.as_slice())?;
     if !is_within_depth(setting, state) {
-        return Err(StepRefusal::Refused(Reason::Overflow));
+        return Err(StepFault::from(Reason::Overflow));
     }
     let target = jump_target(setting, point, by)?;
     go_to(state, target);
@@ -130,7 +129,7 @@ fn jump_if(
     point: &Point<'_>,
     state: &mut State,
     asked: bool,
-) -> Result<(), StepRefusal>
+) -> Result<(), StepFault>
     requires { IsAt point.now state.old }
     ensures { OnOk result (JumpsIf setting.now asked state.old state.new) }
 {
@@ -141,7 +140,7 @@ fn jump_if(
             if holds == asked {
                 let by = number_of(distance, state.ranges.as_slice())?;
                 if !is_within_depth(setting, state) {
-                    return Err(StepRefusal::Refused(Reason::Overflow));
+                    return Err(StepFault::from(Reason::Overflow));
                 }
                 let target = jump_target(setting, point, by)?;
                 go_to(state, target);
@@ -152,7 +151,7 @@ fn jump_if(
                 Ok(())
             }
         }
-        None => Err(StepRefusal::Refused(Reason::UnknownOperand)),
+        None => Err(StepFault::from(Reason::UnknownOperand)),
     }
 }
 
@@ -191,21 +190,21 @@ fn function_number(number: i32) -> Result<u16, Reason>
 }
 
 /// Carries out FDEF.
-fn define(setting: &Setting<'_>, point: &Point<'_>, state: &mut State) -> Result<(), StepRefusal>
+fn define(setting: &Setting<'_>, point: &Point<'_>, state: &mut State) -> Result<(), StepFault>
     requires { IsAt point.now state.old }
     ensures { OnOk result (Leads setting.now control.FunctionDefinition state.old state.new) }
 {
     if !may_define(setting) {
-        return Err(StepRefusal::Refused(Reason::Definition));
+        return Err(StepFault::from(Reason::Definition));
     }
     let top = pop(state)?;
     let number = number_of(top, state.ranges.as_slice())?;
     let function = function_number(number)?;
     if function >= setting.limits.functions {
-        return Err(StepRefusal::Refused(Reason::Function));
+        return Err(StepFault::from(Reason::Function));
     }
     let Some(after) = setting.program(point).after_fdef(point.offset) else {
-        return Err(StepRefusal::Refused(Reason::Target));
+        return Err(StepFault::from(Reason::Target));
     };
     let start = next_offset(point)?;
     let body = body_name(setting, start)?;
@@ -252,11 +251,11 @@ fn push_call(calls: &mut Vec<OpenCall>, call: OpenCall) -> Result<(), AllocError
 }
 
 /// Opens a call of a body, with as many turns left after the first.
-fn enter(state: &mut State, call: OpenCall) -> Result<(), StepRefusal>
+fn enter(state: &mut State, call: OpenCall) -> Result<(), StepFault>
     ensures { OnOk result (Opens call state.old state.new) }
 {
     if is_running(state.calls.as_slice(), call.body) {
-        return Err(StepRefusal::Refused(Reason::Recursion));
+        return Err(StepFault::from(Reason::Recursion));
     }
     push_call(&mut state.calls, call)?;
     state.offset = body_offset(call.body);
@@ -264,7 +263,7 @@ fn enter(state: &mut State, call: OpenCall) -> Result<(), StepRefusal>
 }
 
 /// Carries out CALL.
-fn call(setting: &Setting<'_>, state: &mut State) -> Result<(), StepRefusal>
+fn call(setting: &Setting<'_>, state: &mut State) -> Result<(), StepFault>
     ensures { OnOk result (Leads setting.now control.Call state.old state.new) }
 {
     let top = pop(state)?;
@@ -279,12 +278,12 @@ fn call(setting: &Setting<'_>, state: &mut State) -> Result<(), StepRefusal>
 }
 
 /// Calls a body as many times as a count says.
-fn repeat(point: &Point<'_>, state: &mut State, body: u32, count: Cell) -> Result<(), StepRefusal>
+fn repeat(point: &Point<'_>, state: &mut State, body: u32, count: Cell) -> Result<(), StepFault>
     requires { point.now.offset ≡ state.old.offset }
     ensures { OnOk result (Repeats body count state.old state.new) }
 {
     let Some((low, high)) = bounds(count, state.ranges.as_slice()) else {
-        return Err(StepRefusal::Refused(Reason::UnknownOperand));
+        return Err(StepFault::from(Reason::UnknownOperand));
     };
     if high <= 0 {
         let next = next_offset(point)?;
@@ -292,10 +291,10 @@ fn repeat(point: &Point<'_>, state: &mut State, body: u32, count: Cell) -> Resul
         return Ok(());
     }
     if low <= 0 {
-        return Err(StepRefusal::Refused(Reason::UnknownOperand));
+        return Err(StepFault::from(Reason::UnknownOperand));
     }
     let Some(left) = difference(count, known(1)) else {
-        return Err(StepRefusal::Refused(Reason::UnknownOperand));
+        return Err(StepFault::from(Reason::UnknownOperand));
     };
     let open = OpenCall {
         body,
@@ -306,7 +305,7 @@ fn repeat(point: &Point<'_>, state: &mut State, body: u32, count: Cell) -> Resul
 }
 
 /// Carries out LOOPCALL.
-fn loop_call(setting: &Setting<'_>, point: &Point<'_>, state: &mut State) -> Result<(), StepRefusal>
+fn loop_call(setting: &Setting<'_>, point: &Point<'_>, state: &mut State) -> Result<(), StepFault>
     requires { IsAt point.now state.old }
     ensures { OnOk result (Leads setting.now control.LoopCall state.old state.new) }
 {
@@ -328,25 +327,25 @@ fn close(state: &mut State) -> Result<OpenCall, Reason>
 }
 
 /// Carries out ENDF.
-fn end_function(setting: &Setting<'_>, state: &mut State) -> Result<(), StepRefusal>
+fn end_function(setting: &Setting<'_>, state: &mut State) -> Result<(), StepFault>
     ensures { OnOk result (Leads setting.now control.EndFunction state.old state.new) }
 {
     let call = close(state)?;
     let Some((low, high)) = bounds(call.left, state.ranges.as_slice()) else {
-        return Err(StepRefusal::Refused(Reason::UnknownOperand));
+        return Err(StepFault::from(Reason::UnknownOperand));
     };
     if high <= 0 {
         let Some(next) = call.call.checked_add(1) else {
-            return Err(StepRefusal::Refused(Reason::Target));
+            return Err(StepFault::from(Reason::Target));
         };
         go_to(state, next);
         return Ok(());
     }
     if low <= 0 {
-        return Err(StepRefusal::Refused(Reason::UnknownOperand));
+        return Err(StepFault::from(Reason::UnknownOperand));
     }
     let Some(left) = difference(call.left, known(1)) else {
-        return Err(StepRefusal::Refused(Reason::UnknownOperand));
+        return Err(StepFault::from(Reason::UnknownOperand));
     };
     let open = OpenCall {
         body: call.body,
@@ -365,7 +364,7 @@ pub fn execute_control(
     point: &Point<'_>,
     state: &mut State,
     operation: Control,
-) -> Result<(), StepRefusal>
+) -> Result<(), StepFault>
     requires { IsAt point.now state.old }
     ensures { OnOk result (Leads setting.now operation state.old state.new) }
 {
@@ -379,8 +378,6 @@ pub fn execute_control(
         Control::Call => call(setting, state),
         Control::LoopCall => loop_call(setting, point, state),
         Control::EndFunction => end_function(setting, state),
-        Control::InstructionDefinition => {
-            Err(StepRefusal::Refused(Reason::InstructionDefinition))
-        }
+        Control::InstructionDefinition => { Err(StepFault::from(Reason::InstructionDefinition)) }
     }
 }

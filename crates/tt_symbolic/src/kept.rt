@@ -13,11 +13,10 @@ ghost use Rattle.tt_symbolic.specs.Steps.{StepsTo};
 use crate::changes::index_bounds;
 use crate::refined::pair_count;
 use crate::step::{frame_of, innermost, is_ordinary, perform};
-use tt_abs::{Point, Setting};
+use tt_abs::{Point, Setting, StepFault};
 use tt_code::kinds::{Effect, Update};
 use tt_code::{Instr, Reason, entry};
 use tt_symbolic_cells::cell_under;
-use tt_symbolic_state::StepRefusal;
 use tt_symbolic_state::cell::{Cell, Range};
 use tt_symbolic_state::state::State;
 
@@ -229,20 +228,20 @@ fn step_keeping_at(
     point: &Point<'_>,
     kept: &Kept<'_>,
     state: &mut State,
-) -> Result<(), StepRefusal>
+) -> Result<(), StepFault>
     requires { IsAt point.now state.old }
     ensures steps { OnOk result (StepsTo setting.now state.old state.new) }
     ensures keeps { OnOk result (StepsKeep (setting_of setting.now) kept.now state.old) }
 {
     let Some(instr) = setting.instruction(point) else {
-        return Err(StepRefusal::Refused(Reason::Target));
+        return Err(StepFault::from(Reason::Target));
     };
     let keeps_entries = keeps_by(setting, point, state, kept, &instr);
     perform(setting, point, state, &instr)?;
     if keeps_entries {
         Ok(())
     } else {
-        Err(StepRefusal::KeptEntry)
+        Err(StepFault::from(Reason::KeptEntry))
     }
 }
 
@@ -256,7 +255,7 @@ pub fn step_keeping(
     setting: &Setting<'_>,
     kept: &Kept<'_>,
     state: &mut State,
-) -> Result<(), StepRefusal>
+) -> Result<(), StepFault>
     ensures steps { OnOk result (StepsTo setting.now state.old state.new) }
     ensures keeps { OnOk result (StepsKeep (setting_of setting.now) kept.now state.old) }
 {

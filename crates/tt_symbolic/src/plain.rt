@@ -8,16 +8,15 @@ ghost use Rattle.tt_symbolic.specs.Sound.{Puts};
 
 use crate::changes::{index_of, taken, update_all};
 use crate::push::put;
-use tt_abs::Setting;
+use tt_abs::{Setting, StepFault};
 use tt_code::Reason;
 use tt_code::kinds::{Pushed, Row, Update};
 use tt_symbolic_cells::{take_operands, test_uses};
-use tt_symbolic_state::StepRefusal;
 use tt_symbolic_state::cell::{Cell, FULL};
 use tt_symbolic_state::state::{State, fresh};
 
 /// Puts any number on top.
-pub fn put_any(state: &mut State) -> Result<(), StepRefusal>
+pub fn put_any(state: &mut State) -> Result<(), StepFault>
     ensures { OnOk result (Puts IsAny state.old state.new) }
 {
     let cell = fresh(state, FULL)?;
@@ -25,7 +24,7 @@ pub fn put_any(state: &mut State) -> Result<(), StepRefusal>
 }
 
 /// Lists a storage cell of which nothing was known, and returns its number.
-fn list_stored(state: &mut State, index: u16) -> Result<Cell, StepRefusal>
+fn list_stored(state: &mut State, index: u16) -> Result<Cell, StepFault>
     ensures { IfOk result (ListsStored index state.old state.new) }
 {
     let cell = fresh(state, FULL)?;
@@ -34,7 +33,7 @@ fn list_stored(state: &mut State, index: u16) -> Result<Cell, StepRefusal>
 }
 
 /// Lists a control value of which nothing was known, and returns it.
-fn list_control(state: &mut State, index: u16) -> Result<Cell, StepRefusal>
+fn list_control(state: &mut State, index: u16) -> Result<Cell, StepFault>
     ensures { IfOk result (ListsControl index state.old state.new) }
 {
     let cell = fresh(state, FULL)?;
@@ -43,7 +42,7 @@ fn list_control(state: &mut State, index: u16) -> Result<Cell, StepRefusal>
 }
 
 /// Puts the number in a storage cell on top.
-fn put_stored(state: &mut State, index: u16) -> Result<(), StepRefusal>
+fn put_stored(state: &mut State, index: u16) -> Result<(), StepFault>
     ensures { OnOk result (Puts (IsStoredAt index) state.old state.new) }
 {
     match state.storage.get(index) {
@@ -56,7 +55,7 @@ fn put_stored(state: &mut State, index: u16) -> Result<(), StepRefusal>
 }
 
 /// Puts a control value on top.
-pub fn put_control(state: &mut State, index: u16) -> Result<(), StepRefusal>
+pub fn put_control(state: &mut State, index: u16) -> Result<(), StepFault>
     ensures { OnOk result (Puts (IsControlAt index) state.old state.new) }
 {
     match state.controls.get(index) {
@@ -76,7 +75,7 @@ pub fn cut(state: &mut State, count: usize)
 }
 
 /// Makes the changes, and removes the operands.
-fn finish_changes(state: &mut State, count: usize, changes: &[Update]) -> Result<(), StepRefusal>
+fn finish_changes(state: &mut State, count: usize, changes: &[Update]) -> Result<(), StepFault>
     ensures { OnOk result (Finishes count changes.now [] state.old state.new) }
 {
     update_all(state, count, changes)?;
@@ -85,7 +84,7 @@ fn finish_changes(state: &mut State, count: usize, changes: &[Update]) -> Result
 }
 
 /// Removes the operands, and puts any number on top.
-fn finish_any(state: &mut State, count: usize) -> Result<(), StepRefusal>
+fn finish_any(state: &mut State, count: usize) -> Result<(), StepFault>
     ensures { OnOk result (Finishes count [] (pushed_kind.Any ∷ []) state.old state.new) }
 {
     cut(state, count);
@@ -94,7 +93,7 @@ fn finish_any(state: &mut State, count: usize) -> Result<(), StepRefusal>
 }
 
 /// Removes the operands, and puts any two numbers on top.
-fn finish_two(state: &mut State, count: usize) -> Result<(), StepRefusal>
+fn finish_two(state: &mut State, count: usize) -> Result<(), StepFault>
     ensures { OnOk result (Finishes count [] (pushed_kind.Any ∷ pushed_kind.Any ∷ [])
         state.old state.new) }
 {
@@ -105,7 +104,7 @@ fn finish_two(state: &mut State, count: usize) -> Result<(), StepRefusal>
 }
 
 /// Removes the operands, and puts a stored number on top.
-fn finish_stored(state: &mut State, count: usize, position: u8) -> Result<(), StepRefusal>
+fn finish_stored(state: &mut State, count: usize, position: u8) -> Result<(), StepFault>
     ensures { OnOk result (Finishes count [] (pushed_kind.Stored position ∷ [])
         state.old state.new) }
 {
@@ -125,14 +124,14 @@ fn finish_stored(state: &mut State, count: usize, position: u8) -> Result<(), St
 }
 
 /// Removes the operands and pushes.
-fn finish_pushes(state: &mut State, count: usize, pushes: &[Pushed]) -> Result<(), StepRefusal>
+fn finish_pushes(state: &mut State, count: usize, pushes: &[Pushed]) -> Result<(), StepFault>
     ensures { OnOk result (Finishes count [] pushes.now state.old state.new) }
 {
     match pushes {
         [Pushed::Any] => finish_any(state, count),
         [Pushed::Any, Pushed::Any] => finish_two(state, count),
         [Pushed::Stored(position)] => finish_stored(state, count, *position),
-        _ => Err(StepRefusal::Refused(Reason::UnknownOperand)),
+        _ => Err(StepFault::from(Reason::UnknownOperand)),
     }
 }
 
@@ -142,14 +141,14 @@ fn finish(
     count: usize,
     changes: &[Update],
     pushes: &[Pushed],
-) -> Result<(), StepRefusal>
+) -> Result<(), StepFault>
     ensures { OnOk result (Finishes count changes.now pushes.now state.old state.new) }
 {
     match pushes {
         [] => finish_changes(state, count, changes),
         _ => match changes {
             [] => finish_pushes(state, count, pushes),
-            _ => Err(StepRefusal::Refused(Reason::UnknownOperand)),
+            _ => Err(StepFault::from(Reason::UnknownOperand)),
         },
     }
 }
@@ -158,11 +157,7 @@ fn finish(
 ///
 /// # Errors
 /// `Refused` where it may fault, or isn't known well enough; `OutOfMemory`.
-pub fn execute_plain(
-    setting: &Setting<'_>,
-    state: &mut State,
-    line: &Row,
-) -> Result<(), StepRefusal>
+pub fn execute_plain(setting: &Setting<'_>, state: &mut State, line: &Row) -> Result<(), StepFault>
     ensures { OnOk result (PlainWorks (setting_of setting.now) line.now state.old state.new) }
 {
     let ranges = state.ranges.as_slice();

@@ -3,9 +3,9 @@
 ghost use Rattle.std.specs.Prelude.{IfOk, OnOk};
 ghost use Rattle.tt_symbolic.specs.Sound.{Pops, Pushes};
 
+use tt_abs::StepFault;
 use tt_code::Reason;
 use tt_symbolic_cells::cell_under;
-use tt_symbolic_state::StepRefusal;
 use tt_symbolic_state::cell::{Cell, FULL, Range};
 use tt_symbolic_state::state::{State, fresh};
 
@@ -25,7 +25,7 @@ pub fn pop(state: &mut State) -> Result<Cell, Reason>
 ///
 /// # Errors
 /// `OutOfMemory`.
-pub fn put(state: &mut State, cell: Cell) -> Result<(), StepRefusal>
+pub fn put(state: &mut State, cell: Cell) -> Result<(), StepFault>
     ensures { OnOk result (Pushes state.old state.new cell) }
 {
     state.stack.push(cell)?;

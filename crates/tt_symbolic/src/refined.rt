@@ -13,11 +13,10 @@ use crate::changes::{index_bounds, index_of};
 use crate::compute::put_answer;
 use crate::plain::{cut, execute_plain, put_any, put_control};
 use crate::push::pop;
-use tt_abs::Setting;
+use tt_abs::{Setting, StepFault};
 use tt_code::Reason;
 use tt_code::kinds::Row;
 use tt_symbolic_cells::{Exact, answer_of_one, answer_of_two, cell_under, is_index, refusal_of};
-use tt_symbolic_state::StepRefusal;
 use tt_symbolic_state::cell::{Cell, is_in_machine, number};
 use tt_symbolic_state::state::State;
 
@@ -25,12 +24,12 @@ use tt_symbolic_state::state::State;
 ///
 /// # Errors
 /// `Refused` where the index may be none of a control value; `OutOfMemory`.
-pub fn read_control(setting: &Setting<'_>, state: &mut State) -> Result<(), StepRefusal>
+pub fn read_control(setting: &Setting<'_>, state: &mut State) -> Result<(), StepFault>
     ensures { OnOk result (ReadWorks (setting_of setting.now) state.old state.new) }
 {
     let cell = cell_under(&state.stack, 0)?;
     if !is_index(state.ranges.as_slice(), cell, setting.cvt) {
-        return Err(StepRefusal::Refused(refusal_of(state.ranges.as_slice(), cell, Reason::Cvt)));
+        return Err(StepFault::from(refusal_of(state.ranges.as_slice(), cell, Reason::Cvt)));
     }
     match index_of(cell, state.ranges.as_slice()) {
         Ok(index) => {
@@ -48,13 +47,13 @@ pub fn read_control(setting: &Setting<'_>, state: &mut State) -> Result<(), Step
 ///
 /// # Errors
 /// `Refused` where the index may be none of a control value.
-pub fn change_control(setting: &Setting<'_>, state: &mut State) -> Result<(), StepRefusal>
+pub fn change_control(setting: &Setting<'_>, state: &mut State) -> Result<(), StepFault>
     ensures { OnOk result (ChangeWorks (setting_of setting.now) state.old state.new) }
 {
     cell_under(&state.stack, 0)?;
     let place = cell_under(&state.stack, 1)?;
     if !is_index(state.ranges.as_slice(), place, setting.cvt) {
-        return Err(StepRefusal::Refused(refusal_of(state.ranges.as_slice(), place, Reason::Cvt)));
+        return Err(StepFault::from(refusal_of(state.ranges.as_slice(), place, Reason::Cvt)));
     }
     let (low, high) = index_bounds(place, state.ranges.as_slice())?;
     cut(state, 2);
@@ -63,7 +62,7 @@ pub fn change_control(setting: &Setting<'_>, state: &mut State) -> Result<(), St
 }
 
 /// Forgets the control value that the index of a pair under the top may name.
-fn forget_pair(state: &mut State, pair: u32) -> Result<(), StepRefusal>
+fn forget_pair(state: &mut State, pair: u32) -> Result<(), StepFault>
     ensures { OnOk result (ForgetsPair pair state.old state.new) }
 {
     let below = pair as usize;
@@ -74,7 +73,7 @@ fn forget_pair(state: &mut State, pair: u32) -> Result<(), StepRefusal>
 }
 
 /// Forgets the control values that the indexes of the first pairs under the top may name.
-fn forget_pairs(state: &mut State, count: u32) -> Result<(), StepRefusal>
+fn forget_pairs(state: &mut State, count: u32) -> Result<(), StepFault>
     ensures { OnOk result (ForgetsPairs count state.old state.new) }
 {
     for pair in 0..count {
@@ -108,7 +107,7 @@ pub fn change_controls(
     setting: &Setting<'_>,
     state: &mut State,
     line: &Row,
-) -> Result<(), StepRefusal>
+) -> Result<(), StepFault>
     ensures { OnOk result (ChangesWork (setting_of setting.now) line.now state.old state.new) }
 {
     let count = pair_count(state)?;
@@ -120,16 +119,16 @@ pub fn change_controls(
 ///
 /// # Errors
 /// `Refused` where the index may be none of a control value; `OutOfMemory`.
-pub fn write_control(setting: &Setting<'_>, state: &mut State) -> Result<(), StepRefusal>
+pub fn write_control(setting: &Setting<'_>, state: &mut State) -> Result<(), StepFault>
     ensures { OnOk result (WriteWorks (setting_of setting.now) state.old state.new) }
 {
     let cell = cell_under(&state.stack, 0)?;
     if !is_in_machine(cell, state.ranges.as_slice()) {
-        return Err(StepRefusal::Refused(Reason::UnknownOperand));
+        return Err(StepFault::from(Reason::UnknownOperand));
     }
     let place = cell_under(&state.stack, 1)?;
     if !is_index(state.ranges.as_slice(), place, setting.cvt) {
-        return Err(StepRefusal::Refused(refusal_of(state.ranges.as_slice(), place, Reason::Cvt)));
+        return Err(StepFault::from(refusal_of(state.ranges.as_slice(), place, Reason::Cvt)));
     }
     if let Ok(index) = index_of(place, state.ranges.as_slice()) {
         cut(state, 2);
@@ -150,7 +149,7 @@ pub fn compute_exact_of_two(
     setting: &Setting<'_>,
     state: &mut State,
     operation: Exact,
-) -> Result<(), StepRefusal>
+) -> Result<(), StepFault>
     requires { exact_line operation ≡ of_two_line }
     ensures { OnOk result (ExactWorks operation (setting_of setting.now) state.old state.new) }
 {
@@ -168,7 +167,7 @@ pub fn compute_exact_of_one(
     setting: &Setting<'_>,
     state: &mut State,
     operation: Exact,
-) -> Result<(), StepRefusal>
+) -> Result<(), StepFault>
     requires { exact_line operation ≡ of_one_line }
     ensures { OnOk result (ExactWorks operation (setting_of setting.now) state.old state.new) }
 {

@@ -16,11 +16,10 @@ use crate::refined::{
     change_control, change_controls, compute_exact_of_one, compute_exact_of_two, read_control,
     write_control,
 };
-use tt_abs::{Point, Setting};
+use tt_abs::{Point, Setting, StepFault};
 use tt_code::kinds::Effect;
 use tt_code::{Frame, Instr, Reason, entry};
 use tt_symbolic_cells::{Exact, push_data, shuffle};
-use tt_symbolic_state::StepRefusal;
 use tt_symbolic_state::state::{OpenCall, State};
 
 /// Carries out an instruction that goes on at the next one, by its effect.
@@ -28,7 +27,7 @@ fn execute_ordinary(
     setting: &Setting<'_>,
     state: &mut State,
     instr: &Instr<'_>,
-) -> Result<(), StepRefusal>
+) -> Result<(), StepFault>
     ensures { OnOk result
         (CarriesOut (setting_of setting.now) (always keeps_controls) instr.now state.old
         state.new) }
@@ -43,7 +42,7 @@ fn execute_ordinary(
             shuffle(&mut state.stack, state.ranges.as_slice(), *operation)
         }
         Effect::Arithmetic(operation) => compute(state, *operation),
-        _ => Err(StepRefusal::Refused(Reason::Opcode)),
+        _ => Err(StepFault::from(Reason::Opcode)),
     }
 }
 
@@ -70,14 +69,14 @@ fn execute_delta(
     setting: &Setting<'_>,
     state: &mut State,
     instr: &Instr<'_>,
-) -> Result<(), StepRefusal>
+) -> Result<(), StepFault>
     requires { (c : ℕ) → code_of instr.now ≡ Some c → refinement_of c ≡ ChangesControls }
     ensures { OnOk result
         (CarriesOut (setting_of setting.now) refined_by instr.now state.old state.new) }
 {
     match entry(instr.code()) {
         Effect::Plain(line) => change_controls(setting, state, line),
-        _ => Err(StepRefusal::Refused(Reason::Opcode)),
+        _ => Err(StepFault::from(Reason::Opcode)),
     }
 }
 
@@ -86,7 +85,7 @@ fn execute_here(
     setting: &Setting<'_>,
     state: &mut State,
     instr: &Instr<'_>,
-) -> Result<(), StepRefusal>
+) -> Result<(), StepFault>
     ensures { OnOk result
         (CarriesOut (setting_of setting.now) refined_by instr.now state.old state.new) }
 {
@@ -107,20 +106,16 @@ fn execute_here(
         0x62 => compute_exact_of_two(setting, state, Exact::Quotient),
         0x66 => compute_exact_of_one(setting, state, Exact::Floor),
         0x67 => compute_exact_of_one(setting, state, Exact::Ceiling),
-        _ => Err(StepRefusal::Refused(Reason::Cvt)),
+        _ => Err(StepFault::from(Reason::Cvt)),
     }
 }
 
 /// Carries out an instruction that goes on at the next one, and goes there.
-fn execute_on(
-    setting: &Setting<'_>,
-    state: &mut State,
-    instr: &Instr<'_>,
-) -> Result<(), StepRefusal>
+fn execute_on(setting: &Setting<'_>, state: &mut State, instr: &Instr<'_>) -> Result<(), StepFault>
     ensures { OnOk result (Dispatches setting.now instr.now state.old state.new) }
 {
     let Some(next) = state.offset.checked_add(instr.len()) else {
-        return Err(StepRefusal::Refused(Reason::Target));
+        return Err(StepFault::from(Reason::Target));
     };
     execute_here(setting, state, instr)?;
     state.offset = next;
@@ -133,7 +128,7 @@ fn dispatch(
     point: &Point<'_>,
     state: &mut State,
     instr: &Instr<'_>,
-) -> Result<(), StepRefusal>
+) -> Result<(), StepFault>
     requires { IsAt point.now state.old }
     ensures { OnOk result (Dispatches setting.now instr.now state.old state.new) }
 {
@@ -171,7 +166,7 @@ pub(crate) fn perform(
     point: &Point<'_>,
     state: &mut State,
     instr: &Instr<'_>,
-) -> Result<(), StepRefusal>
+) -> Result<(), StepFault>
     requires place { IsAt point.now state.old }
     requires there { point_instruction setting.now point.now ≡ Some instr.now }
     ensures { OnOk result (StepsTo setting.now state.old state.new) }
@@ -179,19 +174,19 @@ pub(crate) fn perform(
     prove!(u32::from(instr.code()) < 256);
     dispatch(setting, point, state, instr)?;
     if state.stack.len() > usize::from(setting.limits.stack) {
-        return Err(StepRefusal::Refused(Reason::Overflow));
+        return Err(StepFault::from(Reason::Overflow));
     }
     Ok(())
 }
 
 /// Carries out the instruction at the state's point, if one starts there.
-fn step_at(setting: &Setting<'_>, point: &Point<'_>, state: &mut State) -> Result<(), StepRefusal>
+fn step_at(setting: &Setting<'_>, point: &Point<'_>, state: &mut State) -> Result<(), StepFault>
     requires { IsAt point.now state.old }
     ensures { OnOk result (StepsTo setting.now state.old state.new) }
 {
     match setting.instruction(point) {
         Some(instr) => perform(setting, point, state, &instr),
-        None => Err(StepRefusal::Refused(Reason::Target)),
+        None => Err(StepFault::from(Reason::Target)),
     }
 }
 
@@ -201,7 +196,7 @@ fn step_at(setting: &Setting<'_>, point: &Point<'_>, state: &mut State) -> Resul
 /// # Errors
 /// `Refused` where a machine that the state shows may fault, or where not enough is known;
 /// `OutOfMemory`.
-pub fn step(setting: &Setting<'_>, state: &mut State) -> Result<(), StepRefusal>
+pub fn step(setting: &Setting<'_>, state: &mut State) -> Result<(), StepFault>
     ensures { OnOk result (StepsTo setting.now state.old state.new) }
 {
     let offset = state.offset;

@@ -8,9 +8,9 @@ ghost use Rattle.tt_symbolic_state.specs.declared.cell.Cell.{Cell as AnyCell};
 ghost use Rattle.tt_symbolic_cells.specs.Stacking.{Restacks};
 
 use std::alloc::AllocError;
+use tt_abs::StepFault;
 use tt_code::Reason;
 use tt_code::kinds::StackOp;
-use tt_symbolic_state::StepRefusal;
 use tt_symbolic_state::cell::{Cell, Range, known, number};
 use tt_symbolic_state::stack::Stack;
 
@@ -28,7 +28,7 @@ pub fn cell_under(stack: &Stack, taken: usize) -> Result<Cell, Reason>
 }
 
 /// Carries out DUP.
-fn duplicate(stack: &mut Stack, ranges: &[Range]) -> Result<(), StepRefusal>
+fn duplicate(stack: &mut Stack, ranges: &[Range]) -> Result<(), StepFault>
     ensures { OnOk result (Restacks (shuffled op.Dup) ranges.now stack.old stack.new) }
 {
     let top = cell_under(stack, 0)?;
@@ -37,7 +37,7 @@ fn duplicate(stack: &mut Stack, ranges: &[Range]) -> Result<(), StepRefusal>
 }
 
 /// Carries out POP.
-fn discard(stack: &mut Stack, ranges: &[Range]) -> Result<(), StepRefusal>
+fn discard(stack: &mut Stack, ranges: &[Range]) -> Result<(), StepFault>
     ensures { OnOk result (Restacks (shuffled op.Pop) ranges.now stack.old stack.new) }
 {
     cell_under(stack, 0)?;
@@ -46,7 +46,7 @@ fn discard(stack: &mut Stack, ranges: &[Range]) -> Result<(), StepRefusal>
 }
 
 /// Carries out SWAP.
-fn swap(stack: &mut Stack, ranges: &[Range]) -> Result<(), StepRefusal>
+fn swap(stack: &mut Stack, ranges: &[Range]) -> Result<(), StepFault>
     ensures { OnOk result (Restacks (shuffled op.Swap) ranges.now stack.old stack.new) }
 {
     let top = cell_under(stack, 0)?;
@@ -65,7 +65,7 @@ fn clear(stack: &mut Stack, ranges: &[Range])
 }
 
 /// Carries out DEPTH.
-fn push_depth(stack: &mut Stack, ranges: &[Range]) -> Result<(), StepRefusal>
+fn push_depth(stack: &mut Stack, ranges: &[Range]) -> Result<(), StepFault>
     ensures { OnOk result (Restacks (shuffled op.Depth) ranges.now stack.old stack.new) }
 {
     match i32::try_from(stack.len()) {
@@ -73,7 +73,7 @@ fn push_depth(stack: &mut Stack, ranges: &[Range]) -> Result<(), StepRefusal>
             stack.push(known(depth))?;
             Ok(())
         }
-        Err(_) => Err(StepRefusal::Refused(Reason::Overflow)),
+        Err(_) => Err(StepFault::from(Reason::Overflow)),
     }
 }
 
@@ -93,7 +93,7 @@ fn indexed(stack: &Stack, ranges: &[Range]) -> Result<usize, Reason>
 }
 
 /// Carries out CINDEX.
-fn copy_indexed(stack: &mut Stack, ranges: &[Range]) -> Result<(), StepRefusal>
+fn copy_indexed(stack: &mut Stack, ranges: &[Range]) -> Result<(), StepFault>
     ensures { OnOk result (Restacks (shuffled op.CopyIndexed) ranges.now stack.old stack.new) }
 {
     let above = indexed(stack, ranges)?;
@@ -104,14 +104,14 @@ fn copy_indexed(stack: &mut Stack, ranges: &[Range]) -> Result<(), StepRefusal>
 }
 
 /// Carries out MINDEX.
-fn move_indexed(stack: &mut Stack, ranges: &[Range]) -> Result<(), StepRefusal>
+fn move_indexed(stack: &mut Stack, ranges: &[Range]) -> Result<(), StepFault>
     ensures { OnOk result (Restacks (shuffled op.MoveIndexed) ranges.now stack.old stack.new) }
 {
     let above = indexed(stack, ranges)?;
     stack.cut(1);
     let cell = cell_under(stack, above)?;
     if above >= stack.len() {
-        return Err(StepRefusal::Refused(Reason::Underflow));
+        return Err(StepFault::from(Reason::Underflow));
     }
     stack.remove(above);
     stack.push(cell)?;
@@ -119,7 +119,7 @@ fn move_indexed(stack: &mut Stack, ranges: &[Range]) -> Result<(), StepRefusal>
 }
 
 /// Carries out ROLL.
-fn roll(stack: &mut Stack, ranges: &[Range]) -> Result<(), StepRefusal>
+fn roll(stack: &mut Stack, ranges: &[Range]) -> Result<(), StepFault>
     ensures { OnOk result (Restacks (shuffled op.Roll) ranges.now stack.old stack.new) }
 {
     let top = cell_under(stack, 0)?;
@@ -136,7 +136,7 @@ fn roll(stack: &mut Stack, ranges: &[Range]) -> Result<(), StepRefusal>
 ///
 /// # Errors
 /// `Refused` where it may fault, or isn't known well enough; `OutOfMemory`.
-pub fn shuffle(stack: &mut Stack, ranges: &[Range], operation: StackOp) -> Result<(), StepRefusal>
+pub fn shuffle(stack: &mut Stack, ranges: &[Range], operation: StackOp) -> Result<(), StepFault>
     ensures { OnOk result (Restacks (shuffled operation) ranges.now stack.old stack.new) }
 {
     match operation {

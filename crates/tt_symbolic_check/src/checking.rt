@@ -6,11 +6,10 @@ ghost use Rattle.tt_symbolic_check.specs.Checked.{AreEnds, IsSafe, KeepsEntries}
 
 use crate::place_index::PlaceIndex;
 use crate::pool::Pool;
-use crate::refusal::CheckRefusal;
 use crate::start::Start;
 use crate::walk::{Effort, begin, walk_on};
 use std::alloc::Global;
-use tt_abs::Setting;
+use tt_abs::{Refusal, Setting};
 use tt_symbolic::kept::Kept;
 use tt_symbolic_state::state::State;
 
@@ -20,8 +19,8 @@ use tt_symbolic_state::state::State;
 ///
 /// # Errors
 /// `Refused` with the place of an instruction and its reason, where a run may fault or not enough is
-/// known; `KeptEntry` with the place of one that may write a kept entry; `OutOfMemory`; `BudgetMet`,
-/// where the walk isn't done after so many steps.
+/// known, or where it may write a kept entry (`KeptEntry`); with `TooManySteps`, at the program's
+/// start, where the walk isn't done after so many steps. `Exhausted`, if memory runs out.
 pub fn check(
     alloc: Global,
     setting: &Setting<'_>,
@@ -29,7 +28,7 @@ pub fn check(
     starts: &[Start],
     listed: &[State],
     effort: Effort,
-) -> Result<Vec<State>, CheckRefusal>
+) -> Result<Vec<State>, Refusal>
     ensures safe { IfOk result (λ ends. IsSafe (setting_of setting.now) starts.now) }
     ensures kept { IfOk result (λ ends. KeepsEntries (setting_of setting.now) kept.now starts.now) }
     ensures ends { IfOk result (λ ends. AreEnds (setting_of setting.now) starts.now ends.items) }

@@ -7,14 +7,14 @@ use crate::copying::{Split, lower, raise};
 use crate::covering::covers_by;
 use crate::place_index::PlaceIndex;
 use crate::pool::Pool;
-use crate::refusal::{CheckRefusal, Site};
+use crate::site::Site;
 use crate::splits::wanted;
 use crate::start::{Start, start_state};
 use std::alloc::{AllocError, Global};
-use tt_abs::{Point, Setting};
+use tt_abs::{Point, Refusal, Setting, StepFault};
+use tt_code::Reason;
 use tt_symbolic::kept::{Kept, step_keeping};
 use tt_symbolic::step::code_at;
-use tt_symbolic_state::StepRefusal;
 use tt_symbolic_state::cell::Cell;
 use tt_symbolic_state::state::State;
 
@@ -200,7 +200,7 @@ fn step_on(
     listed: &[State],
     walk: &mut Walk,
     state: Box<State>,
-) -> Result<(), StepRefusal>
+) -> Result<(), StepFault>
     requires { EndsAs setting.now state.value false }
     ensures { OnOk result (Reaches setting.now kept.now listed.now walk.old walk.new
         (λ final. Walks setting.now kept.now listed.now final false state.value)) }
@@ -220,7 +220,7 @@ fn split_or_step(
     walk: &mut Walk,
     state: Box<State>,
     widest: i64,
-) -> Result<(), StepRefusal>
+) -> Result<(), StepFault>
     requires { EndsAs setting.now state.value false }
     ensures { OnOk result (Reaches setting.now kept.now listed.now walk.old walk.new
         (λ final. Walks setting.now kept.now listed.now final false state.value)) }
@@ -247,7 +247,7 @@ fn carry_on(
     walk: &mut Walk,
     state: Box<State>,
     widest: i64,
-) -> Result<(), StepRefusal>
+) -> Result<(), StepFault>
     ensures { OnOk result (Reaches setting.now kept.now listed.now walk.old walk.new
         (λ final. Walks setting.now kept.now listed.now final false state.value)) }
 {
@@ -284,7 +284,7 @@ fn go_on(
     walk: &mut Walk,
     entry: Pending,
     widest: i64,
-) -> Result<(), StepRefusal>
+) -> Result<(), StepFault>
     ensures { OnOk result (Reaches setting.now kept.now listed.now walk.old walk.new
         (λ final. Walks setting.now kept.now listed.now final entry.may_stop entry.state.value)) }
 {
@@ -309,7 +309,7 @@ fn advance(
     walk: &mut Walk,
     entry: Pending,
     widest: i64,
-) -> Result<(), CheckRefusal>
+) -> Result<(), Refusal>
     ensures { OnOk result (Reaches setting.now kept.now listed.now walk.old walk.new
         (λ final. Walks setting.now kept.now listed.now final entry.may_stop entry.state.value)) }
 {
@@ -381,8 +381,8 @@ pub fn begin(
 /// Carries on what waits, until nothing does.
 ///
 /// # Errors
-/// `BudgetMet`, where something waits after so many steps; otherwise where an instruction is
-/// refused and why, or that memory ran out.
+/// `TooManySteps`, at the program's start, where something waits after so many steps; otherwise
+/// where an instruction is refused and why, or that memory ran out.
 pub fn walk_on(
     pool: &mut Pool,
     setting: &Setting<'_>,
@@ -391,7 +391,7 @@ pub fn walk_on(
     index: &PlaceIndex,
     walk: &mut Walk,
     effort: Effort,
-) -> Result<(), CheckRefusal>
+) -> Result<(), Refusal>
     ensures { OnOk result (Finishes setting.now kept.now listed.now walk.old walk.new) }
 {
     for step in 0..effort.steps {
@@ -409,5 +409,5 @@ pub fn walk_on(
             None => return Ok(()),
         }
     }
-    Err(CheckRefusal::BudgetMet)
+    Err(Refusal::in_main(0, Reason::TooManySteps))
 }

@@ -7,10 +7,10 @@ ghost use Rattle.tt_symbolic_check.specs.Starts.{StartsAs};
 ghost use Rattle.tt_symbolic_state.specs.CvtMachine.{CvtMachine};
 
 use std::alloc::{AllocError, Global};
-use tt_abs::{Setting, SortedMap, Spot};
+use tt_abs::{Refusal, Setting, SortedMap};
 use tt_code::Reason;
 use tt_symbolic::NOTHING_KEPT;
-use tt_symbolic_check::{CheckRefusal, Effort, Start, check, has_functions};
+use tt_symbolic_check::{Effort, Start, check, has_functions};
 use tt_symbolic_state::State;
 
 /// What is known at the end of a font program or a CVT program.
@@ -103,18 +103,14 @@ pub fn check_before_glyphs(
     functions: &SortedMap<u32>,
     listed: &[State],
     effort: Effort,
-) -> Result<Ends, CheckRefusal>
+) -> Result<Ends, Refusal>
     ensures safe { IfOk result (λ ends. IsSafeKnowing (setting_of setting.now) functions.now) }
     ensures ends { IfOk result (AreEndsKnowing (setting_of setting.now) functions.now) }
 {
     let start = start_with(alloc, functions)?;
     let states = check(alloc, setting, &NOTHING_KEPT, &[start], listed, effort)?;
     if states.is_empty() {
-        return Err(CheckRefusal::Refused {
-            spot: Spot::Main,
-            offset: 0,
-            reason: Reason::NeverEnds,
-        });
+        return Err(Refusal::in_main(0, Reason::NeverEnds));
     }
     let functions = known_functions(alloc, states.as_slice())?;
     Ok(Ends { states, functions })

@@ -11,9 +11,9 @@ ghost use Rattle.tt_symbolic_state.specs.declared.state.State.{State as AnyState
 
 use crate::ends::Ends;
 use std::alloc::{AllocError, Global};
-use tt_abs::{Setting, SortedMap};
+use tt_abs::{Refusal, Setting, SortedMap};
 use tt_symbolic::Kept;
-use tt_symbolic_check::{CheckRefusal, Effort, Start, check, has_functions};
+use tt_symbolic_check::{Effort, Start, check, has_functions};
 use tt_symbolic_state::{Cell, State};
 
 /// With what glyph programs start, and which memory entries none of them writes.
@@ -151,7 +151,7 @@ impl GlyphStarts {
         setting: &Setting<'_>,
         listed: &[State],
         effort: Effort,
-    ) -> Result<(), CheckRefusal>
+    ) -> Result<(), Refusal>
         ensures { IfOk result (λ done. IsGlyphChecked (setting_of setting.now) self.now) }
     {
         let kept = Kept {

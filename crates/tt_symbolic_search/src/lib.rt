@@ -8,7 +8,7 @@
 //!    which starts with the functions on which all ends of the font program agree.
 //! 2. `starts_after` the ends of the CVT program: the starts of the glyph programs. Each end has to
 //!    be covered by one of them. What they list is kept: no glyph program may write it.
-//! 3. `find` for each glyph program, then `check`. Where `find` answers `KeptEntry`, the program
+//! 3. `find` for each glyph program, then `check`. Where `find` refuses with `KeptEntry`, the program
 //!    writes entries that the starts list; these are left out from then on, so that all glyph
 //!    programs are taken up again from new starts.
 //!

@@ -16,12 +16,12 @@ use crate::waiting::Waiting;
 use crate::writes::Writes;
 use std::alloc::{AllocError, Global};
 use std::mem;
-use tt_abs::{Kind, Setting};
+use tt_abs::{Kind, Refusal, Setting, StepFault};
 use tt_code::Reason;
 use tt_symbolic::kept::Kept;
 use tt_symbolic::step::code_at;
-use tt_symbolic_check::{CheckRefusal, Site, Start, is_at_end, lower, raise, start_state, wanted};
-use tt_symbolic_state::{State, StepRefusal};
+use tt_symbolic_check::{Site, Start, is_at_end, lower, raise, start_state, wanted};
+use tt_symbolic_state::State;
 
 /// How many steps a state makes beside another one before it is put down.
 const MOST_CROWDED: u32 = 40;
@@ -46,7 +46,7 @@ const EIF: u8 = 0x59;
 #[derive(Drop)]
 pub(crate) struct Stop {
     /// Why.
-    pub refusal: CheckRefusal,
+    pub refusal: Refusal,
     /// Cells whose numbers are to be kept apart.
     pub apart: Vec<CellName>,
 }
@@ -113,7 +113,7 @@ pub(crate) struct Run {
 }
 
 /// Makes the stop of a run without cells to blame.
-pub(crate) fn make_stop(alloc: Global, refusal: CheckRefusal) -> Stop {
+pub(crate) fn make_stop(alloc: Global, refusal: Refusal) -> Stop {
     Stop {
         refusal,
         apart: Vec::new(alloc),
@@ -122,7 +122,13 @@ pub(crate) fn make_stop(alloc: Global, refusal: CheckRefusal) -> Stop {
 
 /// Makes the stop of a run for want of memory.
 pub(crate) fn out_of_memory(task: &Task<'_>, error: AllocError) -> Stop {
-    make_stop(task.alloc, CheckRefusal::OutOfMemory(error))
+    make_stop(task.alloc, Refusal::from(error))
+}
+
+/// Returns the refusal of a program that would need more steps than may be made, or more listed
+/// states: at its start.
+pub(crate) fn too_many_steps() -> Refusal {
+    Refusal::in_main(0, Reason::TooManySteps)
 }
 
 /// Whether an instruction of this code may want a split: comparisons, IF, JROT, JROF, CALL, LOOPCALL
@@ -289,11 +295,11 @@ impl Run {
         merges: &Merges,
         track: &Track,
         place: Site,
-        refusal: StepRefusal,
+        fault: StepFault,
     ) -> Result<Stop, AllocError> {
-        let reason = match &refusal {
-            StepRefusal::Refused(reason) => Some(*reason),
-            _ => None,
+        let reason = match &fault {
+            StepFault::Refused(failed) => Some(failed.reason()),
+            StepFault::OutOfMemory(_) => None,
         };
         let apart = match reason {
             Some(reason) => {
@@ -310,7 +316,7 @@ impl Run {
             None => Vec::new(task.alloc),
         };
         Ok(Stop {
-            refusal: place.refused(refusal),
+            refusal: place.refused(fault),
             apart,
         })
     }
@@ -382,12 +388,12 @@ impl Run {
             .map_err(|error| out_of_memory(task, error))?;
         let track = &mut way.track;
         let Some(code) = code else {
-            let refusal = StepRefusal::Refused(Reason::Target);
-            return Err(make_stop(task.alloc, place.refused(refusal)));
+            let fault = StepFault::from(Reason::Target);
+            return Err(make_stop(task.alloc, place.refused(fault)));
         };
         if Writes::are_wanted(task.setting, &track.state, &task.kept, code) {
             let noted = writes.note(task.setting, &track.state, &task.kept);
-            noted.map_err(|error| make_stop(task.alloc, CheckRefusal::OutOfMemory(error)))?;
+            noted.map_err(|error| out_of_memory(task, error))?;
             self.first_write = self.first_write.or(Some(place));
         }
         let done = step_on(
@@ -403,11 +409,9 @@ impl Run {
                 way.led = led;
                 self.depth = self.depth.max(way.track.state.stack.len());
             }
-            Err(refusal) => {
-                let explained = self.explained(task, merges, &way.track, place, refusal);
-                return Err(explained.unwrap_or_else(|error| {
-                    make_stop(task.alloc, CheckRefusal::OutOfMemory(error))
-                }));
+            Err(fault) => {
+                let explained = self.explained(task, merges, &way.track, place, fault);
+                return Err(explained.unwrap_or_else(|error| out_of_memory(task, error)));
             }
         }
         Ok(())
@@ -484,7 +488,7 @@ impl Run {
         };
         self.step(task, merges, writes, &mut way, code)?;
         if self.steps >= task.most_steps {
-            return Err(make_stop(task.alloc, CheckRefusal::BudgetMet));
+            return Err(make_stop(task.alloc, too_many_steps()));
         }
         self.steps = self.steps.saturating_add(1);
         way.count_step(&self.arrivals.waiting);

@@ -4,7 +4,7 @@ use crate::blending::Merges;
 use crate::cell_names::CellName;
 use crate::insight::{Insight, Question};
 use crate::origins::Origins;
-use crate::run::{Run, Stop, Task, make_stop, out_of_memory, told_functions};
+use crate::run::{Run, Stop, Task, make_stop, out_of_memory, told_functions, too_many_steps};
 use crate::starts;
 use crate::thresholds::thresholds;
 use crate::track::Track;
@@ -12,11 +12,11 @@ use crate::writes::Writes;
 use std::alloc::{AllocError, Global};
 use std::collections::HashMap;
 use std::mem;
-use tt_abs::Setting;
+use tt_abs::{Refusal, Setting, StepFault};
 use tt_code::Reason;
 use tt_symbolic::kept::Kept;
-use tt_symbolic_check::{CheckRefusal, Effort, Start};
-use tt_symbolic_state::{State, StepRefusal};
+use tt_symbolic_check::{Effort, Start};
+use tt_symbolic_state::State;
 
 /// How often a program is searched at most, each time with more that was learnt.
 const MOST_TRIALS: u32 = 14;
@@ -108,7 +108,7 @@ struct Trial<'a> {
     starts: &'a [Start],
     effort: Effort,
     /// The last refusal.
-    has_refused: Option<CheckRefusal>,
+    has_refused: Option<Refusal>,
 }
 
 impl Search {
@@ -162,17 +162,17 @@ impl Search {
     /// Finds the listed states by which a program that starts in one of these ways is to be checked.
     ///
     /// # Errors
-    /// `Refused` with the place of an instruction and its reason, where no states were found;
-    /// `KeptEntry` with the place of an instruction that writes kept entries: `starts_after` leaves
-    /// these out from now on; `BudgetMet`, where more steps would be needed or too many states are
-    /// listed; `OutOfMemory`.
+    /// `Refused` with the place of an instruction and its reason, where no states were found; with
+    /// `KeptEntry` for one that writes kept entries: `starts_after` leaves these out from now on; with
+    /// `TooManySteps`, at the program's start, where more steps would be needed or too many states
+    /// are listed. `Exhausted`, if memory runs out.
     pub fn find(
         &mut self,
         setting: &Setting<'_>,
         kept: &Kept<'_>,
         starts: &[Start],
         effort: Effort,
-    ) -> Result<Found, CheckRefusal> {
+    ) -> Result<Found, Refusal> {
         self.merges.thresholds = thresholds(self.alloc, setting)?;
         self.apart.retain(|name| name.body.is_some());
         let learnt = self.apart.len();
@@ -201,7 +201,7 @@ impl Search {
             }
         }
         self.apart.truncate(learnt);
-        Err(trial.has_refused.unwrap_or(CheckRefusal::BudgetMet))
+        Err(trial.has_refused.unwrap_or(too_many_steps()))
     }
 
     /// Forgets what the merges of another run know.
@@ -250,11 +250,7 @@ impl Search {
     }
 
     /// Searches once. Returns what was found; nothing, where more was learnt.
-    fn try_once(
-        &mut self,
-        trial: &mut Trial<'_>,
-        before: u64,
-    ) -> Result<Option<Found>, CheckRefusal> {
+    fn try_once(&mut self, trial: &mut Trial<'_>, before: u64) -> Result<Option<Found>, Refusal> {
         self.begin_run();
         if self.question.is_some() {
             self.insight = None;
@@ -262,7 +258,7 @@ impl Search {
         let (mut run, stop) = self.run(trial, before)?;
         self.note_run(&mut run, stop.as_ref())?;
         if let Some(place) = run.first_write {
-            return Err(place.refused(StepRefusal::KeptEntry));
+            return Err(place.refused(StepFault::from(Reason::KeptEntry)));
         }
         match stop {
             None => {
@@ -280,8 +276,8 @@ impl Search {
     /// Makes a run: until nothing waits, or until it stops.
     ///
     /// # Errors
-    /// `BudgetMet`, also where kept entries were written before; `OutOfMemory`.
-    fn run(&mut self, trial: &Trial<'_>, before: u64) -> Result<(Run, Option<Stop>), CheckRefusal> {
+    /// `TooManySteps`, also where kept entries were written before; `Exhausted`.
+    fn run(&mut self, trial: &Trial<'_>, before: u64) -> Result<(Run, Option<Stop>), Refusal> {
         let used = self.steps.saturating_sub(before);
         let spare = mem::replace(&mut self.spare, Vec::new(self.alloc));
         let task = Task {
@@ -298,7 +294,9 @@ impl Search {
         let stop = run_on(&mut run, &task, &mut self.merges, &mut self.writes);
         self.steps = self.steps.saturating_add(run.steps);
         match &stop {
-            Some(met) if is_budget_met(&met.refusal) => Err(CheckRefusal::BudgetMet),
+            Some(met) if met.refusal.reason() == Some(Reason::TooManySteps) => Err(
+                too_many_steps(),
+            ),
             _ => Ok((run, stop)),
         }
     }
@@ -307,36 +305,21 @@ impl Search {
     ///
     /// # Errors
     /// The refusal, where nothing can be learnt from it.
-    fn learn(&mut self, trial: &mut Trial<'_>, stop: Stop) -> Result<(), CheckRefusal> {
+    fn learn(&mut self, trial: &mut Trial<'_>, stop: Stop) -> Result<(), Refusal> {
         let Stop { refusal, apart } = stop;
         if !apart.is_empty() {
             self.apart.extend_from_slice(apart.as_slice())?;
             trial.has_refused = Some(refusal);
             return Ok(());
         }
-        if !is_unknown(&refusal) || trial.effort.widest_compared >= WIDEST {
+        let is_unknown = refusal.reason() == Some(Reason::UnknownOperand);
+        if !is_unknown || trial.effort.widest_compared >= WIDEST {
             return Err(refusal);
         }
         trial.effort.widest_compared = WIDEST;
         trial.has_refused = Some(refusal);
         Ok(())
     }
-}
-
-/// Whether the refusal says that more would have to be done than may be.
-fn is_budget_met(refusal: &CheckRefusal) -> bool {
-    matches!(refusal, CheckRefusal::BudgetMet)
-}
-
-/// Whether the refusal says that too little is known.
-fn is_unknown(refusal: &CheckRefusal) -> bool {
-    matches!(
-        refusal,
-        CheckRefusal::Refused {
-            reason: Reason::UnknownOperand,
-            ..
-        }
-    )
 }
 
 /// Carries on what waits in a run, until nothing does, or until it stops. Returns why it stopped.
@@ -363,5 +346,5 @@ fn run_on(
             Err(error) => return Some(out_of_memory(task, error)),
         }
     }
-    Some(make_stop(task.alloc, CheckRefusal::BudgetMet))
+    Some(make_stop(task.alloc, too_many_steps()))
 }

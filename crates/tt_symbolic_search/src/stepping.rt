@@ -7,11 +7,10 @@ use crate::origins::{NOWHERE, OriginNumber};
 use crate::track::Track;
 use std::alloc::{AllocError, Global};
 use std::cmp::Ordering;
-use tt_abs::Setting;
+use tt_abs::{Setting, StepFault};
 use tt_code::kinds::{Arithmetic, Control, Operand, Row, StackOp};
 use tt_code::{Effect, Graphics, entry};
 use tt_symbolic::step::step;
-use tt_symbolic_state::StepRefusal;
 use tt_symbolic_state::cell::{Cell, bounds, known, number};
 use tt_symbolic_state::state::Zone;
 
@@ -247,7 +246,7 @@ pub(crate) fn step_on(
     track: &mut Track,
     code: u8,
     before: &mut Before,
-) -> Result<Led, StepRefusal> {
+) -> Result<Led, StepFault> {
     let effect = entry(code);
     before.note(track, effect)?;
     let origin = origin_of_result(merges, track, code, effect)?;

@@ -3,11 +3,9 @@
 #![tactic(auto)]
 
 pub mod cell;
-pub mod refusal;
 pub mod stack;
 pub mod state;
 
 pub use cell::{Cell, Range};
-pub use refusal::StepRefusal;
 pub use stack::Stack;
 pub use state::{OpenCall, State, Zone};

@@ -6,10 +6,9 @@ ghost use Rattle.tt_symbolic_state.specs.Shows.{IsFree, IsFreeCall, IsFresh};
 ghost use Rattle.tt_symbolic_state.specs.declared.cell.Cell.{Cell as AnyCell};
 
 use crate::cell::{Cell, Range, symbol};
-use crate::refusal::StepRefusal;
 use crate::stack::Stack;
 use std::alloc::{AllocError, Global};
-use tt_abs::SortedMap;
+use tt_abs::{SortedMap, StepFault};
 use tt_code::{Graphics, Reason};
 
 /// The zone that a pointer names.
@@ -109,11 +108,11 @@ fn push_range(ranges: &mut Vec<Range>, range: Range) -> Result<(), AllocError>
 /// # Errors
 /// `OutOfMemory`; `Refused`, where a cell depends on a symbol that has no range, so that the new
 /// symbol's number is in use.
-pub fn fresh(state: &mut State, range: Range) -> Result<Cell, StepRefusal>
+pub fn fresh(state: &mut State, range: Range) -> Result<Cell, StepFault>
     ensures { IfOk result (IsFresh state.old state.new range) }
 {
     let Ok(number) = u32::try_from(state.ranges.len()) else {
-        return Err(StepRefusal::Refused(Reason::UnknownOperand));
+        return Err(StepFault::from(Reason::UnknownOperand));
     };
     let graphics = &state.graphics;
     if mentions(graphics.rp0, number)
@@ -125,7 +124,7 @@ pub fn fresh(state: &mut State, range: Range) -> Result<Cell, StepRefusal>
         || any_entry_mentions(state.storage.as_slice(), number)
         || any_entry_mentions(state.controls.as_slice(), number)
     {
-        return Err(StepRefusal::Refused(Reason::UnknownOperand));
+        return Err(StepFault::from(Reason::UnknownOperand));
     }
     push_range(&mut state.ranges, range)?;
     Ok(symbol(number))

@@ -3,17 +3,9 @@ use Rattle.std.specs.Prelude.{◌≡◌, ℕ, ◌+◌, ◌++◌, List, [], ◌�
 use Rattle.tt_code.specs.Cut.{Instruction}
 use Rattle.tt_code.specs.Fonts.{Font, cvt_setting, font_setting}
 use Rattle.tt_code.specs.Settings.{Setting}
-use Rattle.tt_code.specs.declared.reason.Reason.TheVariants as reason
-use Rattle.tt_abs.specs.declared.exhausted.Exhausted.TheVariants.{Memory}
-use Rattle.tt_abs.specs.declared.failed.Failed.TheVariants.{Only}
-use Rattle.tt_abs.specs.declared.refusal.Refusal.{Refusal}
-use Rattle.tt_abs.specs.declared.refusal.Refusal.TheVariants as fault
-use Rattle.tt_abs.specs.declared.spot.Spot.TheVariants as spot
 use Rattle.tt_cert.specs.declared.name.Name.TheVariants as name
 use Rattle.tt_family.specs.GoodFamilies.{IsShortEnough}
 use Rattle.tt_font.specs.Reading.{FontData, GlyphData}
-use Rattle.tt_symbolic_check.specs.declared.refusal.CheckRefusal.{CheckRefusal}
-use Rattle.tt_symbolic_check.specs.declared.refusal.CheckRefusal.TheVariants as told
 use Rattle.tt_symbolic_font.specs.Known.{AreEndsKnowing, IsGlyphChecked, IsSafeKnowing, StartGlyphs}
 use Rattle.tt_symbolic_font.specs.declared.ends.Ends.{Ends}
 use Rattle.tt_symbolic_font.specs.declared.glyph_starts.GlyphStarts.{GlyphStarts}
@@ -51,13 +43,6 @@ pub record IsEndedBy (j : SymbolicCheck) (x : Subject) (functions : List (ℕ ×
   pub cut : IsCutInto x is
   pub ended : IsEnded (x.setting is) functions j.ends
   pub same : known ≡ j.ends.functions
-
--- what is reported of a program that the check refuses
-abbrev pub refusal_as : CheckRefusal → Refusal
-refusal_as (told.Refused spot offset r) = fault.Refused spot offset (Only r)
-refusal_as (told.KeptEntry spot offset) = fault.Refused spot offset (Only reason.KeptEntry)
-refusal_as told.BudgetMet = fault.Refused spot.Main 0 (Only reason.TooManySteps)
-refusal_as (told.OutOfMemory e) = fault.Exhausted Memory
 
 -- what comes of the next program, and which one is next then
 abbrev pub AnswersBySymbols : FontData → SymbolicCheck → Stage → Option Outcome → Stage → Type 0

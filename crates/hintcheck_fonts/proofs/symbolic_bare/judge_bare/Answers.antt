@@ -12,11 +12,11 @@ use Rattle.hintcheck_fonts.proofs.symbolic_bare.judge_bare.Goals as goal
 abbrev setting_with : Limits → ℕ → Kind → List Instruction → List Instruction → Setting
 setting_with limits cvt kind main others = record { limits = limits; cvt = cvt; kind = kind; main = main; font = others; prep = others }
 
-pub returns-in-Ok : goal.returns-in-Ok
-returns-in-Ok c =
+pub returns : goal.returns
+returns c =
     let main = c.in_ok-program.program in
     let g : GlyphData = glyph_data c.args.glyph.now in
     let P : ℕ → List Instruction → Type 0 = λ n is. let with = setting_with c.args.limits n in
     AreCheckedInTurn (with FontProgram is is) (with CvtProgram is is) (with (GlyphProgram g.points g.contours) main is) in
     safe_alone (font_around c.args.limits c.args.cvt) g main c.in_ok-program.ensures.cut.0 c.in_ok-program.ensures.cut.1
-    (subst (λ (is : List Instruction). P c.args.cvt is) c.in_ok-empty.ensures (subst (λ (n : ℕ). P n c.in_ok-empty.empty) c.from.ensures c.in-Ok.ensures))
+    (subst (λ (is : List Instruction). P c.args.cvt is) c.in_ok-empty.ensures (subst (λ (n : ℕ). P n c.in_ok-empty.empty) c.from.ensures c.in_ok-check_in_turn.ensures))
