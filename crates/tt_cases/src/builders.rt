@@ -8,8 +8,8 @@ use crate::words::{Words, number_of, pair_of};
 use anyhow::{Context as _, Result, bail, ensure};
 use std::alloc::Global;
 use std::mem;
-use tt_abs::State;
-use tt_family::{Builder, JoinFault};
+use tt_abs::{Failed, State, StepFault};
+use tt_family::Builder;
 use tt_test_fixtures::families::join;
 
 /// Joins the next state at its point, and returns what is told.
@@ -20,7 +20,7 @@ fn put(alloc: Global, builder: &mut Builder, words: &mut Words<'_>) -> Result<&'
     match join(builder, context, offset, &state) {
         Ok(true) => Ok(" changed"),
         Ok(false) => Ok(" same"),
-        Err(JoinFault::DepthMismatch) => Ok(" 38"),
+        Err(StepFault::Refused(Failed::OtherDepth { .. })) => Ok(" 38"),
         Err(_) => bail!("a state that can't be joined"),
     }
 }

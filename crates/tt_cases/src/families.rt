@@ -12,9 +12,9 @@ use crate::states::state_from;
 use crate::words::{Words, body_of, number_of, pair_of};
 use anyhow::{Context as _, Result, bail, ensure};
 use std::alloc::Global;
-use tt_abs::{Kind, Setting};
+use tt_abs::{Kind, Setting, StepFault};
 use tt_code::Frame;
-use tt_family::{Budget, Builder, Certificate, ContextFault, check, check_full};
+use tt_family::{Budget, Builder, Certificate, check, check_full};
 use tt_find::{Found, explore, find};
 use tt_test_fixtures::families::{add, join};
 
@@ -33,8 +33,8 @@ pub(crate) fn add_contexts(builder: &mut Builder, word: &str) -> Result<bool> {
     for turn in first.turn..=last.min(MOST) {
         match add(builder, parent, Frame { turn, ..first }) {
             Ok(_) => {}
-            Err(ContextFault::TooManyContexts) => return Ok(false),
-            Err(ContextFault::OutOfMemory) => bail!("no memory for a context"),
+            Err(StepFault::Refused(_)) => return Ok(false),
+            Err(StepFault::OutOfMemory(_)) => bail!("no memory for a context"),
         }
     }
     Ok(true)

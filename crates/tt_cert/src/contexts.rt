@@ -20,8 +20,9 @@ use crate::fault::DecodeFault;
 use crate::form::Form;
 use crate::units::{read_long, read_word, take_long, take_word};
 use std::alloc::{AllocError, Global};
+use tt_abs::StepFault;
 use tt_code::Frame;
-use tt_family::{Builder, ContextFault};
+use tt_family::Builder;
 use tt_stream::Source;
 
 /// How many turns a call has at most.
@@ -265,9 +266,9 @@ pub(crate) fn builder_of(spare: Builder, contexts: &[(u32, Frame)]) -> Result<Bu
     for (parent, frame) in contexts {
         match builder.add_context(*parent, *frame) {
             Ok(_) => {}
-            Err(ContextFault::OutOfMemory) => return Err(AllocError),
+            Err(StepFault::OutOfMemory(error)) => return Err(error),
             // No context comes twice, and there are fewer than 65,535 so far.
-            Err(ContextFault::TooManyContexts) => unreachable!(),
+            Err(StepFault::Refused(_)) => unreachable!(),
         }
     }
     Ok(builder)

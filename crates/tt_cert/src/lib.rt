@@ -22,6 +22,6 @@ pub use laws::{no_section_begins_another, one_family_of_a_text, one_text_of_a_fa
 pub use name::Name;
 pub use reading::{Decoder, decode};
 pub use tt_abs::Spot;
-pub use tt_family::{Builder, Certificate, CheckFault, ContextFault, JoinFault, check, check_full};
+pub use tt_family::{Builder, Certificate, CheckFault, check, check_full};
 pub use tt_stream::{Counted, Sink, Source};
 pub use writing::{Encoder, encode};

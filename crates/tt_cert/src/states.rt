@@ -16,10 +16,10 @@ use crate::lists::{Functions, read_functions, read_storage};
 use crate::shared_cells::{LastStack, read_stack};
 use crate::units::{read_graphics, read_long, read_pair};
 use std::alloc::{AllocError, Global};
-use tt_abs::{Cell, State, ZoneCell};
+use tt_abs::{Cell, State, StepFault, ZoneCell};
 use tt_code::Graphics;
 use tt_code::kinds::{Pointer, Reference};
-use tt_family::{Builder, JoinFault};
+use tt_family::Builder;
 use tt_stream::Source;
 
 /// Sets what is known of the graphics state.
@@ -254,9 +254,9 @@ fn add_state(builder: &mut Builder, point: (u32, u32), state: &State) -> Result<
     match joined {
         Ok(_) => Ok(()),
         Err(fault) => match fault {
-            JoinFault::OutOfMemory => Err(AllocError),
+            StepFault::OutOfMemory(error) => Err(error),
             // No state is at the point.
-            JoinFault::DepthMismatch => unreachable!(),
+            StepFault::Refused(_) => unreachable!(),
         },
     }
 }

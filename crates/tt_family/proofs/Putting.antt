@@ -1,5 +1,5 @@
 -- What putting a state leaves of a builder.
-use Rattle.std.specs.Prelude.{◌≡◌, ℕ, ◌+◌, ◌≤◌, ◌<◌, Bool, Option, Some, None, List, length, unwrap_or, Ok, Err, IfOk, OnOk, OnErr, Result}
+use Rattle.std.specs.Prelude.{◌≡◌, ℕ, ◌+◌, ◌≤◌, ◌<◌, Bool, Option, Some, None, List, length, unwrap_or, Ok, Err, IfOk, IfErr, OnOk, OnErr, Result}
 use Rattle.std.specs.Cmp.{IsTotalOrder}
 use Rattle.std.specs.Option.{option_map, option_copied, IfSome}
 use Rattle.std.specs.List.{sum_by, All}
@@ -17,10 +17,9 @@ use Rattle.tt_family.specs.Contexts.{frames_of}
 use Rattle.tt_family.specs.Contents.{Contents, IsFamily, family_of}
 use Rattle.tt_family.specs.Puts.{Reweighs, ReweighsStates, place_of, weigh, PutsAt-family, Reweighs-family, family_at}
 use Rattle.tt_family.specs.Built.{Key, IsBuilt}
-use Rattle.tt_family.specs.declared.fault.JoinFault.{JoinFault}
-use Rattle.tt_family.specs.declared.fault.JoinFault.TheVariants.{DepthMismatch}
+use Rattle.tt_abs.specs.declared.step_fault.StepFault.{StepFault}
 use Rattle.tt_family.specs.declared.joined.Joined.{Joined}
-use Rattle.tt_family.specs.Joins.{TellsNew, is_change}
+use Rattle.tt_family.specs.Joins.{TellsNew, TellsOtherDepth, is_change}
 use Rattle.tt_family.proofs.Puts.{cases_place}
 use Rattle.tt_family.proofs.Adding.{family_is, contexts_is}
 
@@ -123,21 +122,21 @@ module _ (entries : List (ℕ × Frame)) (index : BTreeMap Key ℕ) (states : Li
 
   -- what a put into the states is to the family
   module _ (states' : List ((ℕ × ℕ) × State)) (c off : ℕ) (within : c < length v.contexts) (t : State) (ranged : state_order.InRange t) where
-    pub joined_built : (r : Result Joined JoinFault) → IfOk r (λ joined. PutsAt state_order (states_of states) (states_of states') (c, off) t (is_change joined))
+    pub joined_built : (r : Result Joined StepFault) → IfOk r (λ joined. PutsAt state_order (states_of states) (states_of states') (c, off) t (is_change joined))
         → OnOk r (length states' ≤ 4294967295) → OnErr r (states' ≡ states) → IsBuilt entries index states'
     joined_built (Ok joined) put fits kept = put_built entries index states states' v is built c off within t (is_change joined) put ranged fits
     joined_built (Err e) put fits kept = same_built states' kept
 
-    pub joined_puts : (r : Result Joined JoinFault) → IfOk r (λ joined. PutsAt state_order (states_of states) (states_of states') (c, off) t (is_change joined))
+    pub joined_puts : (r : Result Joined StepFault) → IfOk r (λ joined. PutsAt state_order (states_of states) (states_of states') (c, off) t (is_change joined))
         → IfOk r (λ joined. PutsAt state_order (family_of v) (family_of (record { contexts = frames_of entries; states = states' })) (place_of v c off) t (is_change joined))
     joined_puts (Ok joined) put = put_puts entries index states states' v is built c off within t (is_change joined) put ranged
     joined_puts (Err e) put = tt
 
-    pub joined_new : (r : Result Joined JoinFault) → IfOk r (λ joined. TellsNew joined (states_of states (c, off))) → IfOk r (λ joined. TellsNew joined (family_of v (place_of v c off)))
+    pub joined_new : (r : Result Joined StepFault) → IfOk r (λ joined. TellsNew joined (states_of states (c, off))) → IfOk r (λ joined. TellsNew joined (family_of v (place_of v c off)))
     joined_new (Ok joined) new = let T : Option State → Type 0 = λ x. TellsNew joined x in subst T (sym (point_state c off (states_of states (c, off)) within refl)) new
     joined_new (Err e) new = tt
 
-    pub joined_sums : (r : Result Joined JoinFault) → IfOk r (λ _. ReweighsStates states states' (c, off))
+    pub joined_sums : (r : Result Joined StepFault) → IfOk r (λ _. ReweighsStates states states' (c, off))
         → IfOk r (λ _. Reweighs v (record { contexts = frames_of entries; states = states' }) (place_of v c off))
     joined_sums (Ok joined) sums =
         let P : List ((ℕ × ℕ) × State) → Type 0 = λ x. ReweighsStates x states' (c, off) in
@@ -145,12 +144,11 @@ module _ (entries : List (ℕ × Frame)) (index : BTreeMap Key ℕ) (states : Li
         (contexts_is entries index states v is built) within (subst P (ap (λ (x : Contents). x.states) is) sums)
     joined_sums (Err e) sums = tt
 
-    pub joined_depth : (r : Result Joined JoinFault)
-        → (r ≡ Err DepthMismatch → (s : State) × (states_of states (c, off) ≡ Some s) × (state_order.SameDepth s t → ⊥))
-        → r ≡ Err DepthMismatch → (s : State) × (family_of v (place_of v c off) ≡ Some s) × (state_order.SameDepth s t → ⊥)
-    joined_depth r deep refused = let (s, at, apart) = deep refused in (s, point_state c off (Some s) within (sym at), apart)
+    pub joined_depth : (r : Result Joined StepFault) → IfErr r (TellsOtherDepth (states_of states (c, off)) t) → IfErr r (TellsOtherDepth (family_of v (place_of v c off)) t)
+    joined_depth (Ok joined) deep = tt
+    joined_depth (Err e) deep = let T : Option State → Type 0 = λ x. TellsOtherDepth x t e in subst T (sym (point_state c off (states_of states (c, off)) within refl)) deep
 
-    pub joined_joined : (r : Result Joined JoinFault) → IfOk r (λ _. (s : State) → states_of states (c, off) ≡ Some s → state_order.SameDepth s t)
+    pub joined_joined : (r : Result Joined StepFault) → IfOk r (λ _. (s : State) → states_of states (c, off) ≡ Some s → state_order.SameDepth s t)
         → IfOk r (λ _. (s : State) → family_of v (place_of v c off) ≡ Some s → state_order.SameDepth s t)
     joined_joined (Ok joined) deep = λ s at. deep s (sym (point_state c off (states_of states (c, off)) within refl) ∙ at)
     joined_joined (Err e) deep = tt

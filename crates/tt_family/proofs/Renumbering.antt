@@ -7,12 +7,12 @@ use Rattle.std.proofs.lemmas.Option.{slice_get_within, slice_get-get_or, get_or_
 use Rattle.tt_code.specs.declared.machine.Frame.{Frame}
 use Rattle.tt_family.specs.Contents.{Contents, IsFamily, AddsContext, frames_at}
 use Rattle.tt_family.specs.Ascending.{AreMoved}
-use Rattle.tt_family.specs.declared.fault.ContextFault.{ContextFault}
-use Rattle.tt_family.specs.declared.fault.ContextFault.TheVariants.{TooManyContexts}
-use Rattle.tt_family.specs.declared.fault.ContextFault.TheVariants as context
-use Rattle.tt_family.specs.declared.fault.JoinFault.{JoinFault}
-use Rattle.tt_family.specs.declared.fault.JoinFault.TheVariants.{DepthMismatch}
-use Rattle.tt_family.specs.declared.fault.JoinFault.TheVariants as join
+use Rattle.tt_abs.specs.declared.failed.Failed.{Failed}
+use Rattle.tt_abs.specs.declared.step_fault.StepFault.{StepFault}
+use Rattle.tt_abs.specs.Moves.{ForFailed}
+use Rattle.tt_abs.specs.Refusals.{IsOutOfMemory}
+use Rattle.tt_abs.proofs.StepLemmas.{passed_on}
+use Rattle.tt_abs.proofs.Told.{for_failed}
 use Rattle.tt_family.specs.Representation.FileOrder.{IsFileOrder, ArePlaces, in_order}
 use Rattle.tt_family.proofs.Adding.{cons_same}
 use Rattle.tt_family.proofs.FileOrders.{at_most, frames_in_order, length-in_order, number_in_order}
@@ -194,19 +194,12 @@ module _ (v : Contents) (order : List ℕ) (family : IsFamily v) (file : IsFileO
         has_context v.contexts m (frames_at (in_order v.contexts order) n) (file.within n m at_m) (sym (frames_in_order v.contexts order n m at_m));
   }
 
--- a fault that isn't the other one is out of memory
-
-pub no_context_memory : {A B : Type 0} (result : Result A ContextFault) (r : Result B ContextFault) (e : ContextFault) → result ≡ Err e → (result ≡ Err TooManyContexts → ⊥)
-    → IsErrAnd r (λ x. x ≡ e) → IfErr r (λ x. x ≡ context.OutOfMemory)
-no_context_memory result r TooManyContexts is few passed = absurd (few is)
-no_context_memory result (Ok b) context.OutOfMemory is few passed = tt
-no_context_memory result (Err e) context.OutOfMemory is few passed = passed
-
-pub no_state_memory : {A B : Type 0} (result : Result A JoinFault) (r : Result B JoinFault) (e : JoinFault) → result ≡ Err e → (result ≡ Err DepthMismatch → ⊥) → IsErrAnd r (λ x. x ≡ e)
-    → IfErr r (λ x. x ≡ join.OutOfMemory)
-no_state_memory result r DepthMismatch is deep passed = absurd (deep is)
-no_state_memory result (Ok b) join.OutOfMemory is deep passed = tt
-no_state_memory result (Err e) join.OutOfMemory is deep passed = passed
+-- a fault of which no test can be the cause is out of memory
+pub only_memory : {A B : Type 0} (result : Result A StepFault) (r : Result B StepFault) (e : StepFault) (P : Failed → Type 0) → ((f : Failed) → P f → ⊥)
+    → result ≡ Err e → IfErr result (λ x. ForFailed x P) → IsErrAnd r (λ x. x ≡ e) → IfErr r IsOutOfMemory
+only_memory {A = A} result r e P never is told passed =
+    let T : Result A StepFault → Type 0 = λ x. IfErr x (λ y. ForFailed y P) in
+    passed_on r e IsOutOfMemory (for_failed e P (λ _. ⊥) never (subst T is told)) passed
 
 module _ (v : Contents) (order places : List ℕ) (i : ℕ) (family : IsFamily v) (file : IsFileOrder v.contexts order) (some : 0 < i) (lt : i < length order) where
   here : slice_get order i ≡ Some (slice_index_or order i 0)

@@ -3,7 +3,11 @@ use Rattle.std.specs.Prelude.{◌≡◌, ◌==◌, ◌&&◌, ℕ, ◌+◌, ◌�
 use Rattle.std.specs.Map.{values_of}
 use Rattle.std.specs.List.{sum_by}
 use Rattle.tt_code.specs.declared.machine.Frame.{Frame}
+use Rattle.tt_code.specs.declared.reason.Reason.TheVariants.{TooManyContexts}
+use Rattle.tt_abs.specs.declared.failed.Failed.TheVariants.{Only}
 use Rattle.tt_abs.specs.declared.state.State.{State}
+use Rattle.tt_abs.specs.declared.step_fault.StepFault.{StepFault}
+use Rattle.tt_abs.specs.Moves.{ForFailed}
 use Rattle.tt_abs.specs.States.{state_order}
 use Rattle.tt_family.specs.Places.{states_of}
 
@@ -42,6 +46,11 @@ frames_at contexts number = slice_index_or contexts number []
 -- a context has the frames of this parent and one more
 abbrev pub HasChild : List (List Frame) → ℕ → Frame → Type 0
 HasChild contexts parent frame = HasContext contexts (frame ∷ frames_at contexts parent)
+
+-- no context has these frames, and there are 65,535; or memory ran out
+abbrev pub IsFullWithout : List (List Frame) → List Frame → StepFault → Type 0
+IsFullWithout contexts frames fault = ForFailed fault (λ failed. (failed ≡ Only TooManyContexts)
+    × (HasContext contexts frames → ⊥) × (length contexts ≡ 65535))
 
 -- the context of this number has the frames of this parent and one more
 abbrev pub IsChild : List (List Frame) → ℕ → Frame → ℕ → Type 0

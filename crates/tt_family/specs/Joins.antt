@@ -1,6 +1,9 @@
 -- What putting a state tells.
-use Rattle.std.specs.Prelude.{◌≡◌, ◌↔◌, ℕ, Bool, true, false, Option, Some, None, List}
+use Rattle.std.specs.Prelude.{◌≡◌, ◌↔◌, ℕ, Bool, true, false, Option, Some, None, List, length}
 use Rattle.tt_abs.specs.declared.state.State.{State}
+use Rattle.tt_abs.specs.declared.failed.Failed.TheVariants.{OtherDepth}
+use Rattle.tt_abs.specs.declared.step_fault.StepFault.{StepFault}
+use Rattle.tt_abs.specs.Moves.{ForFailed}
 use Rattle.tt_abs.specs.States.{state_order}
 use Rattle.tt_family.specs.Contents.{Contents, family_of}
 use Rattle.tt_family.specs.Places.{PutsAt, states_of}
@@ -41,6 +44,11 @@ PutsListed old new point state joined =
 -- there is a state, and it differs from this one in depth
 abbrev pub HasOtherDepth : Option State → State → Type 0
 HasOtherDepth old state = (s : State) × (old ≡ Some s) × (state_order.SameDepth s state → ⊥)
+
+-- there is such a state, and this one's depth is told, unless memory ran out
+abbrev pub TellsOtherDepth : Option State → State → StepFault → Type 0
+TellsOtherDepth old state fault =
+    ForFailed fault (λ f. (f ≡ OtherDepth (length state.stack)) × HasOtherDepth old state)
 
 -- the state that is there, if there is one, has the depth of this one
 abbrev pub HasSameDepth : Option State → State → Type 0

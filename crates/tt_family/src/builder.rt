@@ -1,12 +1,14 @@
 //! Contexts by number, and abstract states by context and offset.
 
-ghost use Rattle.std.specs.Prelude.{◌≡◌, ◌⊎◌, ◌<◌, ◌≤◌, None, Some, [], ◌∷◌, ◌++◌, Err, IfOk, IfSome, IsTrue, OnErr, OnOk, length, reverse};
+ghost use Rattle.std.specs.Prelude.{◌≡◌, ◌⊎◌, ◌<◌, ◌≤◌, None, Some, [], ◌∷◌, ◌++◌, Err, IfErr, IfOk, IfSome, IsTrue, OnErr, OnOk, length, reverse};
 ghost use Rattle.std.specs.List.{All};
 ghost use Rattle.std.specs.List.Sorted.{IsStrictlySortedBy};
 ghost use Rattle.std.specs.Map.{keys_of};
+ghost use Rattle.tt_code.specs.declared.reason.Reason.TheVariants.{TooManyContexts};
+ghost use Rattle.tt_abs.specs.declared.failed.Failed.TheVariants.{Only};
 ghost use Rattle.tt_abs.specs.Entries.{Ascends};
 ghost use Rattle.tt_abs.specs.States.{state_order};
-ghost use Rattle.tt_family.specs.Joins.{HasOtherDepth, HasSameDepth, PutsState, PutsStateAs, TellsNewAt};
+ghost use Rattle.tt_family.specs.Joins.{HasSameDepth, PutsState, PutsStateAs, TellsNewAt, TellsOtherDepth};
 ghost use Rattle.tt_family.specs.Places.{place_cmp, states_of};
 ghost use Rattle.tt_family.specs.Puts.{Reweighs, family_state, place_of};
 ghost use Rattle.tt_family.specs.Built.{AscendsByKey, key_cmp, key_of as key_of_entry};
@@ -14,18 +16,17 @@ ghost use Rattle.std.specs.BTreeMap.{IsOrdered, get};
 ghost use Rattle.tt_family.specs.Representation.FileOrder.{IsFileOrder, children};
 ghost use Rattle.tt_family.specs.Ascending.{IsFinished, IsContextAt};
 ghost use Rattle.tt_family.specs.Ends.{AreDefinedAtEnd, AreDefinedWhereFilled, AreKnownAtEnd, FillingsKeepEnd};
-ghost use Rattle.tt_family.specs.Contents.{AddsChild, HasChild, IsChild, IsFamily, family_of, frames_at, points_of, state_at};
+ghost use Rattle.tt_family.specs.Contents.{AddsChild, HasChild, IsChild, IsFamily, IsFullWithout, family_of, frames_at, points_of, state_at};
 ghost use Rattle.tt_abs.specs.Spots.{spot_of};
 
-use crate::fault::{ContextFault, JoinFault};
 use crate::joined::Joined;
 use crate::state_store::StateStore;
 use crate::states::States;
 use std::alloc::{AllocError, Global};
 use std::collections::BTreeMap;
 use std::marker::Model;
-use tt_abs::{Spot, State};
-use tt_code::Frame;
+use tt_abs::{Failed, Spot, State, StepFault};
+use tt_code::{Frame, Reason};
 
 /// How many contexts are kept at most, including the empty one.
 const MOST_CONTEXTS: u32 = 65_535;
@@ -210,16 +211,17 @@ impl Builder {
     /// added if it isn't there.
     ///
     /// # Errors
-    /// `TooManyContexts` exactly if it isn't there and there are 65,535 contexts; `OutOfMemory`.
-    /// Then the builder stays as it is.
-    pub fn add_context(&mut self, parent: u32, frame: Frame) -> Result<u32, ContextFault>
+    /// `Refused` with `TooManyContexts`, exactly if it isn't there and there are 65,535 contexts;
+    /// `OutOfMemory`. Then the builder stays as it is.
+    pub fn add_context(&mut self, parent: u32, frame: Frame) -> Result<u32, StepFault>
         requires { parent < length self.old.contexts }
         ensures added { IfOk result (AddsChild self.old.contexts self.new.contexts parent frame) }
         ensures states { self.new.states ≡ self.old.states }
-        ensures full { result ≡ Err ContextFault.TooManyContexts
-            → (HasChild self.old.contexts parent frame → ⊥) × (length self.old.contexts ≡ 65535) }
+        ensures full { IfErr result (IsFullWithout self.old.contexts
+            (frame ∷ frames_at self.old.contexts parent)) }
         ensures room { (HasChild self.old.contexts parent frame → ⊥)
-            → length self.old.contexts ≡ 65535 → result ≡ Err ContextFault.TooManyContexts }
+            → length self.old.contexts ≡ 65535
+            → result ≡ Err (StepFault.Refused (Only TooManyContexts)) }
         ensures kept { OnErr result (self.new ≡ self.old) }
         ensures family { IsFamily self.new }
     {
@@ -229,13 +231,13 @@ impl Builder {
         }
         let count = self.entries.len() as u32 + 1;
         if count >= MOST_CONTEXTS {
-            return Err(ContextFault::TooManyContexts);
+            return Err(StepFault::Refused(Failed::Only(Reason::TooManyContexts)));
         }
         if let Err(_) = self.entries.reserve(1) {
-            return Err(ContextFault::OutOfMemory);
+            return Err(StepFault::OutOfMemory(AllocError));
         }
         if let Err(_) = self.index.insert(key, count) {
-            return Err(ContextFault::OutOfMemory);
+            return Err(StepFault::OutOfMemory(AllocError));
         }
         self.entries.push_reserved((parent, frame));
         Ok(count)
@@ -322,21 +324,21 @@ impl Builder {
     /// otherwise, and returns whether the state there is new or has changed.
     ///
     /// # Errors
-    /// `DepthMismatch` exactly if a state of another depth is there; `OutOfMemory`. Then the
-    /// builder stays as it is.
+    /// `Refused` with this state's depth, exactly if one of another depth is there; `OutOfMemory`.
+    /// Then the builder stays as it is.
     pub fn join_state(
         &mut self,
         context: u32,
         offset: u32,
         state: &State,
-    ) -> Result<bool, JoinFault>
+    ) -> Result<bool, StepFault>
         requires there { context < length self.old.contexts }
         requires theirs { state_order.InRange state.now }
         ensures put { IfOk result (PutsState self.old self.new context offset state.now) }
         ensures sums { IfOk result (λ _.
             Reweighs self.old self.new (place_of self.old context offset)) }
-        ensures depth { result ≡ Err JoinFault.DepthMismatch
-            → HasOtherDepth (family_state self.old context offset) state.now }
+        ensures depth { IfErr result
+            (TellsOtherDepth (family_state self.old context offset) state.now) }
         ensures joined { IfOk result (λ _.
             HasSameDepth (family_state self.old context offset) state.now) }
         ensures contexts { self.new.contexts ≡ self.old.contexts }
@@ -357,15 +359,15 @@ impl Builder {
         context: u32,
         offset: u32,
         state: &State,
-    ) -> Result<Joined, JoinFault>
+    ) -> Result<Joined, StepFault>
         requires there { context < length self.old.contexts }
         requires theirs { state_order.InRange state.now }
         ensures put { IfOk result (PutsStateAs self.old self.new context offset state.now) }
         ensures new { IfOk result (TellsNewAt self.old context offset) }
         ensures sums { IfOk result (λ _.
             Reweighs self.old self.new (place_of self.old context offset)) }
-        ensures depth { result ≡ Err JoinFault.DepthMismatch
-            → HasOtherDepth (family_state self.old context offset) state.now }
+        ensures depth { IfErr result
+            (TellsOtherDepth (family_state self.old context offset) state.now) }
         ensures joined { IfOk result (λ _.
             HasSameDepth (family_state self.old context offset) state.now) }
         ensures contexts { self.new.contexts ≡ self.old.contexts }

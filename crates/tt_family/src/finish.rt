@@ -2,16 +2,17 @@
 
 ghost use Rattle.std.specs.Prelude.{◌≡◌, ℕ, ◌+◌, ◌<◌, List, [], ◌∷◌, IfOk, IfErr, length, take};
 ghost use Rattle.tt_code.specs.declared.machine.Frame.{Frame};
+ghost use Rattle.tt_abs.specs.Refusals.{IsOutOfMemory};
 ghost use Rattle.tt_family.specs.Contents.{IsFamily, family_of, points_of};
 ghost use Rattle.tt_family.specs.Representation.FileOrder.{ArePlaces, IsFileOrder, in_order};
 ghost use Rattle.tt_family.specs.Ascending.{AreMoved, IsFinished, SameContents, SameWithout, family_without};
 
 use crate::builder::Builder;
 use crate::certificate::Certificate;
-use crate::fault::{ContextFault, JoinFault};
 use crate::slot_index::PointKey;
 use std::alloc::AllocError;
 use std::collections::BTreeSet;
+use tt_abs::StepFault;
 
 /// Returns the place of each context in the order.
 fn places_in(old: &Builder, order: &[u32]) -> Result<Vec<u32>, AllocError>
@@ -32,7 +33,7 @@ fn move_context(
     place: usize,
     places: &[u32],
     new: &mut Builder,
-) -> Result<(), ContextFault>
+) -> Result<(), StepFault>
     requires order { IsFileOrder old.now.contexts order.now }
     requires place { (0 < place) × (place < length order.now) }
     requires places { ArePlaces old.now.contexts order.now places.now }
@@ -41,7 +42,7 @@ fn move_context(
         new.new.contexts ≡ in_order old.now.contexts (take (place + 1) order.now)) }
     ensures states { new.new.states ≡ new.old.states }
     ensures family { IsFamily new.new }
-    ensures memory { IfErr result (λ fault. fault ≡ ContextFault.OutOfMemory) }
+    ensures memory { IfErr result IsOutOfMemory }
 {
     old.family_facts();
     let Some((parent, frame)) = old.context(order[place]) else {
@@ -57,7 +58,7 @@ fn move_contexts(
     order: &[u32],
     places: &[u32],
     new: &mut Builder,
-) -> Result<(), ContextFault>
+) -> Result<(), StepFault>
     requires order { IsFileOrder old.now.contexts order.now }
     requires places { ArePlaces old.now.contexts order.now places.now }
     requires before { new.old.contexts ≡ [] ∷ [] }
@@ -65,7 +66,7 @@ fn move_contexts(
     ensures moved { IfOk result (λ _. new.new.contexts ≡ in_order old.now.contexts order.now) }
     ensures states { new.new.states ≡ new.old.states }
     ensures family { IsFamily new.new }
-    ensures memory { IfErr result (λ fault. fault ≡ ContextFault.OutOfMemory) }
+    ensures memory { IfErr result IsOutOfMemory }
 {
     old.family_facts();
     for place in 1..order.len() {
@@ -81,7 +82,7 @@ fn move_states(
     new: &mut Builder,
     numbers: &[u32],
     spare: &BTreeSet<PointKey>,
-) -> Result<(), JoinFault>
+) -> Result<(), StepFault>
     requires family { IsFamily new.old }
     requires empty { new.old.states ≡ [] }
     requires moved { AreMoved old.now.contexts new.old.contexts numbers.now }
@@ -91,7 +92,7 @@ fn move_states(
     ensures points { IfOk result (λ _. spare.now.keys ≡ []
         → points_of new.new ≡ points_of old.now) }
     ensures family { IsFamily new.new }
-    ensures memory { IfErr result (λ fault. fault ≡ JoinFault.OutOfMemory) }
+    ensures memory { IfErr result IsOutOfMemory }
 {
     let mut states = old.states();
     while let Some((context, offset, state)) = states.take_first() {

@@ -1,24 +1,24 @@
 //! States by context and offset, in slots that are reused.
 
-ghost use Rattle.std.specs.Prelude.{◌≡◌, ℕ, ◌≤◌, None, Some, [], Err, IfOk, IfErr, OnErr, OnOk, length, slice_get};
+ghost use Rattle.std.specs.Prelude.{◌≡◌, ℕ, ◌≤◌, None, Some, [], IfOk, IfErr, OnErr, OnOk, length, slice_get};
 ghost use Rattle.std.specs.Option.{option_copied};
 ghost use Rattle.std.specs.List.{All};
 ghost use Rattle.std.specs.List.Sorted.{IsStrictlySortedBy};
 ghost use Rattle.std.specs.Map.{keys_of};
 ghost use Rattle.tt_abs.specs.declared.state.State.{State as StateValue};
+ghost use Rattle.tt_abs.specs.Refusals.{IsOutOfMemory};
 ghost use Rattle.tt_abs.specs.States.{state_order};
-ghost use Rattle.tt_family.specs.Joins.{HasOtherDepth, HasSameDepth, PutsListed, TellsNew};
+ghost use Rattle.tt_family.specs.Joins.{HasSameDepth, PutsListed, TellsNew, TellsOtherDepth};
 ghost use Rattle.tt_family.specs.Places.{place_cmp, states_of};
 ghost use Rattle.tt_family.specs.Puts.{ReweighsStates};
 ghost use Rattle.tt_family.specs.Representation.StateSlots.{AgreesBelow};
 
-use crate::fault::JoinFault;
 use crate::joined::Joined;
 use crate::slot_index::SlotIndex;
 use crate::states::States;
 use std::alloc::{AllocError, Global};
 use std::marker::Model;
-use tt_abs::{Order, State};
+use tt_abs::{Failed, Order, State, StepFault};
 
 /// How many states are kept at most.
 const MOST_STATES: u32 = 4_294_967_295;
@@ -123,14 +123,14 @@ impl StateStore {
     /// that makes of the state there.
     ///
     /// # Errors
-    /// `DepthMismatch` exactly if a state of another depth is there; `OutOfMemory`. Then the states
-    /// stay as they are.
+    /// `Refused` with this state's depth, exactly if one of another depth is there; `OutOfMemory`.
+    /// Then the states stay as they are.
     pub(crate) fn join(
         &mut self,
         context: u32,
         offset: u32,
         state: &State,
-    ) -> Result<Joined, JoinFault>
+    ) -> Result<Joined, StepFault>
         requires mine { (s : StateValue) → states_of self.old (context, offset) ≡ Some s
             → state_order.InRange s }
         requires theirs { state_order.InRange state.now }
@@ -138,8 +138,8 @@ impl StateStore {
         ensures new { IfOk result (λ joined.
             TellsNew joined (states_of self.old (context, offset))) }
         ensures sums { IfOk result (λ _. ReweighsStates self.old self.new (context, offset)) }
-        ensures depth { result ≡ Err JoinFault.DepthMismatch
-            → HasOtherDepth (states_of self.old (context, offset)) state.now }
+        ensures depth { IfErr result
+            (TellsOtherDepth (states_of self.old (context, offset)) state.now) }
         ensures joined { IfOk result (λ _.
             HasSameDepth (states_of self.old (context, offset)) state.now) }
         ensures kept { OnErr result (self.new ≡ self.old) }
@@ -148,7 +148,8 @@ impl StateStore {
         if let Some(number) = self.index.get(context, offset) {
             let slot = &mut self.slots[number as usize];
             let Ok(changed) = slot.join(state) else {
-                return Err(JoinFault::DepthMismatch);
+                let depth = state.depth() as u32;
+                return Err(StepFault::Refused(Failed::OtherDepth { depth }));
             };
             return Ok(Joined::of(changed));
         }
@@ -160,24 +161,24 @@ impl StateStore {
     ///
     /// # Errors
     /// `OutOfMemory`; then the states stay as they are.
-    fn add(&mut self, context: u32, offset: u32, state: &State) -> Result<(), JoinFault>
+    fn add(&mut self, context: u32, offset: u32, state: &State) -> Result<(), StepFault>
         requires { states_of self.old (context, offset) ≡ None }
         ensures put { OnOk result
             (PutsListed self.old self.new (context, offset) state.now Joined.New) }
         ensures sums { OnOk result (ReweighsStates self.old self.new (context, offset)) }
-        ensures memory { IfErr result (λ fault. fault ≡ JoinFault.OutOfMemory) }
+        ensures memory { IfErr result IsOutOfMemory }
         ensures kept { OnErr result (self.new ≡ self.old) }
         ensures fits { OnOk result (length self.new ≤ 4294967295) }
     {
         let number = self.index.len();
         if number >= MOST_STATES {
-            return Err(JoinFault::OutOfMemory);
+            return Err(StepFault::OutOfMemory(AllocError));
         }
         if let Err(_) = write_slot(&mut self.slots, number as usize, state) {
-            return Err(JoinFault::OutOfMemory);
+            return Err(StepFault::OutOfMemory(AllocError));
         }
         if let Err(_) = self.index.insert(context, offset, number) {
-            return Err(JoinFault::OutOfMemory);
+            return Err(StepFault::OutOfMemory(AllocError));
         }
         Ok(())
     }

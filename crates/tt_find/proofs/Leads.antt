@@ -4,24 +4,23 @@ use Rattle.std.proofs.Common.{refl, sym, ◌∙◌, ap, subst, inl, arith}
 use Rattle.tt_code.specs.Settings.{Setting}
 use Rattle.tt_code.specs.declared.machine.Frame.{Frame}
 use Rattle.tt_code.specs.declared.reason.Reason.TheVariants.{TooManyContexts}
-use Rattle.tt_abs.specs.declared.failed.Failed.TheVariants.{Only}
 use Rattle.tt_abs.specs.declared.moves.Move.{Move}
 use Rattle.tt_abs.specs.declared.moves.Moves.{Moves}
 use Rattle.tt_abs.specs.declared.state.State.{State}
 use Rattle.tt_abs.proofs.FamilyLaws.{derived_is}
+use Rattle.tt_abs.specs.Failures.{reason_of}
 use Rattle.tt_abs.specs.Lines.{Precedes}
 use Rattle.tt_abs.specs.Moves.{frames_after, offset_after, ways_of}
 use Rattle.tt_abs.specs.StateFlow.{Place, flow_of, height_of}
 use Rattle.tt_abs.specs.States.{state_order}
-use Rattle.tt_family.specs.Contents.{AddsContext, Contents, HasContext, IsFamily, frames_at}
+use Rattle.tt_family.specs.Contents.{AddsContext, Contents, HasContext, IsFamily, IsFullWithout, frames_at}
 use Rattle.tt_family.specs.Places.{states_of}
 use Rattle.tt_family.specs.Puts.{place_of}
 use Rattle.tt_abs.specs.Spots.{spot_of}
-use Rattle.tt_family.specs.Checks.{IsExhausted}
-use Rattle.tt_family.specs.declared.fault.ContextFault.{ContextFault}
-use Rattle.tt_family.specs.declared.fault.ContextFault.TheVariants.{TooManyContexts as TooMany, OutOfMemory as NoMemory}
+use Rattle.tt_abs.specs.Refusals.{refusal_at}
+use Rattle.tt_abs.specs.declared.failed.Failed.{Failed}
 use Rattle.tt_abs.specs.declared.refusal.Refusal.{Refusal}
-use Rattle.tt_abs.specs.declared.refusal.Refusal.TheVariants.{Refused, Exhausted}
+use Rattle.tt_abs.specs.declared.step_fault.StepFault.{StepFault}
 use Rattle.tt_find.specs.Found.{IsJustified, NamesPlace}
 use Rattle.tt_family.specs.Fillings.{IsJustAfter}
 use Rattle.tt_find.specs.Representation.Solvers.{ComesFrom, IsCountable, HasLaws, IsLeading, IsLeadingAt, IsLeadingOn, IsLeadingTo, IsOnWay, IsStored, IsWalk, IsWhole, TellsSource, calls_of, here_of, place_of_way, place_over, places_from}
@@ -30,7 +29,7 @@ use Rattle.tt_find.specs.declared.approach.Approach.TheVariants.{JustBefore, Els
 use Rattle.tt_find.specs.declared.solver.Solver.{Solver}
 use Rattle.tt_find.specs.declared.walk.Walk.{Walk}
 use Rattle.tt_find.proofs.Points.{frames_stay}
-use Rattle.tt_find.proofs.Steps.{countable_left, leading_ends, leading_grown, leading_put, leading_swap, names_at, too_many_left}
+use Rattle.tt_find.proofs.Steps.{countable_left, leading_ends, leading_grown, leading_put, leading_swap, failed_reason, refused_names, too_many_left}
 
 drop_next : {A : Type 0} (xs : List A) (i : ℕ) (x : A) → slice_get xs i ≡ Some x → drop i xs ≡ x ∷ drop (suc i) xs
 drop_next [] i x e = absurd (cc)
@@ -78,15 +77,13 @@ module _ (s : Setting) (functions : List (ℕ × ℕ)) (laws : HasLaws s functio
   whole_put old new p c off t source leading lt stored comes =
       leading_ends s functions laws new p t (leading_put s functions laws old new p c off t [] source leading lt stored comes)
 
-  -- the fault that tells of a context too many
-  pub not_entered : (p : Place) (fault : ContextFault) (result : Refusal) → (fault ≡ TooMany → result ≡ Refused (spot_of p.0) p.1 (Only TooManyContexts)) → (fault ≡ NoMemory → IsExhausted result)
-      → (fault ≡ TooMany → IsJustified s functions p TooManyContexts) → NamesPlace (IsJustified s functions) result
-  not_entered p TooMany result full memory just = names_at (IsJustified s functions) p (Only TooManyContexts) result (full refl) (just refl)
-  not_entered p NoMemory result full memory just = no_memory result (memory refl)
-    where
-      no_memory : (result : Refusal) → IsExhausted result → NamesPlace (IsJustified s functions) result
-      no_memory (Refused spot offset failed) never = absurd never
-      no_memory (Exhausted by) h = tt
+  -- the refusal that tells of a context too many
+  pub not_entered : (p : Place) (e : StepFault) (contexts : List (List Frame)) (frames : List Frame) (fault : Refusal) → fault ≡ refusal_at (spot_of p.0) p.1 e
+      → ((HasContext contexts frames → ⊥) → length contexts ≡ 65535 → IsJustified s functions p TooManyContexts) → IsFullWithout contexts frames e → NamesPlace (IsJustified s functions) fault
+  not_entered p e contexts frames fault is just full =
+      let J : Failed → Type 0 = λ f. IsJustified s functions p (reason_of f) in
+      refused_names (IsJustified s functions) p e fault is
+      (failed_reason e _ (IsJustified s functions p) (λ failed h. let (told, absent, many) = h in subst J (sym told) (just absent many)) full)
 
   -- The state is led to one place after the other.
 

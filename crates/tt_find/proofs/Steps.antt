@@ -10,6 +10,10 @@ use Rattle.tt_code.specs.declared.machine.Frame.{Frame}
 use Rattle.tt_code.specs.declared.reason.Reason.{Reason}
 use Rattle.tt_code.specs.declared.reason.Reason.TheVariants.{DepthMismatch, TooManyContexts}
 use Rattle.tt_abs.specs.Failures.{reason_of}
+use Rattle.tt_abs.specs.Moves.{ForFailed, ForReason}
+use Rattle.tt_abs.specs.Refusals.{refusal_at}
+use Rattle.tt_abs.specs.declared.step_fault.StepFault.{StepFault}
+use Rattle.tt_abs.specs.declared.step_fault.StepFault.TheVariants as step
 use Rattle.tt_abs.specs.declared.failed.Failed.{Failed}
 use Rattle.tt_abs.specs.declared.moves.Moves.{Moves}
 use Rattle.tt_abs.specs.declared.state.State.{State}
@@ -22,7 +26,9 @@ use Rattle.tt_family.specs.Checks.{point_key_of}
 use Rattle.tt_family.specs.Contents.{AddsContext, Contents, HasContext, IsFamily, family_of, frames_at, number_of}
 use Rattle.tt_family.specs.Numbers.{at-number_of, number_of-place}
 use Rattle.tt_family.specs.Places.{PutGives, PutsAt, has_point, states_of}
-use Rattle.tt_family.specs.Puts.{family_at, number_at, place_of}
+use Rattle.tt_family.specs.Budgets.{IsOfNoBudget}
+use Rattle.tt_family.specs.Joins.{TellsOtherDepth}
+use Rattle.tt_family.specs.Puts.{family_at, family_state, number_at, place_of}
 use Rattle.tt_abs.specs.Spots.{spot_of}
 use Rattle.tt_abs.specs.declared.spot.Spot.{Spot}
 use Rattle.tt_family.proofs.Puts.{cases_place}
@@ -36,7 +42,7 @@ use Rattle.tt_find.specs.declared.stop.Stop.{Stop}
 use Rattle.tt_find.specs.declared.stop.Stop.TheVariants.{Fault, Restart}
 use Rattle.tt_find.specs.declared.solver.Solver.{Solver}
 use Rattle.tt_find.specs.Found.{AreDerivedContexts, IsDerived, IsJustified, IsNeeded, NamesPlace, NamesStop, refused, apart, too_many}
-use Rattle.tt_find.specs.Representation.Solvers.{ArePoints, AreVisits, ComesFrom, HasLaws, HasRisen, IsAmong, IsApart, IsCarriedOn, IsCountable, IsLeading, IsListed, IsOnWay, IsPassed, IsPopped, IsPut, IsRefusedAt, IsSound, IsStored, IsSoundSoFar, IsWhole, IsWithinBudget, KeepsRest, MayLead, Pends, PendsFrom, SparesAt, places_from, updates_of}
+use Rattle.tt_find.specs.Representation.Solvers.{ArePoints, AreVisits, ComesFrom, HasLaws, HasRisen, IsAmong, IsApart, IsApartAt, IsCarriedOn, IsCountable, IsLeading, IsListed, IsOnWay, IsPassed, IsPopped, IsPut, IsRefusedAt, IsSound, IsStored, IsSoundSoFar, IsWhole, IsWithinBudget, KeepsRest, MayLead, NamesApart, Pends, PendsFrom, SparesAt, places_from, refused_in, updates_of}
 use Rattle.tt_find.proofs.Budget.{budget_put, budget_same, room_for, updates_fit}
 use Rattle.tt_find.proofs.Listed.{cases_source, listed_back, listed_before, listed_grown, listed_now, listed_on, there_now}
 use Rattle.tt_find.proofs.Marking.{kept_here, kept_passed, kept_put, kept_state, none_kept}
@@ -55,9 +61,30 @@ pub stop_map : (A B : Place → Reason → Type 0) (everywhere everywhere' : Boo
 stop_map A B everywhere everywhere' same turn (Fault fault) h = names_map A B turn fault h
 stop_map A B everywhere everywhere' same turn Restart h = sym same ∙ h
 
+pub failed_reason : (e : StepFault) (P : Failed → Type 0) (Q : Reason → Type 0) → ((f : Failed) → P f → Q (reason_of f)) → ForFailed e P → ForReason e Q
+failed_reason (step.Refused f) P Q h told = h f told
+failed_reason (step.OutOfMemory m) P Q h told = tt
+
 -- a fault that is at a place
 pub names_at : (Is : Place → Reason → Type 0) (p : Place) (failed : Failed) (fault : Refusal) → fault ≡ Refused (spot_of p.0) p.1 failed → Is p (reason_of failed) → NamesPlace Is fault
 names_at Is p failed fault e h = let N : Refusal → Type 0 = λ x. NamesPlace Is x in subst N (sym e) (p, refl, refl, h)
+
+-- the refusal of a step at a place names that place, and the reason of the test that fails
+pub refused_names : (Is : Place → Reason → Type 0) (p : Place) (e : StepFault) (fault : Refusal) → fault ≡ refusal_at (spot_of p.0) p.1 e → ForReason e (Is p) → NamesPlace Is fault
+refused_names Is p (step.Refused failed) fault is h = names_at Is p failed fault is h
+refused_names Is p (step.OutOfMemory m) fault is h = let N : Refusal → Type 0 = λ x. NamesPlace Is x in subst N (sym is) tt
+
+-- and no budget
+pub refused_within : (spot : Spot) (offset : ℕ) (e : StepFault) (fault : Refusal) → fault ≡ refusal_at spot offset e → IsOfNoBudget fault
+refused_within spot offset (step.Refused failed) fault is = let N : Refusal → Type 0 = λ x. IsOfNoBudget x in subst N (sym is) tt
+refused_within spot offset (step.OutOfMemory m) fault is = let N : Refusal → Type 0 = λ x. IsOfNoBudget x in subst N (sym is) tt
+
+-- a state that isn't put has another depth than the one at its point
+pub apart_names : (v : Contents) (c off : ℕ) (t : State) (e : StepFault) (fault : Refusal) → fault ≡ refused_in v c off e → TellsOtherDepth (family_state v c off) t e → NamesApart v c off t fault
+apart_names v c off t e fault is told =
+    refused_names (IsApartAt v c off t) (place_of v c off) e fault is
+    (failed_reason e _ (IsApartAt v c off t (place_of v c off)) (λ failed h.
+    let (depth, (s, at, differs)) = h in record { place = refl; reason = ap reason_of depth; state = s; found = at; apart = differs }) told)
 
 -- a state that is put makes at most one update
 pub stored_updates : (old new : Solver) (context offset : ℕ) (a : State) (source : Approach) → IsStored old new context offset a source → updates_of new ≤ updates_of old + 1

@@ -4,19 +4,17 @@
 ghost use Rattle.std.specs.Prelude.{◌≡◌, ◌<◌, ◌*◌, IfErr, IfOk, IfSome, IsTrue, OnOk, length};
 ghost use Rattle.tt_abs.specs.States.{state_order};
 ghost use Rattle.tt_family.specs.Budgets.{Counts, IsOfNoBudget, Spends, counted_from};
-ghost use Rattle.tt_family.specs.Checks.{IsExhausted};
 ghost use Rattle.tt_find.specs.Representation.BudgetStops.{IsStopOfNoBudget, StopTellsBudget};
 ghost use Rattle.tt_find.specs.Representation.SolverSubjects.{EndsJustBefore, GoesOnFor, HasLawsFor, IsNextAfter, IsOnWayFor, IsPoppedFor, IsSteppedAt, IsWholeFor, LeadsAlong, LeadsOver, NamesRefusalAt, StopsFor};
-ghost use Rattle.tt_find.specs.Representation.Solvers.{HasRisen, IsStored, IsWalk, KeepsEverywhere, MakesAtMost, StopsApart, TellsSource, refused_in};
+ghost use Rattle.tt_find.specs.Representation.Solvers.{HasRisen, IsStored, IsWalk, KeepsEverywhere, MakesAtMost, StopsApart, TellsSource};
 
 use crate::approach::Approach;
 use crate::solver::{Solver, refused_at};
 use crate::stop::Stop;
 use crate::successor::resolve_successor;
 use crate::walk::Walk;
-use tt_abs::{Exhausted, Failed, Moves, Point, Refusal, Setting, StepFault, Stepped, step_at};
-use tt_code::Reason;
-use tt_family::{Budget, Builder, ContextFault, added_after};
+use tt_abs::{Moves, Point, Refusal, Setting, Stepped, step_at};
+use tt_family::{Budget, Builder, added_after};
 
 /// Returns where the state at an offset of the walk's context leads; the walk then holds what it
 /// leads there. None at the main program's end.
@@ -47,8 +45,7 @@ fn step_state(
     walk.known = None;
     match step_at(setting, &point, &mut walk.state) {
         Ok(step) => Ok(Some(step)),
-        Err(StepFault::Refused(failed)) => Err(refused_at(builder, walk.context, offset, failed)),
-        Err(StepFault::OutOfMemory(error)) => Err(Refusal::from(error)),
+        Err(fault) => Err(refused_at(builder, walk.context, offset, fault)),
     }
 }
 
@@ -149,23 +146,6 @@ fn step_over(
     Ok(None)
 }
 
-/// Returns the fault that a context can't be entered from an offset of another one.
-fn not_entered(builder: &Builder, context: u32, offset: u32, fault: ContextFault) -> Refusal
-    requires { context < length builder.now.contexts }
-    ensures full { fault ≡ ContextFault.TooManyContexts
-        → result ≡ refused_in builder.now context offset (Failed.Only Reason.TooManyContexts) }
-    ensures memory { fault ≡ ContextFault.OutOfMemory → IsExhausted result }
-    ensures within { IsOfNoBudget result }
-{
-    match fault {
-        ContextFault::TooManyContexts => {
-            let failed = Failed::Only(Reason::TooManyContexts);
-            refused_at(builder, context, offset, failed)
-        }
-        ContextFault::OutOfMemory => Refusal::Exhausted(Exhausted::Memory),
-    }
-}
-
 /// Leads the walk's state on to each place to which the ways of an instruction lead, one after the
 /// other, and last to the one that it may pass without being kept. Returns that one's offset where
 /// the state passes it.
@@ -200,7 +180,7 @@ fn store_successors(
         let (context, next) = match resolve_successor(&mut solver.builder, here, way) {
             Ok(place) => place,
             Err(fault) => {
-                return Err(Stop::Fault(not_entered(&solver.builder, here, offset, fault)));
+                return Err(Stop::Fault(refused_at(&solver.builder, here, offset, fault)));
             }
         };
         let source = approach_of(here, context, after, next);

@@ -19,11 +19,11 @@ use crate::carry::{carry_on, store};
 use crate::solver::Solver;
 use crate::stop::Stop;
 use crate::walk::Walk;
-use std::alloc::{AllocError, Global};
+use std::alloc::Global;
 use std::collections::BTreeSet;
 use std::mem;
 use tt_abs::laws::flow_laws;
-use tt_abs::{Exhausted, Failed, Refusal, Setting, Spot};
+use tt_abs::{Exhausted, Refusal, Setting};
 use tt_code::Reason;
 use tt_family::{Budget, Builder, Certificate, PointKey, ends_well, is_short};
 
@@ -221,17 +221,6 @@ fn fill(
     }
 }
 
-/// Returns the fault at a place of the main program.
-fn refused_in_main(offset: u32, reason: Reason) -> Refusal
-    ensures { result ≡ Refusal.Refused Spot.Main offset (Failed.Only reason) }
-{
-    Refusal::Refused {
-        spot: Spot::Main,
-        offset,
-        failed: Failed::Only(reason),
-    }
-}
-
 /// Fills a solver with the least good family, and returns how many updates that took.
 ///
 /// # Errors
@@ -255,13 +244,13 @@ fn find_fixpoint(
     law_facts(setting);
     if !is_short(setting) {
         let most = u32::from(setting.limits.program_size);
-        return Err(refused_in_main(most, Reason::ProgramTooLong));
+        return Err(Refusal::in_main(most, Reason::ProgramTooLong));
     }
     if let Err(fault) = fill(alloc, solver, setting, kept, budget) {
         return Err(fault);
     }
     if !ends_well(setting, &solver.builder) {
-        return Err(refused_in_main(0, Reason::NeverEnds));
+        return Err(Refusal::in_main(0, Reason::NeverEnds));
     }
     match solver.changes.checked_add(solver.passes) {
         Some(updates) => Ok(updates),

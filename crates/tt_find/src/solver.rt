@@ -15,8 +15,8 @@ use crate::marks::{Mark, OffsetMarks};
 use crate::worklist::Worklist;
 use std::alloc::{AllocError, Global};
 use std::collections::BTreeSet;
-use tt_abs::{Exhausted, Failed, Refusal, Spot, State};
-use tt_family::{Builder, JoinFault, Joined, PointKey};
+use tt_abs::{Exhausted, Refusal, Spot, State, StepFault};
+use tt_family::{Builder, Joined, PointKey};
 
 /// The family so far. Its states are kept at the points where ways meet; those in between are made
 /// again each time that a state is carried on there.
@@ -53,16 +53,12 @@ impl Drop for Solver {
     }
 }
 
-/// Returns the fault that names a point and this failed test.
-pub(crate) fn refused_at(builder: &Builder, context: u32, offset: u32, failed: Failed) -> Refusal
+/// Returns the refusal of an instruction that is at this point.
+pub(crate) fn refused_at(builder: &Builder, context: u32, offset: u32, fault: StepFault) -> Refusal
     requires { context < length builder.now.contexts }
-    ensures { result ≡ refused_in builder.now context offset failed }
+    ensures { result ≡ refused_in builder.now context offset fault }
 {
-    Refusal::Refused {
-        spot: builder.spot(context),
-        offset,
-        failed,
-    }
+    fault.at(builder.spot(context), offset)
 }
 
 impl Solver {
@@ -117,16 +113,7 @@ impl Solver {
     {
         let joined = match self.builder.put_state(context, offset, state) {
             Ok(joined) => joined,
-            Err(JoinFault::DepthMismatch) => {
-                let depth = state.depth() as u32;
-                return Err(refused_at(
-                    &self.builder,
-                    context,
-                    offset,
-                    Failed::OtherDepth { depth },
-                ));
-            }
-            Err(JoinFault::OutOfMemory) => return Err(Refusal::Exhausted(Exhausted::Memory)),
+            Err(fault) => return Err(refused_at(&self.builder, context, offset, fault)),
         };
         if !joined.is_change() {
             return Ok(joined);

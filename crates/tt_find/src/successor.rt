@@ -1,13 +1,13 @@
 //! The point to which a way leads.
 
-ghost use Rattle.std.specs.Prelude.{◌≡◌, ◌<◌, Err, IfOk, OnErr, length};
-ghost use Rattle.tt_family.specs.Contents.{AddsContext, HasContext, IsFamily};
+ghost use Rattle.std.specs.Prelude.{◌≡◌, ◌<◌, IfErr, IfOk, OnErr, length};
+ghost use Rattle.tt_family.specs.Contents.{AddsContext, IsFamily, IsFullWithout};
 ghost use Rattle.tt_family.specs.Landings.{place_from};
 ghost use Rattle.tt_find.specs.Representation.Solvers.{IsCountable};
 
-use tt_abs::Move;
 use tt_abs::setting::body_offset;
-use tt_family::{Builder, ContextFault, Landing, PointKey, landing_of};
+use tt_abs::{Move, StepFault};
+use tt_family::{Builder, Landing, PointKey, landing_of};
 
 /// Returns the context's number and the offset to which a way leads from a context. The context to
 /// which it leads is added if it isn't there.
@@ -18,16 +18,15 @@ pub(crate) fn resolve_successor(
     builder: &mut Builder,
     context: u32,
     way: Move,
-) -> Result<PointKey, ContextFault>
+) -> Result<PointKey, StepFault>
     requires there { context < length builder.old.contexts }
     requires countable { IsCountable builder.old.contexts context }
     ensures added { IfOk result (λ at. AddsContext builder.old.contexts builder.new.contexts
         (place_from builder.old.contexts context way).0 at.0) }
     ensures offset { IfOk result (λ at. at.1 ≡ (place_from builder.old.contexts context way).1) }
     ensures states { builder.new.states ≡ builder.old.states }
-    ensures full { result ≡ Err ContextFault.TooManyContexts
-        → (HasContext builder.old.contexts (place_from builder.old.contexts context way).0 → ⊥)
-        × (length builder.old.contexts ≡ 65535) }
+    ensures full { IfErr result (IsFullWithout builder.old.contexts
+        (place_from builder.old.contexts context way).0) }
     ensures kept { OnErr result (builder.new ≡ builder.old) }
     ensures family { IsFamily builder.new }
 {

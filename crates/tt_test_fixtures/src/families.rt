@@ -5,9 +5,9 @@ ghost use Rattle.tt_abs.specs.Entries.{Ascends};
 ghost use Rattle.tt_abs.specs.States.{state_order};
 
 use std::alloc::{AllocError, Global};
-use tt_abs::{Cell, State};
-use tt_code::Frame;
-use tt_family::{Builder, ContextFault, JoinFault};
+use tt_abs::{Cell, State, StepFault};
+use tt_code::{Frame, Reason};
+use tt_family::Builder;
 
 /// The first turn of a call at offset 0.
 pub const CALL: Frame = Frame {
@@ -40,9 +40,9 @@ pub fn state_of(alloc: Global, functions: &[(u16, u32)], stack: &[i32]) -> Resul
 /// # Errors
 /// The faults of `Builder::add_context`; `TooManyContexts` also where there is none that it could
 /// be below.
-pub fn add(builder: &mut Builder, parent: u32, frame: Frame) -> Result<u32, ContextFault> {
+pub fn add(builder: &mut Builder, parent: u32, frame: Frame) -> Result<u32, StepFault> {
     if parent >= builder.contexts() {
-        return Err(ContextFault::TooManyContexts);
+        return Err(StepFault::from(Reason::TooManyContexts));
     }
     builder.add_context(parent, frame)
 }
@@ -56,11 +56,11 @@ pub fn join(
     context: u32,
     offset: u32,
     state: &State,
-) -> Result<bool, JoinFault>
+) -> Result<bool, StepFault>
     requires { state_order.InRange state.now }
 {
     if context >= builder.contexts() {
-        return Err(JoinFault::OutOfMemory);
+        return Err(StepFault::OutOfMemory(AllocError));
     }
     builder.join_state(context, offset, state)
 }

@@ -6,16 +6,17 @@ use Rattle.tt_code.specs.Settings.{Setting, is_main_end}
 use Rattle.tt_code.specs.declared.machine.Frame.{Frame}
 use Rattle.tt_code.specs.declared.reason.Reason.{Reason}
 use Rattle.tt_code.specs.declared.reason.Reason.TheVariants.{DepthMismatch}
-use Rattle.tt_abs.specs.declared.failed.Failed.{Failed}
 use Rattle.tt_abs.specs.declared.moves.Move.{Move}
 use Rattle.tt_abs.specs.declared.moves.Moves.{Moves}
 use Rattle.tt_abs.specs.declared.state.State.{State}
 use Rattle.tt_abs.specs.declared.instruction.Stepped.{Stepped}
+use Rattle.tt_abs.specs.declared.step_fault.StepFault.{StepFault}
 use Rattle.tt_abs.specs.Families.{CoversAt, Derived}
 use Rattle.tt_abs.specs.Flows.{Flow, FlowLaws}
 use Rattle.tt_abs.specs.Lines.{EndsAt, Precedes}
 use Rattle.tt_abs.specs.Moves.{frames_after, nexts_of, offset_after, ways_of}
 use Rattle.tt_abs.specs.Orders.{Order}
+use Rattle.tt_abs.specs.Refusals.{refusal_at}
 use Rattle.tt_abs.specs.StateFlow.{AreProgramsShort, GivesState, Place, RefusesState, flow_of, height_of}
 use Rattle.tt_abs.specs.States.{abstract_of, state_order}
 use Rattle.tt_abs.specs.Transfers.{outcome_on_cells}
@@ -28,7 +29,6 @@ use Rattle.tt_abs.specs.Spots.{spot_of}
 use Rattle.tt_abs.specs.declared.spot.Spot.{Spot}
 use Rattle.tt_family.specs.Fillings.{IsJustAfter}
 use Rattle.tt_abs.specs.declared.refusal.Refusal.{Refusal}
-use Rattle.tt_abs.specs.declared.refusal.Refusal.TheVariants.{Refused}
 use Rattle.tt_find.specs.Found.{ArePointsOf, IsDerived, IsNeeded, NamesPlace, NamesStop}
 use Rattle.tt_find.specs.Representation.OffsetMarks.{SetsMark, mark_at, mark_of}
 use Rattle.tt_find.specs.declared.marks.Mark.TheVariants.{Free, Kept, Passed}
@@ -263,10 +263,10 @@ StopsApart solver context offset t =
 abbrev pub KeepsEverywhere : Solver → Solver → Type 0
 KeepsEverywhere old new = new.marks.everywhere ≡ old.marks.everywhere
 
--- the fault that names an offset of a context, with this failed test
-abbrev pub refused_in : Contents → ℕ → ℕ → Failed → Refusal
-refused_in contents context offset failed =
-    Refused (spot_of (frames_at contents.contexts context)) offset failed
+-- the refusal of an instruction at an offset of a context
+abbrev pub refused_in : Contents → ℕ → ℕ → StepFault → Refusal
+refused_in contents context offset =
+    refusal_at (spot_of (frames_at contents.contexts context)) offset
 
 -- the state is refused at this place
 pub record IsRefusedAt (s : Setting) (at : Place) (state : State) (p : Place) (r : Reason)

@@ -1,4 +1,4 @@
-use Rattle.std.proofs.Common.{Err, take_all, ap, ◌∙◌, arith}
+use Rattle.std.proofs.Common.{take_all, ap, ◌∙◌, arith}
 use Rattle.tt_family.specs.Contexts.{frames_of}
 use Rattle.tt_cert.specs.Sections.{Context, no_frame}
 use Rattle.tt_cert.proofs.ContextLists.{IsFinished-from, context_added, contexts_so_far, parent_there}
@@ -28,8 +28,8 @@ returns-clause-finished c =
 
 pub unreachable-requires : goal.unreachable-requires
 unreachable-requires c =
-    let full = c.add_context.ensures.full (c.in-Err-TooManyContexts.is ∙ ap Err c.in-Err-TooManyContexts.field-0-is) in
+    let (_, _, full) = rw c.in-Err-Refused.field-0-is at c.in-Err-Refused.ensures.full in
     let lt = c.loop-parent-test.true in
     let few = c.requires.few in
     let count = contexts_so_far c.args.contexts.now c.loop-parent.parent-index c.loop-parent.builder lt c.loop-parent.invariant.0 in
-    absurd (omega (arith, full.1))
+    absurd (omega (arith, full))

@@ -1,4 +1,4 @@
-use Rattle.std.proofs.Common.{◌≡◌, Some, None, Err, sym, ap, ◌∙◌}
+use Rattle.std.proofs.Common.{◌≡◌, Some, None, sym, ◌∙◌}
 use Rattle.tt_cert.proofs.StateLists.{place_free, state_added}
 use Rattle.tt_cert.proofs.states.add_state.Goals as goal
 
@@ -16,5 +16,5 @@ returns-in-Ok-clause-added c =
 pub unreachable-requires : goal.unreachable-requires
 unreachable-requires c =
     let free = place_free c.args.builder.now c.args.point c.family_facts.ensures c.order_facts.ensures c.requires.there in
-    let (s, at, apart) = c.join_state-joined.ensures.depth (c.in-Err.is ∙ ap Err c.in-DepthMismatch.is) in
+    let (_, (s, at, apart)) = rw c.in-Refused.is at c.in-Err.ensures.depth in
     absurd (let no : None ≡ Some s = sym free.1 ∙ at in cc)

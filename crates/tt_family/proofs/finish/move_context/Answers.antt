@@ -1,5 +1,5 @@
 use Rattle.std.proofs.Common.{refl}
-use Rattle.tt_family.proofs.Renumbering.{is_context, parent_moved, context_moved, has_room, no_context_memory}
+use Rattle.tt_family.proofs.Renumbering.{is_context, parent_moved, context_moved, has_room, only_memory}
 use Rattle.tt_family.proofs.finish.move_context.Goals as goal
 
 pub returns-in_default-clause-moved : goal.returns-in_default-clause-moved
@@ -19,10 +19,11 @@ add_context-requires c =
 
 pub returns-in_err-add_context-clause-memory : goal.returns-in_err-add_context-clause-memory
 returns-in_err-add_context-clause-memory c =
-    no_context_memory c.add_context.result c.from_residual.result c.in_err-add_context.field-0.0 c.in_err-add_context.was
-    (λ full. has_room c.args.old.now c.args.order.now c.args.places.now c.args.place c.family_facts.ensures c.requires.order c.requires.place.0 c.requires.place.1
-    c.requires.places c.args.new.now.contexts c.requires.before c.in-Some.parent c.in-Some.frame c.in-Some.ensures.some.1 c.in-Some.ensures.some.2 (c.add_context.ensures.full full).1)
-    c.from_residual.ensures.1
+    only_memory c.add_context.result c.from_residual.result c.in_err-add_context.field-0.0 _
+    (λ failed told. let (_, _, full) = told in
+    has_room c.args.old.now c.args.order.now c.args.places.now c.args.place c.family_facts.ensures c.requires.order c.requires.place.0 c.requires.place.1
+    c.requires.places c.args.new.now.contexts c.requires.before c.in-Some.parent c.in-Some.frame c.in-Some.ensures.some.1 c.in-Some.ensures.some.2 full)
+    c.in_err-add_context.was c.add_context.ensures.full c.from_residual.ensures.1
 
 pub returns-clause-moved : goal.returns-clause-moved
 returns-clause-moved c =

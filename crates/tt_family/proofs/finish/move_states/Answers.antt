@@ -4,7 +4,7 @@ use Rattle.tt_code.specs.declared.machine.Frame.{Frame}
 use Rattle.tt_family.specs.Ascending.{AreMoved}
 use Rattle.tt_family.proofs.Amounts.{amount_step, next_free, none_there}
 use Rattle.tt_family.proofs.Moves.{next_context, next_range, moved_there, none_spare, HasSoFar-spare, HasSoFar-step}
-use Rattle.tt_family.proofs.Renumbering.{no_state_memory}
+use Rattle.tt_family.proofs.Renumbering.{only_memory}
 use Rattle.tt_family.proofs.finish.move_states.Goals as goal
 
 pub bounds-numbers-context : goal.bounds-numbers-context
@@ -32,8 +32,9 @@ returns-in_err-join_state-clause-memory c =
     let free = next_free c.args.old.now c.loop-context.new c.args.numbers.now c.args.spare.now.keys (c.in-Some.context, c.in-Some.offset) c.in-Some.state.now _ listed c.states-states.ensures.family
     (subst M (sym c.loop-context.invariant.contexts) c.requires.moved) c.states-states.ensures.found c.states-states.ensures.ascends
     (slice_get-get_or c.args.numbers.now c.in-Some.context 0 within) _ _ c.loop-context.invariant.same c.in-Some.ensures.some in
-    no_state_memory c.join_state.result c.from_residual.result c.in_err-join_state.field-0.0 c.in_err-join_state.was
-    (λ deep. let (s, at, _) = c.join_state.ensures.depth deep in none_there _ s free at) c.from_residual.ensures.1
+    only_memory c.join_state.result c.from_residual.result c.in_err-join_state.field-0.0 _
+    (λ failed told. let (_, (s, at, _)) = told in none_there _ s free at)
+    c.in_err-join_state.was c.join_state.ensures.depth c.from_residual.ensures.1
 
 pub loop-context-preserved-in_ok-join_state : goal.loop-context-preserved-in_ok-join_state
 loop-context-preserved-in_ok-join_state c =

@@ -1,8 +1,6 @@
 use Rattle.std.specs.Prelude.{false, cond, slice_get, suc, zero, ◌≤◌}
 use Rattle.std.specs.Option.{is_some}
-use Rattle.std.proofs.Common.{◌≡◌, ◌∙◌, ◌+◌, ◌++◌, ℕ, Option, Some, None, Err, ap, arith, refl, sym, subst}
-use Rattle.tt_code.specs.declared.reason.Reason.TheVariants.{TooManyContexts}
-use Rattle.tt_abs.specs.declared.failed.Failed.TheVariants.{Only}
+use Rattle.std.proofs.Common.{◌≡◌, ◌∙◌, ◌+◌, ◌++◌, ℕ, Option, Some, None, ap, arith, refl, sym, subst}
 use Rattle.tt_abs.specs.Moves.{ways_of}
 use Rattle.tt_abs.specs.Settings.{setting_of}
 use Rattle.tt_abs.specs.declared.moves.Move.{Move}
@@ -11,13 +9,13 @@ use Rattle.tt_abs.specs.declared.moves.Moves.TheVariants.{One, Two}
 use Rattle.tt_family.specs.Contents.{Contents, family_of, frames_at}
 use Rattle.tt_family.specs.Puts.{place_of}
 use Rattle.tt_abs.specs.Spots.{spot_of}
-use Rattle.tt_abs.specs.declared.refusal.Refusal.TheVariants.{Refused}
+use Rattle.tt_abs.specs.Refusals.{refusal_at}
 use Rattle.tt_find.specs.Found.{IsJustified}
 use Rattle.tt_find.specs.Representation.Solvers.{HasRisen, IsApart, IsLeadingOn, IsLeadingTo, TellsSource, calls_of, here_of, place_over, places_from, updates_of}
 use Rattle.tt_find.specs.declared.solver.Solver.{Solver}
 use Rattle.tt_find.specs.declared.walk.Walk.{Walk}
 use Rattle.tt_find.proofs.Leads.{countable_on, held, just_over, last_over, none_over, not_entered, put, ranged_to, reached_from, too_many_on}
-use Rattle.tt_find.proofs.Steps.{apart_left, risen_on, stop_map, stored_updates}
+use Rattle.tt_find.proofs.Steps.{apart_left, refused_within, risen_on, stop_map, stored_updates}
 use Rattle.tt_find.proofs.carry.store_successors.Goals as goal
 use Rattle.tt_find.proofs.carry.store_successors.Goals.{then-is_none+then-goes_over, else-is_none+in_default-store}
 
@@ -32,12 +30,14 @@ returns-in-Err-clause-stops c =
     let fs = c.args.setting.now.start.now in
     let solver = c.loop-way.solver in
     let here = c.args.walk.now.context in
-    not_entered s fs c.requires.laws (frames_at solver.builder.contexts here, c.args.offset) c.in-Err.fault c.not_entered.result
-    (λ is. c.not_entered.ensures.full is ∙ ap (λ (v : Contents). Refused (spot_of (frames_at v.contexts here)) c.args.offset (Only TooManyContexts)) c.in-Err.ensures.kept) c.not_entered.ensures.memory
-    (λ is.
-    let (absent, full) = c.in-Err.ensures.full (ap Err is) in
-    too_many_on s fs c.requires.laws solver c.loop-way.walk c.args.offset c.args.after c.args.ways c.loop-way.index c.loop-way.over c.in-Some.way here c.loop-way.invariant.here
-    c.loop-way.invariant.on (sym c.in-Some.ensures) absent full)
+    let fault = c.in-Err.fault in
+    not_entered s fs c.requires.laws (frames_at solver.builder.contexts here, c.args.offset) fault solver.builder.contexts _ c.refused_at.result
+    (c.refused_at.ensures ∙ ap (λ (v : Contents). refusal_at (spot_of (frames_at v.contexts here)) c.args.offset fault) c.in-Err.ensures.kept)
+    (too_many_on s fs c.requires.laws solver c.loop-way.walk c.args.offset c.args.after c.args.ways c.loop-way.index c.loop-way.over c.in-Some.way here c.loop-way.invariant.here
+    c.loop-way.invariant.on (sym c.in-Some.ensures)) c.in-Err.ensures.full
+
+pub returns-in-Err-clause-within : goal.returns-in-Err-clause-within
+returns-in-Err-clause-within c = refused_within _ c.args.offset c.in-Err.fault c.refused_at.result c.refused_at.ensures
 
 pub store-requires-clause-in_range : goal.store-requires-clause-in_range
 store-requires-clause-in_range c =

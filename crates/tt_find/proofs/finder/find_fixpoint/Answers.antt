@@ -14,14 +14,14 @@ pub returns-then-not-is_short-clause-justified : goal.returns-then-not-is_short-
 returns-then-not-is_short-clause-justified c =
     let s = setting_of c.args.setting.now in
     let f : c.is_short.result ≡ false = search rules in
-    names_at (IsJustified s c.args.setting.now.start.now) ([], s.limits.program_size) (Only ProgramTooLong) c.refused_in_main.result
-    (c.refused_in_main.ensures ∙ ap (λ n. Refused Main n (Only ProgramTooLong)) c.from-most.ensures)
+    names_at (IsJustified s c.args.setting.now.start.now) ([], s.limits.program_size) (Only ProgramTooLong) c.in_main.result
+    (c.in_main.ensures ∙ ap (λ n. Refused Main n (Only ProgramTooLong)) c.from-most.ensures)
     (too_long (λ h. not_both c.is_short.result f (c.is_short.ensures.1 h)))
 
 pub returns-then-not-ends_well-clause-justified : goal.returns-then-not-ends_well-clause-justified
 returns-then-not-ends_well-clause-justified c =
     let s = setting_of c.args.setting.now in
     let f : c.ends_well.result ≡ false = search rules in
-    names_at (IsJustified s c.args.setting.now.start.now) ([], 0) (Only NeverEnds) c.refused_in_main-then-not-ends_well.result c.refused_in_main-then-not-ends_well.ensures
+    names_at (IsJustified s c.args.setting.now.start.now) ([], 0) (Only NeverEnds) c.in_main-then-not-ends_well.result c.in_main-then-not-ends_well.ensures
     (never_ends c.in_default.ensures.whole.filled
     (lacks_end s c.args.setting.now.start.now c.law_facts.ensures c.fill.new.solver c.in_default.ensures.whole c.in_default.ensures.none (λ h. not_both c.ends_well.result f (c.ends_well.ensures.1 h))))

@@ -1,4 +1,4 @@
-use Rattle.std.proofs.Common.{arith, ◌∙◌, ap, ◌+◌, ◌++◌, ◌∷◌, []}
+use Rattle.std.proofs.Common.{arith, refl, ◌∙◌, ap, ◌+◌, ◌++◌, ◌∷◌, []}
 use Rattle.tt_family.proofs.Adding.{length_is, entries_few, is_there, is_absent, HasContext-from, IsBuilt-added, added_adds, added_family}
 use Rattle.tt_family.proofs.builder.Builder.add_context.Goals as goal
 
@@ -23,11 +23,11 @@ overflow_add-count c =
     omega arith
 
 pub returns-then-count-ge-MOST_CONTEXTS-clause-full : goal.returns-then-count-ge-MOST_CONTEXTS-clause-full
-returns-then-count-ge-MOST_CONTEXTS-clause-full c = λ _.
+returns-then-count-ge-MOST_CONTEXTS-clause-full c =
     let few = entries_few _ _ _ _ c.self.view_is c.self.invariant in
     let long = length_is _ _ _ _ c.self.view_is c.self.invariant in
     let e = c.len.ensures in
-    (is_absent _ _ _ _ c.self.view_is c.self.invariant c.args.parent c.args.frame c.in_default.ensures c.requires, omega arith)
+    (refl, is_absent _ _ _ _ c.self.view_is c.self.invariant c.args.parent c.args.frame c.in_default.ensures c.requires, omega arith)
 
 pub returns-in-Err-clause-room : goal.returns-in-Err-clause-room
 returns-in-Err-clause-room c = λ absent full.

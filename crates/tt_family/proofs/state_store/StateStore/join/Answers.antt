@@ -1,4 +1,5 @@
-use Rattle.std.proofs.Common.{refl, sym, ◌∙◌, arith, slice_set}
+use Rattle.std.proofs.Common.{refl, sym, ap, ◌∙◌, arith, slice_set}
+use Rattle.tt_abs.specs.declared.failed.Failed.TheVariants.{OtherDepth}
 use Rattle.tt_family.proofs.StateSlots.{slot_there, state_found, none_found, length-states_in, one_depth, PutsAt-set, Reweighs-set}
 use Rattle.tt_family.proofs.state_store.StateStore.join.Goals as goal
 
@@ -14,12 +15,10 @@ join-requires-clause-mine c =
     c.index_mut-slot.ensures.value))
 
 pub returns-in_default-join-clause-depth : goal.returns-in_default-join-clause-depth
-returns-in_default-join-clause-depth c = λ _. (
-  c.index_mut-slot.result.now,
-  sym (state_found _ _ c.self.invariant _ c.self.view_is (c.args.context, c.args.offset) c.in-Some.number c.in-Some.ensures c.index_mut-slot.result.now
-      c.index_mut-slot.ensures.value),
-  c.in_default-join.ensures.refused,
-)
+returns-in_default-join-clause-depth c =
+    let found = state_found _ _ c.self.invariant _ c.self.view_is (c.args.context, c.args.offset) c.in-Some.number c.in-Some.ensures c.index_mut-slot.result.now
+    c.index_mut-slot.ensures.value in
+    (ap OtherDepth c.depth-depth.ensures.value, (c.index_mut-slot.result.now, sym found, c.in_default-join.ensures.refused))
 
 pub returns-in-Some-clause-put : goal.returns-in-Some-clause-put
 returns-in-Some-clause-put c =

@@ -1,7 +1,10 @@
 use Rattle.std.proofs.Common.{arith, ℕ, Bool, ◌+◌, cond, ◌≡◌, ap, length, sym, ◌∙◌}
 use Rattle.tt_abs.specs.States.{state_order}
 use Rattle.tt_family.specs.Joins.{is_change}
+use Rattle.tt_family.specs.Contents.{Contents}
+use Rattle.tt_find.specs.Representation.Solvers.{refused_in}
 use Rattle.tt_find.proofs.Placed.{put_new}
+use Rattle.tt_find.proofs.Steps.{apart_names, refused_within}
 use Rattle.tt_find.proofs.Waits.{length-insert_key, waiting_inserted}
 use Rattle.tt_find.proofs.solver.Solver.put.Goals as goal
 
@@ -27,3 +30,11 @@ pub returns-clause-new : goal.returns-clause-new
 returns-clause-new c = λ new.
     put_new state_order c.args.self.now.builder c.put_state.new.self c.args.context c.args.offset c.args.state.now (is_change c.in-Ok.joined) c.requires.there c.in-Ok.ensures.put c.in-Ok.ensures.contexts
     c.in-Ok.ensures.family (c.in-Ok.ensures.new.0 new)
+
+pub returns-in-Err-clause-apart : goal.returns-in-Err-clause-apart
+returns-in-Err-clause-apart c =
+    apart_names c.args.self.now.builder c.args.context c.args.offset c.args.state.now c.in-Err.fault c.refused_at.result
+    (c.refused_at.ensures ∙ ap (λ (v : Contents). refused_in v c.args.context c.args.offset c.in-Err.fault) c.in-Err.ensures.kept) c.in-Err.ensures.depth
+
+pub returns-in-Err-clause-within : goal.returns-in-Err-clause-within
+returns-in-Err-clause-within c = refused_within _ c.args.offset c.in-Err.fault c.refused_at.result c.refused_at.ensures
