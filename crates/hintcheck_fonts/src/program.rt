@@ -6,9 +6,10 @@ ghost use Rattle.tt_code.specs.Cut.{Instruction, IsCut};
 ghost use Rattle.tt_code.specs.Grammar.{IsStructured};
 ghost use Rattle.tt_code.specs.Settings.{GlyphProgram};
 ghost use Rattle.tt_abs.specs.Entries.{Ascends};
+ghost use Rattle.tt_abs.specs.Refusals.{IsOfNoBudget};
 ghost use Rattle.tt_abs.specs.Settings.{setting_of};
 ghost use Rattle.tt_abs.specs.StateFlow.{FunctionsFit};
-ghost use Rattle.tt_family.specs.Budgets.{IsOfNoBudget, Spends, TellsBudget};
+ghost use Rattle.tt_family.specs.Budgets.{Spends, TellsBudget};
 ghost use Rattle.tt_family.specs.Checks.{IsExhausted};
 ghost use Rattle.tt_cert.specs.declared.name.Name.{Name as ProgramName};
 ghost use Rattle.hintcheck_fonts.specs.Programs.{Subject};
@@ -17,21 +18,10 @@ ghost use Rattle.hintcheck_fonts.specs.Representation.Judges.{IsFoundHere};
 ghost use Rattle.hintcheck_fonts.specs.Representation.ProgramOrder.{IsUncut};
 
 use std::alloc::Global;
-use tt_abs::{Failed, Refusal, Setting, Spot};
+use tt_abs::{Refusal, Setting};
 use tt_code::{CodeFault, Program, Reason};
 use tt_family::{Budget, Certificate, Listing, check_listing};
 use tt_find::{Finder, ListedStates};
-
-/// Returns the fault of a program that is refused at this offset of its own bytes.
-fn refused_at(offset: u32, reason: Reason) -> Refusal
-    ensures { result ≡ Refusal.Refused Spot.Main offset (Failed.Only reason) }
-{
-    Refusal::Refused {
-        spot: Spot::Main,
-        offset,
-        failed: Failed::Only(reason),
-    }
-}
 
 /// Cuts the bytes of a program, at most 2^31 - 1, into its instructions.
 ///
@@ -49,8 +39,8 @@ pub fn cut<'a>(alloc: Global, bytes: &'a [u8]) -> Result<Program<'a>, Refusal>
 {
     match Program::cut(alloc, bytes) {
         Ok(program) => Ok(program),
-        Err(CodeFault::CannotCut(offset)) => Err(refused_at(offset, Reason::CannotCut)),
-        Err(CodeFault::Structure(offset)) => Err(refused_at(offset, Reason::Structure)),
+        Err(CodeFault::CannotCut(offset)) => Err(Refusal::in_main(offset, Reason::CannotCut)),
+        Err(CodeFault::Structure(offset)) => Err(Refusal::in_main(offset, Reason::Structure)),
         Err(CodeFault::OutOfMemory(error)) => Err(Refusal::from(error)),
     }
 }

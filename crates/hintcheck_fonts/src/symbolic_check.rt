@@ -1,7 +1,8 @@
 //! The judge that searches and checks a program by symbolic states.
 
-ghost use Rattle.std.specs.Prelude.{◌≡◌, IfOk, OnOk, refl};
+ghost use Rattle.std.specs.Prelude.{◌≡◌, IfErr, IfOk, IsTrue, OnOk, Some, refl};
 ghost use Rattle.tt_abs.specs.Entries.{Ascends};
+ghost use Rattle.tt_abs.specs.Refusals.{IsOfNoBudget, told_reason};
 ghost use Rattle.tt_abs.specs.Settings.{setting_of};
 ghost use Rattle.tt_symbolic_font.specs.Known.{StartGlyphs};
 ghost use Rattle.hintcheck_fonts.specs.Representation.FontVerdicts.{ComesToEnd};
@@ -11,7 +12,7 @@ use crate::judge::Judge;
 use crate::report::Name;
 use std::alloc::{AllocError, Global};
 use std::mem;
-use tt_abs::{Exhausted, Kind, Refusal, Setting, SortedMap};
+use tt_abs::{Kind, Refusal, Setting, SortedMap};
 use tt_code::Reason;
 use tt_family::{Budget, is_short};
 use tt_symbolic::{Kept, NOTHING_KEPT};
@@ -75,7 +76,8 @@ fn check_to_end(
     functions: &[(u16, u32)],
 ) -> Result<Ends, Refusal>
     requires { Ascends functions.now }
-    ensures { IfOk result (IsEnded (setting_of setting.now) functions.now) }
+    ensures ended { IfOk result (IsEnded (setting_of setting.now) functions.now) }
+    ensures within { IfErr result IsOfNoBudget }
 {
     let functions = SortedMap::from_slice(alloc, functions)?;
     let start = start_with(alloc, &functions)?;
@@ -101,7 +103,8 @@ fn check_glyph(
     setting: &Setting<'_>,
     starts: &GlyphStarts,
 ) -> Result<(), Refusal>
-    ensures { OnOk result (IsRunnable (setting_of setting.now) starts.now) }
+    ensures runnable { OnOk result (IsRunnable (setting_of setting.now) starts.now) }
+    ensures within { IfErr result IsOfNoBudget }
 {
     if !is_short(setting) {
         let most = u32::from(setting.limits.program_size);
@@ -158,8 +161,9 @@ fn check_found(
     cvt: &Setting<'_>,
     glyph: &Setting<'_>,
 ) -> Result<(), Refusal>
-    ensures { OnOk result (AreCheckedInTurn (setting_of font.now) (setting_of cvt.now)
+    ensures checked { OnOk result (AreCheckedInTurn (setting_of font.now) (setting_of cvt.now)
         (setting_of glyph.now)) }
+    ensures within { IfErr result IsOfNoBudget }
 {
     let effort = effort_left(search, most_steps);
     let first = check_to_end(alloc, search, effort, font, &[])?;
@@ -183,8 +187,9 @@ pub(crate) fn check_in_turn(
     cvt: &Setting<'_>,
     glyph: &Setting<'_>,
 ) -> Result<(), Refusal>
-    ensures { OnOk result (AreCheckedInTurn (setting_of font.now) (setting_of cvt.now)
+    ensures checked { OnOk result (AreCheckedInTurn (setting_of font.now) (setting_of cvt.now)
         (setting_of glyph.now)) }
+    ensures within { IfErr result IsOfNoBudget }
 {
     let mut search = Search::new(alloc);
     check_found(alloc, &mut search, most_steps, font, cvt, glyph)
@@ -274,6 +279,7 @@ impl SymbolicCheck {
         ensures runnable { OnOk result ((ComesToEnd (setting_of setting.now).kind → ⊥)
             → IsRunnable (setting_of setting.now) self.new.starts) }
         ensures starts { self.new.starts ≡ self.old.starts }
+        ensures within { IfErr result IsOfNoBudget }
     {
         let effort = effort_left(&self.search, self.most_steps);
         let search = &mut self.search;
@@ -284,6 +290,23 @@ impl SymbolicCheck {
             }
             Kind::Glyph { .. } => check_glyph(alloc, search, effort, setting, &self.starts),
         }
+    }
+
+    /// Hands on the answer for a program, and notes where it is refused because it may write what the
+    /// starts list.
+    fn note(&mut self, answer: Result<(), Refusal>) -> Result<(), Refusal>
+        ensures answer { result ≡ answer }
+        ensures noted { IfErr answer (λ refusal. told_reason refusal ≡ Some Reason.KeptEntry
+            → IsTrue self.new.may_write_kept) }
+        ensures ends { self.new.ends ≡ self.old.ends }
+        ensures starts { self.new.starts ≡ self.old.starts }
+    {
+        if let Err(refusal) = &answer {
+            if refusal.reason() == Some(Reason::KeptEntry) {
+                self.may_write_kept = true;
+            }
+        }
+        answer
     }
 }
 
@@ -309,27 +332,8 @@ impl Judge for SymbolicCheck {
         _budget: &mut Budget,
     ) -> Result<(), Refusal> {
         self.search.ask(question_on(self.explained, program));
-        match self.check(alloc, setting, start) {
-            Ok(()) => Ok(()),
-            Err(
-                Refusal::Refused {
-                    spot,
-                    offset,
-                    failed,
-                },
-            ) => {
-                if failed.reason() == Reason::KeptEntry {
-                    self.may_write_kept = true;
-                }
-                Err(Refusal::Refused {
-                    spot,
-                    offset,
-                    failed,
-                })
-            }
-            // No budget is handed to the search: memory ran out.
-            Err(Refusal::Exhausted(_)) => Err(Refusal::Exhausted(Exhausted::Memory)),
-        }
+        let answer = self.check(alloc, setting, start);
+        self.note(answer)
     }
 
     fn uncut_facts(&self) {}

@@ -171,8 +171,9 @@ fn assert_commands_refused(rt: &HostRuntime, commands: &[&[&str]]) -> Result<(),
 
 #[test]
 fn commands_that_read_files(rt: HostRuntime) -> Result<(), Fail> {
-    let commands: [&[&str]; 3] = [
+    let commands: [&[&str]; 4] = [
         &["verdict", "FONT"],
+        &["verdict", "--symbolic", "FONT"],
         &["check", "FONT", "CERT"],
         &["list", "FONT", "g0"],
     ];
@@ -207,11 +208,13 @@ fn scan_of_a_file_as_json(rt: HostRuntime) -> Result<(), Fail> {
 
 #[test]
 fn explanations_of_files(rt: HostRuntime) -> Result<(), Fail> {
-    let commands: [&[&str]; 4] = [
+    let commands: [&[&str]; 6] = [
         &["explain", "FONT", "g0"],
         &["explain", "FONT", "g0", "3"],
         &["explain", "BAD", "g0"],
         &["explain", "BAD", "g0", "0"],
+        &["explain", "--symbolic", "FONT", "g0"],
+        &["explain", "--symbolic", "BAD", "g0"],
     ];
     assert_commands_refused(&rt, &commands)
 }

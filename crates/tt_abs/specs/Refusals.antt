@@ -1,7 +1,7 @@
 -- Refusals: of an instruction at its place, and for which reason. (Own.)
 use Rattle.std.specs.Prelude.{ℕ, Option, None, Some}
 use Rattle.tt_code.specs.declared.reason.Reason.{Reason}
-use Rattle.tt_abs.specs.declared.exhausted.Exhausted.TheVariants.{Memory}
+use Rattle.tt_abs.specs.declared.exhausted.Exhausted.TheVariants.{Budget, Memory}
 use Rattle.tt_abs.specs.declared.refusal.Refusal.{Refusal}
 use Rattle.tt_abs.specs.declared.refusal.Refusal.TheVariants.{Refused, Exhausted}
 use Rattle.tt_abs.specs.declared.spot.Spot.{Spot}
@@ -23,3 +23,9 @@ IsOutOfMemory fault = ForFailed fault (λ _. ⊥)
 abbrev pub told_reason : Refusal → Option Reason
 told_reason (Refused spot offset failed) = Some (reason_of failed)
 told_reason (Exhausted by) = None
+
+-- what ends the work isn't a budget
+abbrev pub IsOfNoBudget : Refusal → Type 0
+IsOfNoBudget (Refused spot offset failed) = Unit {0}
+IsOfNoBudget (Exhausted Memory) = Unit {0}
+IsOfNoBudget (Exhausted Budget) = ⊥

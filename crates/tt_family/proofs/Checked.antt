@@ -11,15 +11,17 @@ use Rattle.tt_code.specs.declared.machine.Frame.{Frame}
 use Rattle.tt_code.specs.declared.reason.Reason.{Reason}
 use Rattle.tt_code.specs.declared.reason.Reason.TheVariants.{MissingPoint, NotCovered, Storage}
 use Rattle.tt_abs.specs.Failures.{reason_of}
-use Rattle.tt_abs.specs.declared.failed.Failed.{Failed}
 use Rattle.tt_abs.specs.declared.failed.Failed.TheVariants.{Only}
 use Rattle.tt_abs.specs.declared.state.State.{State}
+use Rattle.tt_abs.specs.declared.step_fault.StepFault.{StepFault}
+use Rattle.tt_abs.specs.declared.step_fault.StepFault.TheVariants as step
 use Rattle.tt_abs.specs.declared.moves.Move.{Move}
 use Rattle.tt_abs.specs.declared.moves.Move.TheVariants.{To, Enter, NextTurn, Return}
 use Rattle.tt_abs.specs.declared.moves.Moves.{Moves}
 use Rattle.tt_abs.specs.Cells.{Abstract}
 use Rattle.tt_abs.specs.Families.{CoversAt}
-use Rattle.tt_abs.specs.Moves.{frames_after, next_by, nexts_of, offset_after, ways_of}
+use Rattle.tt_abs.specs.Moves.{ForReason, frames_after, next_by, nexts_of, offset_after, ways_of}
+use Rattle.tt_abs.specs.Refusals.{refusal_at}
 use Rattle.tt_abs.specs.StateFlow.{Place, GivesState}
 use Rattle.tt_abs.specs.States.{abstract_of, state_order}
 use Rattle.tt_abs.specs.Transfers.{Next, outcome_on_cells}
@@ -291,11 +293,12 @@ module _ (s : Setting) (family : Place → Option State) (L : Place → Type 0) 
     )
     broken_here (Exhausted by) h = tt
 
-  pub refused_here : IsStoredWithin s a → is_main_end s p.0 p.1 ≡ false → (fault : Refusal) (failed : Failed) → fault ≡ Refused (spot_of p.0) (saturated_offset p.1) failed
-      → outcome_on_cells s p.0 p.1 (abstract_of a) ≡ Err (reason_of failed) → Names (BreaksAt s family L p a) fault
-  refused_here stored running fault failed e h =
+  pub refused_here : IsStoredWithin s a → is_main_end s p.0 p.1 ≡ false → (fault : Refusal) (e : StepFault) → fault ≡ refusal_at (spot_of p.0) (saturated_offset p.1) e
+      → ForReason e (λ r. outcome_on_cells s p.0 p.1 (abstract_of a) ≡ Err r) → Names (BreaksAt s family L p a) fault
+  refused_here stored running fault (step.Refused failed) is h =
       let N : Refusal → Type 0 = λ x. Names (BreaksAt s family L p a) x in
-      subst N (sym e) (p, refl, refl, refused (reason_of failed) stored (record { running = running; refused = h }))
+      subst N (sym is) (p, refl, refl, refused (reason_of failed) stored (record { running = running; refused = h }))
+  refused_here stored running fault (step.OutOfMemory m) is h = let N : Refusal → Type 0 = λ x. Names (BreaksAt s family L p a) x in subst N (sym is) tt
 
 -- frames that were turned round twice
 pub frames_back : (xs ys zs : List Frame) → xs ≡ ys → ys ≡ reverse zs → reverse xs ≡ zs

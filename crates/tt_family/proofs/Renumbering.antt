@@ -1,5 +1,5 @@
 -- Contexts that get the places of an order as their numbers.
-use Rattle.std.specs.Prelude.{◌≡◌, ◌≢◌, ◌⊎◌, ℕ, ◌+◌, ◌≤◌, ◌<◌, Some, Ok, Err, IfErr, IsErrAnd, Option, Result, List, [], ◌∷◌, ◌++◌, length, slice_index_or, slice_get, slice_set, take, zero, suc}
+use Rattle.std.specs.Prelude.{◌≡◌, ◌≢◌, ◌⊎◌, ℕ, ◌+◌, ◌≤◌, ◌<◌, Some, Err, IfErr, IsErrAnd, Option, Result, List, [], ◌∷◌, ◌++◌, length, slice_index_or, slice_get, slice_set, take, zero, suc}
 use Rattle.std.proofs.Common.{refl, sym, ◌∙◌, ap, subst, arith, inl, inr}
 use Rattle.std.proofs.lemmas.Bool.{cases_lt}
 use Rattle.std.proofs.lemmas.List.{take_more, map-append}

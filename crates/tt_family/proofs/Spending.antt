@@ -1,10 +1,11 @@
 -- What is spent of a budget, one call after another.
 use Rattle.std.proofs.Common.{◌∙◌, arith}
+use Rattle.tt_abs.specs.Refusals.{IsOfNoBudget}
 use Rattle.tt_abs.specs.declared.exhausted.Exhausted.{Exhausted as By}
 use Rattle.tt_abs.specs.declared.exhausted.Exhausted.TheVariants.{Memory, Budget as Points}
 use Rattle.tt_abs.specs.declared.refusal.Refusal.{Refusal}
 use Rattle.tt_abs.specs.declared.refusal.Refusal.TheVariants.{Refused, Exhausted}
-use Rattle.tt_family.specs.Budgets.{AreAlike, EndTells, IsOfNoBudget, RefusalTells, Spends}
+use Rattle.tt_family.specs.Budgets.{AreAlike, EndTells, RefusalTells, Spends}
 use Rattle.tt_family.specs.declared.budget.Budget.{Budget}
 
 -- what two calls spend, one after the other

@@ -72,9 +72,3 @@ TellsBudget old new (Err fault) = RefusalTells old new fault
 abbrev pub EndTellsBudget : {T : Type 0} → Budget → Budget → Result T Exhausted → Type 0
 EndTellsBudget old new (Ok done) = AreAlike old new
 EndTellsBudget old new (Err by) = EndTells old new by
-
--- what ends the work isn't a budget
-abbrev pub IsOfNoBudget : Refusal → Type 0
-IsOfNoBudget (refusal.Refused spot offset failed) = Unit {0}
-IsOfNoBudget (refusal.Exhausted exhausted.Memory) = Unit {0}
-IsOfNoBudget (refusal.Exhausted exhausted.Budget) = ⊥

@@ -6,9 +6,10 @@ ghost use Rattle.std.specs.List.{All};
 ghost use Rattle.tt_abs.specs.Entries.{Ascends};
 ghost use Rattle.tt_abs.specs.Families.{CoversAt};
 ghost use Rattle.tt_abs.specs.Lines.{EndsAt};
+ghost use Rattle.tt_abs.specs.Refusals.{IsOfNoBudget};
 ghost use Rattle.tt_abs.specs.Settings.{setting_of};
 ghost use Rattle.tt_abs.specs.States.{state_order};
-ghost use Rattle.tt_family.specs.Budgets.{Counts, IsPaidFor, IsOfNoBudget, Spends, TellsBudget};
+ghost use Rattle.tt_family.specs.Budgets.{Counts, IsPaidFor, Spends, TellsBudget};
 ghost use Rattle.tt_family.specs.CheckedSubjects.{EndsWellFor, HasGoodFillingFor, HasSafeFillingFor, IsGoodFor, IsGoodListingFor, IsSafeFor, IsSafeListingFor, IsShortFor, NamesBrokenFirst, NamesFillingBrokenFirst, NamesListingBrokenFirst};
 ghost use Rattle.tt_family.specs.Representation.Cursors.{IsFoundSoundFor, NamesFirstFor, AreToCome, AreUnlisted, IsLeftOutAfter, IsWalk, IsWalkedThrough, NamesBreak, NamesFirstBreak, PassesPoint, to_come};
 ghost use Rattle.tt_family.specs.Checks.{FitOffsetsBefore, IsExhausted, NamesGap};
@@ -136,7 +137,7 @@ fn check_point(
             certificate,
             walk.context,
             offset,
-            Failed::Only(Reason::Storage),
+            StepFault::Refused(Failed::Only(Reason::Storage)),
         ));
     }
     let point = Point {
@@ -148,10 +149,7 @@ fn check_point(
     }
     let step = match step_at(setting, &point, &mut walk.made) {
         Ok(step) => step,
-        Err(StepFault::Refused(failed)) => {
-            return Err(fault_in(certificate, walk.context, offset, failed));
-        }
-        Err(StepFault::OutOfMemory(error)) => return Err(Refusal::from(error)),
+        Err(fault) => return Err(fault_in(certificate, walk.context, offset, fault)),
     };
     let after = left_out_after(setting, listing, &point, step.end);
     match check_successors(certificate, walk, step.moves, after) {

@@ -1,7 +1,7 @@
 //! The landing of a way: the context and the offset to which it leads from a context.
 
 ghost use Rattle.std.specs.Prelude.{◌≡◌, ◌<◌, IfErr, IfOk, None, length};
-ghost use Rattle.tt_family.specs.Budgets.{IsOfNoBudget};
+ghost use Rattle.tt_abs.specs.Refusals.{IsOfNoBudget};
 ghost use Rattle.tt_family.specs.Checks.{FitOffsetsBefore, HasNextTurn};
 ghost use Rattle.tt_family.specs.Contents.{frames_at};
 ghost use Rattle.tt_family.specs.Landings.{IsLanding, IsMissing, IsPointOf, IsTurnCountable, place_from};

@@ -1,17 +1,17 @@
 //! How a state is covered at the places to which it goes, or added there.
 
 ghost use Rattle.std.specs.Prelude.{◌≡◌, ◌<◌, IfErr, IfOk, IsTrue, Some, length};
-ghost use Rattle.tt_family.specs.Budgets.{IsOfNoBudget};
 ghost use Rattle.tt_family.specs.Checks.{FitOffsetsBefore, HasNextTurn, NamesGap, saturated_offset};
 ghost use Rattle.tt_family.specs.Contents.{family_of, frames_at};
 ghost use Rattle.tt_family.specs.Puts.{place_of};
+ghost use Rattle.tt_abs.specs.Refusals.{IsOfNoBudget, refusal_at};
 ghost use Rattle.tt_abs.specs.Spots.{spot_of};
 ghost use Rattle.tt_family.specs.Representation.Cursors.{AreMadeMet, IsEntry, IsMadeMet, IsMetBy, IsPastStart, IsUnlisted, IsUnlistedAfter, IsWalk, MayTurn, NamesFirstGapMade, NamesGapMade, calls_of, coverage_of_both, place_of_way as place_of_move, point_of};
 
 use crate::certificate::Certificate;
 use crate::cursor::{Cursor, is_coming, is_coming_after};
 use crate::landing::look_up_successor;
-use tt_abs::{Failed, Move, Moves, Order, Refusal, State};
+use tt_abs::{Failed, Move, Moves, Order, Refusal, State, StepFault};
 use tt_code::Reason;
 
 /// How a state is covered at a place to which it goes, or added there.
@@ -38,22 +38,18 @@ fn both_coverages(first: Coverage, second: Coverage) -> Coverage
     }
 }
 
-/// Returns the fault that names an offset of a context.
+/// Returns the refusal of the instruction that is at an offset of a context.
 pub(crate) fn fault_in(
     certificate: &Certificate,
     context: u32,
     offset: u32,
-    failed: Failed,
+    fault: StepFault,
 ) -> Refusal
     requires { context < length certificate.now.contexts }
-    ensures { result ≡ Refusal.Refused (spot_of (frames_at certificate.now.contexts context))
-        (saturated_offset offset) failed }
+    ensures { result ≡ refusal_at (spot_of (frames_at certificate.now.contexts context))
+        (saturated_offset offset) fault }
 {
-    Refusal::Refused {
-        spot: certificate.builder().spot(context),
-        offset,
-        failed,
-    }
+    fault.at(certificate.builder().spot(context), offset)
 }
 
 /// Returns how a state is covered at an offset of a context; the caller says whether it may be left
@@ -93,7 +89,7 @@ pub(crate) fn check_covered(
                 Ok(Coverage::Added)
             } else {
                 let failed = Failed::Only(Reason::MissingPoint);
-                Err(fault_in(certificate, context, offset, failed))
+                Err(fault_in(certificate, context, offset, StepFault::Refused(failed)))
             }
         }
         Some(above) => {
@@ -101,7 +97,7 @@ pub(crate) fn check_covered(
                 Ok(Coverage::Listed)
             } else {
                 let failed = Failed::Only(Reason::NotCovered);
-                Err(fault_in(certificate, context, offset, failed))
+                Err(fault_in(certificate, context, offset, StepFault::Refused(failed)))
             }
         }
     }

@@ -29,7 +29,8 @@ use Rattle.tt_find.specs.declared.approach.Approach.TheVariants.{JustBefore, Els
 use Rattle.tt_find.specs.declared.solver.Solver.{Solver}
 use Rattle.tt_find.specs.declared.walk.Walk.{Walk}
 use Rattle.tt_find.proofs.Points.{frames_stay}
-use Rattle.tt_find.proofs.Steps.{countable_left, leading_ends, leading_grown, leading_put, leading_swap, failed_reason, refused_names, too_many_left}
+use Rattle.tt_abs.proofs.StepLemmas.{failed_reason}
+use Rattle.tt_find.proofs.Steps.{countable_left, leading_ends, leading_grown, leading_put, leading_swap, refused_names, too_many_left}
 
 drop_next : {A : Type 0} (xs : List A) (i : ℕ) (x : A) → slice_get xs i ≡ Some x → drop i xs ≡ x ∷ drop (suc i) xs
 drop_next [] i x e = absurd (cc)

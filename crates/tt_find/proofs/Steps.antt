@@ -10,7 +10,7 @@ use Rattle.tt_code.specs.declared.machine.Frame.{Frame}
 use Rattle.tt_code.specs.declared.reason.Reason.{Reason}
 use Rattle.tt_code.specs.declared.reason.Reason.TheVariants.{DepthMismatch, TooManyContexts}
 use Rattle.tt_abs.specs.Failures.{reason_of}
-use Rattle.tt_abs.specs.Moves.{ForFailed, ForReason}
+use Rattle.tt_abs.specs.Moves.{ForReason}
 use Rattle.tt_abs.specs.Refusals.{refusal_at}
 use Rattle.tt_abs.specs.declared.step_fault.StepFault.{StepFault}
 use Rattle.tt_abs.specs.declared.step_fault.StepFault.TheVariants as step
@@ -18,6 +18,7 @@ use Rattle.tt_abs.specs.declared.failed.Failed.{Failed}
 use Rattle.tt_abs.specs.declared.moves.Moves.{Moves}
 use Rattle.tt_abs.specs.declared.state.State.{State}
 use Rattle.tt_abs.proofs.FamilyLaws.{derived_height, derived_is}
+use Rattle.tt_abs.proofs.StepLemmas.{failed_reason}
 use Rattle.tt_abs.specs.Lines.{Precedes}
 use Rattle.tt_abs.specs.StateFlow.{IsPlace, Place, flow_of, height_of}
 use Rattle.tt_abs.specs.States.{state_laws, state_order}
@@ -26,7 +27,6 @@ use Rattle.tt_family.specs.Checks.{point_key_of}
 use Rattle.tt_family.specs.Contents.{AddsContext, Contents, HasContext, IsFamily, family_of, frames_at, number_of}
 use Rattle.tt_family.specs.Numbers.{at-number_of, number_of-place}
 use Rattle.tt_family.specs.Places.{PutGives, PutsAt, has_point, states_of}
-use Rattle.tt_family.specs.Budgets.{IsOfNoBudget}
 use Rattle.tt_family.specs.Joins.{TellsOtherDepth}
 use Rattle.tt_family.specs.Puts.{family_at, family_state, number_at, place_of}
 use Rattle.tt_abs.specs.Spots.{spot_of}
@@ -61,10 +61,6 @@ pub stop_map : (A B : Place → Reason → Type 0) (everywhere everywhere' : Boo
 stop_map A B everywhere everywhere' same turn (Fault fault) h = names_map A B turn fault h
 stop_map A B everywhere everywhere' same turn Restart h = sym same ∙ h
 
-pub failed_reason : (e : StepFault) (P : Failed → Type 0) (Q : Reason → Type 0) → ((f : Failed) → P f → Q (reason_of f)) → ForFailed e P → ForReason e Q
-failed_reason (step.Refused f) P Q h told = h f told
-failed_reason (step.OutOfMemory m) P Q h told = tt
-
 -- a fault that is at a place
 pub names_at : (Is : Place → Reason → Type 0) (p : Place) (failed : Failed) (fault : Refusal) → fault ≡ Refused (spot_of p.0) p.1 failed → Is p (reason_of failed) → NamesPlace Is fault
 names_at Is p failed fault e h = let N : Refusal → Type 0 = λ x. NamesPlace Is x in subst N (sym e) (p, refl, refl, h)
@@ -73,11 +69,6 @@ names_at Is p failed fault e h = let N : Refusal → Type 0 = λ x. NamesPlace I
 pub refused_names : (Is : Place → Reason → Type 0) (p : Place) (e : StepFault) (fault : Refusal) → fault ≡ refusal_at (spot_of p.0) p.1 e → ForReason e (Is p) → NamesPlace Is fault
 refused_names Is p (step.Refused failed) fault is h = names_at Is p failed fault is h
 refused_names Is p (step.OutOfMemory m) fault is h = let N : Refusal → Type 0 = λ x. NamesPlace Is x in subst N (sym is) tt
-
--- and no budget
-pub refused_within : (spot : Spot) (offset : ℕ) (e : StepFault) (fault : Refusal) → fault ≡ refusal_at spot offset e → IsOfNoBudget fault
-refused_within spot offset (step.Refused failed) fault is = let N : Refusal → Type 0 = λ x. IsOfNoBudget x in subst N (sym is) tt
-refused_within spot offset (step.OutOfMemory m) fault is = let N : Refusal → Type 0 = λ x. IsOfNoBudget x in subst N (sym is) tt
 
 -- a state that isn't put has another depth than the one at its point
 pub apart_names : (v : Contents) (c off : ℕ) (t : State) (e : StepFault) (fault : Refusal) → fault ≡ refused_in v c off e → TellsOtherDepth (family_state v c off) t e → NamesApart v c off t fault

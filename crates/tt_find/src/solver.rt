@@ -1,9 +1,9 @@
 //! The family so far, and what is still to be carried on.
 
 ghost use Rattle.std.specs.Prelude.{◌≡◌, ◌≢◌, ◌<◌, IfOk, IfErr, IsTrue, OnOk, Option, Some, length};
+ghost use Rattle.tt_abs.specs.Refusals.{IsOfNoBudget};
 ghost use Rattle.tt_abs.specs.States.{state_order};
 ghost use Rattle.tt_abs.specs.declared.state.State.{State as StateValue};
-ghost use Rattle.tt_family.specs.Budgets.{IsOfNoBudget};
 ghost use Rattle.tt_family.specs.Contents.{state_at};
 ghost use Rattle.tt_family.specs.Joins.{TellsNew, TellsNewAt};
 ghost use Rattle.tt_find.specs.Finders.{IsEmptySolver};

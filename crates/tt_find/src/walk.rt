@@ -2,8 +2,8 @@
 
 ghost use Rattle.std.specs.Prelude.{◌≡◌, ◌↔◌, ◌<◌, IfErr, IfOk, IsFalse, IsTrue, None, Some, length};
 ghost use Rattle.tt_abs.specs.Entries.{Ascends};
+ghost use Rattle.tt_abs.specs.Refusals.{IsOfNoBudget};
 ghost use Rattle.tt_abs.specs.States.{start_of, state_order};
-ghost use Rattle.tt_family.specs.Budgets.{IsOfNoBudget};
 ghost use Rattle.tt_family.specs.Contents.{Contents, IsFamily, state_at};
 ghost use Rattle.tt_family.specs.Joins.{TellsNewAt};
 ghost use Rattle.tt_find.specs.Representation.Solvers.{IsPut, IsWalk, KeepsRest, NamesApart};

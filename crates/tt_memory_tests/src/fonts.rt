@@ -1,7 +1,10 @@
 //! Calls on whole fonts and on their certificates.
 
 use crate::PROGRAMS;
-use hintcheck_fonts::{VerdictFault, bare, check_font, find_font, read_font, upgrade, verdict};
+use hintcheck_fonts::{
+    VerdictFault, bare, bare_symbolic, check_font, find_font, read_font, upgrade, verdict,
+    verdict_symbolic,
+};
 use hintcheck_needs::{Analysis, Bound, least_enough};
 use std::alloc::Global;
 use std::io;
@@ -26,22 +29,26 @@ const TWICE: [u8; 27] = [
 enum Call {
     Read,
     Verdict,
+    VerdictSymbolic,
     Needs,
     CheckFont,
     FindFont,
     Upgrade,
     Bare,
+    BareSymbolic,
 }
 
 /// The calls on a font.
-const CALLS: [Call; 7] = [
+const CALLS: [Call; 9] = [
     Call::Read,
     Call::Verdict,
+    Call::VerdictSymbolic,
     Call::Needs,
     Call::CheckFont,
     Call::FindFont,
     Call::Upgrade,
     Call::Bare,
+    Call::BareSymbolic,
 ];
 
 /// A call on a font, on its certificate, or on the program of its first glyph.
@@ -76,6 +83,7 @@ impl Trial for OnFont<'_> {
         let told = match self.call {
             Call::Read => told_of(Font::read(alloc, self.font)),
             Call::Verdict => told_of(verdict(alloc, self.font)),
+            Call::VerdictSymbolic => told_of(verdict_symbolic(alloc, self.font)),
             Call::Needs => told_of(storage_needed(alloc, self.font)),
             Call::CheckFont => told_of(check_font(alloc, self.font, &mut source)),
             Call::FindFont => told_of(find_font(alloc, self.font, &mut sink)),
@@ -83,7 +91,10 @@ impl Trial for OnFont<'_> {
             Call::Bare if self.glyph.len() < 100 => {
                 told_of(bare(alloc, &MAXP, 10, 4, 1, self.glyph))
             }
-            Call::Bare => Told::Wrong,
+            Call::BareSymbolic if self.glyph.len() < 100 => {
+                told_of(bare_symbolic(alloc, &MAXP, 10, 4, 1, self.glyph))
+            }
+            Call::Bare | Call::BareSymbolic => Told::Wrong,
         };
         heap.give_back();
         told

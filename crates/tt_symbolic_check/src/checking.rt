@@ -1,6 +1,7 @@
 //! The check of a program by listed symbolic states.
 
-ghost use Rattle.std.specs.Prelude.{IfOk};
+ghost use Rattle.std.specs.Prelude.{IfErr, IfOk};
+ghost use Rattle.tt_abs.specs.Refusals.{IsOfNoBudget};
 ghost use Rattle.tt_abs.specs.Settings.{setting_of};
 ghost use Rattle.tt_symbolic_check.specs.Checked.{AreEnds, IsSafe, KeepsEntries};
 
@@ -32,6 +33,7 @@ pub fn check(
     ensures safe { IfOk result (λ ends. IsSafe (setting_of setting.now) starts.now) }
     ensures kept { IfOk result (λ ends. KeepsEntries (setting_of setting.now) kept.now starts.now) }
     ensures ends { IfOk result (λ ends. AreEnds (setting_of setting.now) starts.now ends.items) }
+    ensures within { IfErr result IsOfNoBudget }
 {
     let index = PlaceIndex::new(alloc, listed)?;
     let mut walk = begin(alloc, setting, kept, starts, listed)?;

@@ -1,6 +1,11 @@
 //! Where a state is.
 
+ghost use Rattle.std.specs.Prelude.{◌≡◌};
+ghost use Rattle.tt_abs.specs.Refusals.{IsOfNoBudget, refusal_at};
+ghost use Rattle.tt_abs.specs.declared.failed.Failed.TheVariants.{Only};
+
 use tt_abs::{Refusal, Spot, StepFault};
+use tt_code::Reason;
 use tt_symbolic_state::state::State;
 
 /// Where a state is: in which program, and at which offset there.
@@ -26,7 +31,18 @@ impl Site {
     }
 
     /// Returns the refusal of the instruction at this place.
-    pub fn refused(self, fault: StepFault) -> Refusal {
+    pub fn refused(self, fault: StepFault) -> Refusal
+        ensures placed { result ≡ refusal_at self.spot self.offset fault }
+        ensures within { IsOfNoBudget result }
+    {
         fault.at(self.spot, self.offset)
     }
+}
+
+/// Returns the refusal of a program that would need more steps than may be made, or more listed
+/// states: at its start.
+pub fn too_many_steps() -> Refusal
+    ensures { result ≡ Refusal.Refused Spot.Main 0 (Only Reason.TooManySteps) }
+{
+    Refusal::in_main(0, Reason::TooManySteps)
 }

@@ -1,18 +1,18 @@
 //! The walk: what waits is carried on, a state at a time, until nothing does.
 
-ghost use Rattle.std.specs.Prelude.{◌≡◌, ◌<◌, ℕ, [], ◌∷◌, ◌++◌, IfOk, IfSome, None, OnOk, Some, false, length, slice_get, slice_set, true};
+ghost use Rattle.std.specs.Prelude.{◌≡◌, ◌<◌, ℕ, [], ◌∷◌, ◌++◌, IfErr, IfOk, IfSome, None, OnOk, Some, false, length, slice_get, slice_set, true};
+ghost use Rattle.tt_abs.specs.Refusals.{IsOfNoBudget};
 ghost use Rattle.tt_symbolic_check.specs.Walking.{Begins, EndsAs, Finishes, IsCoveredBy, NothingPending, PutsEnd, PutsPending, Reaches, TakesPending, Walks};
 
 use crate::copying::{Split, lower, raise};
 use crate::covering::covers_by;
 use crate::place_index::PlaceIndex;
 use crate::pool::Pool;
-use crate::site::Site;
+use crate::site::{Site, too_many_steps};
 use crate::splits::wanted;
 use crate::start::{Start, start_state};
 use std::alloc::{AllocError, Global};
 use tt_abs::{Point, Refusal, Setting, StepFault};
-use tt_code::Reason;
 use tt_symbolic::kept::{Kept, step_keeping};
 use tt_symbolic::step::code_at;
 use tt_symbolic_state::cell::Cell;
@@ -310,13 +310,14 @@ fn advance(
     entry: Pending,
     widest: i64,
 ) -> Result<(), Refusal>
-    ensures { OnOk result (Reaches setting.now kept.now listed.now walk.old walk.new
+    ensures walks { OnOk result (Reaches setting.now kept.now listed.now walk.old walk.new
         (λ final. Walks setting.now kept.now listed.now final entry.may_stop entry.state.value)) }
+    ensures within { IfErr result IsOfNoBudget }
 {
     let place = Site::of(&entry.state);
     match go_on(pool, setting, kept, listed, index, walk, entry, widest) {
         Ok(()) => Ok(()),
-        Err(refusal) => Err(place.refused(refusal)),
+        Err(fault) => Err(place.refused(fault)),
     }
 }
 
@@ -392,7 +393,8 @@ pub fn walk_on(
     walk: &mut Walk,
     effort: Effort,
 ) -> Result<(), Refusal>
-    ensures { OnOk result (Finishes setting.now kept.now listed.now walk.old walk.new) }
+    ensures finishes { OnOk result (Finishes setting.now kept.now listed.now walk.old walk.new) }
+    ensures within { IfErr result IsOfNoBudget }
 {
     for step in 0..effort.steps {
         match take_pending(walk) {
@@ -409,5 +411,5 @@ pub fn walk_on(
             None => return Ok(()),
         }
     }
-    Err(Refusal::in_main(0, Reason::TooManySteps))
+    Err(too_many_steps())
 }

@@ -1,6 +1,7 @@
 //! The font program and the CVT program, and what is known at their ends.
 
-ghost use Rattle.std.specs.Prelude.{◌≡◌, IfOk, true};
+ghost use Rattle.std.specs.Prelude.{◌≡◌, IfErr, IfOk, true};
+ghost use Rattle.tt_abs.specs.Refusals.{IsOfNoBudget};
 ghost use Rattle.tt_abs.specs.Settings.{setting_of};
 ghost use Rattle.tt_symbolic_font.specs.Known.{AreEndsKnowing, AreKnown, IsSafeKnowing, StartsKnowing};
 ghost use Rattle.tt_symbolic_check.specs.Starts.{StartsAs};
@@ -106,6 +107,7 @@ pub fn check_before_glyphs(
 ) -> Result<Ends, Refusal>
     ensures safe { IfOk result (λ ends. IsSafeKnowing (setting_of setting.now) functions.now) }
     ensures ends { IfOk result (AreEndsKnowing (setting_of setting.now) functions.now) }
+    ensures within { IfErr result IsOfNoBudget }
 {
     let start = start_with(alloc, functions)?;
     let states = check(alloc, setting, &NOTHING_KEPT, &[start], listed, effort)?;

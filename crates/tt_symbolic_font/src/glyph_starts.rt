@@ -1,6 +1,7 @@
 //! With what glyph programs start.
 
-ghost use Rattle.std.specs.Prelude.{◌≡◌, ℕ, IfOk, IfSome, OnOk, Some, slice_get, true};
+ghost use Rattle.std.specs.Prelude.{◌≡◌, ℕ, IfErr, IfOk, IfSome, OnOk, Some, slice_get, true};
+ghost use Rattle.tt_abs.specs.Refusals.{IsOfNoBudget};
 ghost use Rattle.tt_abs.specs.Settings.{setting_of};
 ghost use Rattle.tt_symbolic.specs.Kept.{IsAmong};
 ghost use Rattle.tt_symbolic_check.specs.Starts.{StartsAs};
@@ -152,7 +153,9 @@ impl GlyphStarts {
         listed: &[State],
         effort: Effort,
     ) -> Result<(), Refusal>
-        ensures { IfOk result (λ done. IsGlyphChecked (setting_of setting.now) self.now) }
+        ensures checked { IfOk result (λ done.
+            IsGlyphChecked (setting_of setting.now) self.now) }
+        ensures within { IfErr result IsOfNoBudget }
     {
         let kept = Kept {
             storage: self.storage.as_slice(),

@@ -1,6 +1,8 @@
 //! A run of the search: from the starts of a program until nothing waits, or until a state is
 //! refused.
 
+ghost use Rattle.tt_abs.specs.Refusals.{IsOfNoBudget};
+
 use crate::arrivals::{Arrival, Arrivals};
 use crate::blame::culprits;
 use crate::blending::Merges;
@@ -16,7 +18,7 @@ use crate::waiting::Waiting;
 use crate::writes::Writes;
 use std::alloc::{AllocError, Global};
 use std::mem;
-use tt_abs::{Kind, Refusal, Setting, StepFault};
+use tt_abs::{Kind, Refusal, Setting, Spot, StepFault};
 use tt_code::Reason;
 use tt_symbolic::kept::Kept;
 use tt_symbolic::step::code_at;
@@ -42,13 +44,57 @@ const MOST_SEEN: usize = 16;
 /// The code of EIF.
 const EIF: u8 = 0x59;
 
+/// Where a program starts.
+const START: Site = Site {
+    spot: Spot::Main,
+    offset: 0,
+};
+
 /// Why a run ends before nothing waits.
 #[derive(Drop)]
 pub(crate) struct Stop {
+    /// Where.
+    place: Site,
     /// Why.
-    pub refusal: Refusal,
+    fault: StepFault,
     /// Cells whose numbers are to be kept apart.
     pub apart: Vec<CellName>,
+}
+
+impl Stop {
+    /// Makes a stop without cells to blame.
+    fn new(alloc: Global, place: Site, fault: StepFault) -> Stop {
+        Stop {
+            place,
+            fault,
+            apart: Vec::new(alloc),
+        }
+    }
+
+    /// Makes the stop of a run for want of memory.
+    pub(crate) fn out_of_memory(alloc: Global, error: AllocError) -> Stop {
+        Stop::new(alloc, START, StepFault::from(error))
+    }
+
+    /// Makes the stop of a run that would need more steps than it may make, or more listed states.
+    pub(crate) fn too_many_steps(alloc: Global) -> Stop {
+        Stop::new(alloc, START, StepFault::from(Reason::TooManySteps))
+    }
+
+    /// Returns the reason for which the program is refused, if it is.
+    pub(crate) fn reason(&self) -> Option<Reason> {
+        match &self.fault {
+            StepFault::Refused(failed) => Some(failed.reason()),
+            StepFault::OutOfMemory(_) => None,
+        }
+    }
+
+    /// Returns the refusal, of the instruction at its place.
+    pub(crate) fn refusal(self) -> Refusal
+        ensures { IsOfNoBudget result }
+    {
+        self.place.refused(self.fault)
+    }
 }
 
 /// What a run may rely on.
@@ -110,25 +156,6 @@ pub(crate) struct Run {
     seen: Vec<Box<Track>>,
     /// Whether more states came there.
     has_more: bool,
-}
-
-/// Makes the stop of a run without cells to blame.
-pub(crate) fn make_stop(alloc: Global, refusal: Refusal) -> Stop {
-    Stop {
-        refusal,
-        apart: Vec::new(alloc),
-    }
-}
-
-/// Makes the stop of a run for want of memory.
-pub(crate) fn out_of_memory(task: &Task<'_>, error: AllocError) -> Stop {
-    make_stop(task.alloc, Refusal::from(error))
-}
-
-/// Returns the refusal of a program that would need more steps than may be made, or more listed
-/// states: at its start.
-pub(crate) fn too_many_steps() -> Refusal {
-    Refusal::in_main(0, Reason::TooManySteps)
 }
 
 /// Whether an instruction of this code may want a split: comparisons, IF, JROT, JROF, CALL, LOOPCALL
@@ -297,28 +324,18 @@ impl Run {
         place: Site,
         fault: StepFault,
     ) -> Result<Stop, AllocError> {
-        let reason = match &fault {
-            StepFault::Refused(failed) => Some(failed.reason()),
-            StepFault::OutOfMemory(_) => None,
-        };
-        let apart = match reason {
-            Some(reason) => {
-                let before = &self.before;
-                culprits(
-                    task.alloc,
-                    &merges.origins,
-                    track,
-                    before,
-                    reason,
-                    task.apart,
-                )?
-            }
-            None => Vec::new(task.alloc),
-        };
-        Ok(Stop {
-            refusal: place.refused(fault),
-            apart,
-        })
+        let mut stop = Stop::new(task.alloc, place, fault);
+        if let Some(reason) = stop.reason() {
+            stop.apart = culprits(
+                task.alloc,
+                &merges.origins,
+                track,
+                &self.before,
+                reason,
+                task.apart,
+            )?;
+        }
+        Ok(stop)
     }
 
     /// Keeps the state before its step, as far as an explanation needs it.
@@ -385,15 +402,15 @@ impl Run {
     ) -> Result<(), Stop> {
         let place = Site::of(&way.track.state);
         self.keep(task, &way.track)
-            .map_err(|error| out_of_memory(task, error))?;
+            .map_err(|error| Stop::out_of_memory(task.alloc, error))?;
         let track = &mut way.track;
         let Some(code) = code else {
             let fault = StepFault::from(Reason::Target);
-            return Err(make_stop(task.alloc, place.refused(fault)));
+            return Err(Stop::new(task.alloc, place, fault));
         };
         if Writes::are_wanted(task.setting, &track.state, &task.kept, code) {
             let noted = writes.note(task.setting, &track.state, &task.kept);
-            noted.map_err(|error| out_of_memory(task, error))?;
+            noted.map_err(|error| Stop::out_of_memory(task.alloc, error))?;
             self.first_write = self.first_write.or(Some(place));
         }
         let done = step_on(
@@ -411,7 +428,9 @@ impl Run {
             }
             Err(fault) => {
                 let explained = self.explained(task, merges, &way.track, place, fault);
-                return Err(explained.unwrap_or_else(|error| out_of_memory(task, error)));
+                return Err(explained.unwrap_or_else(|error| Stop::out_of_memory(
+                    task.alloc, error,
+                )));
             }
         }
         Ok(())
@@ -477,18 +496,19 @@ impl Run {
     ) -> Result<bool, Stop> {
         let taken = self
             .next_way(task.alloc)
-            .map_err(|error| out_of_memory(task, error))?;
+            .map_err(|error| Stop::out_of_memory(task.alloc, error))?;
         let Some(way) = taken else {
             return Ok(false);
         };
         let code = code_at(task.setting, &way.track.state);
         let approached = self.approach(task, merges, way, code);
-        let Some(mut way) = approached.map_err(|error| out_of_memory(task, error))? else {
+        let approached = approached.map_err(|error| Stop::out_of_memory(task.alloc, error));
+        let Some(mut way) = approached? else {
             return Ok(true);
         };
         self.step(task, merges, writes, &mut way, code)?;
         if self.steps >= task.most_steps {
-            return Err(make_stop(task.alloc, too_many_steps()));
+            return Err(Stop::too_many_steps(task.alloc));
         }
         self.steps = self.steps.saturating_add(1);
         way.count_step(&self.arrivals.waiting);

@@ -1,10 +1,13 @@
 //! The search of a font: what was learnt from its programs so far, and the listed states of the next.
 
+ghost use Rattle.std.specs.Prelude.{IfErr};
+ghost use Rattle.tt_abs.specs.Refusals.{IsOfNoBudget};
+
 use crate::blending::Merges;
 use crate::cell_names::CellName;
 use crate::insight::{Insight, Question};
 use crate::origins::Origins;
-use crate::run::{Run, Stop, Task, make_stop, out_of_memory, told_functions, too_many_steps};
+use crate::run::{Run, Stop, Task, told_functions};
 use crate::starts;
 use crate::thresholds::thresholds;
 use crate::track::Track;
@@ -15,7 +18,7 @@ use std::mem;
 use tt_abs::{Refusal, Setting, StepFault};
 use tt_code::Reason;
 use tt_symbolic::kept::Kept;
-use tt_symbolic_check::{Effort, Start};
+use tt_symbolic_check::{Effort, Start, too_many_steps};
 use tt_symbolic_state::State;
 
 /// How often a program is searched at most, each time with more that was learnt.
@@ -107,8 +110,8 @@ struct Trial<'a> {
     kept: Kept<'a>,
     starts: &'a [Start],
     effort: Effort,
-    /// The last refusal.
-    has_refused: Option<Refusal>,
+    /// Why the last run stopped.
+    has_stopped: Option<Stop>,
 }
 
 impl Search {
@@ -172,7 +175,9 @@ impl Search {
         kept: &Kept<'_>,
         starts: &[Start],
         effort: Effort,
-    ) -> Result<Found, Refusal> {
+    ) -> Result<Found, Refusal>
+        ensures { IfErr result IsOfNoBudget }
+    {
         self.merges.thresholds = thresholds(self.alloc, setting)?;
         self.apart.retain(|name| name.body.is_some());
         let learnt = self.apart.len();
@@ -185,7 +190,7 @@ impl Search {
                 widest_compared: effort.widest_compared.max(self.widest),
                 ..effort
             },
-            has_refused: None,
+            has_stopped: None,
         };
         for _ in 0..MOST_TRIALS {
             match self.try_once(&mut trial, before) {
@@ -201,7 +206,10 @@ impl Search {
             }
         }
         self.apart.truncate(learnt);
-        Err(trial.has_refused.unwrap_or(too_many_steps()))
+        match trial.has_stopped {
+            Some(stop) => Err(stop.refusal()),
+            None => Err(too_many_steps()),
+        }
     }
 
     /// Forgets what the merges of another run know.
@@ -250,7 +258,9 @@ impl Search {
     }
 
     /// Searches once. Returns what was found; nothing, where more was learnt.
-    fn try_once(&mut self, trial: &mut Trial<'_>, before: u64) -> Result<Option<Found>, Refusal> {
+    fn try_once(&mut self, trial: &mut Trial<'_>, before: u64) -> Result<Option<Found>, Refusal>
+        ensures { IfErr result IsOfNoBudget }
+    {
         self.begin_run();
         if self.question.is_some() {
             self.insight = None;
@@ -277,7 +287,9 @@ impl Search {
     ///
     /// # Errors
     /// `TooManySteps`, also where kept entries were written before; `Exhausted`.
-    fn run(&mut self, trial: &Trial<'_>, before: u64) -> Result<(Run, Option<Stop>), Refusal> {
+    fn run(&mut self, trial: &Trial<'_>, before: u64) -> Result<(Run, Option<Stop>), Refusal>
+        ensures { IfErr result IsOfNoBudget }
+    {
         let used = self.steps.saturating_sub(before);
         let spare = mem::replace(&mut self.spare, Vec::new(self.alloc));
         let task = Task {
@@ -294,9 +306,7 @@ impl Search {
         let stop = run_on(&mut run, &task, &mut self.merges, &mut self.writes);
         self.steps = self.steps.saturating_add(run.steps);
         match &stop {
-            Some(met) if met.refusal.reason() == Some(Reason::TooManySteps) => Err(
-                too_many_steps(),
-            ),
+            Some(met) if met.reason() == Some(Reason::TooManySteps) => Err(too_many_steps()),
             _ => Ok((run, stop)),
         }
     }
@@ -305,19 +315,20 @@ impl Search {
     ///
     /// # Errors
     /// The refusal, where nothing can be learnt from it.
-    fn learn(&mut self, trial: &mut Trial<'_>, stop: Stop) -> Result<(), Refusal> {
-        let Stop { refusal, apart } = stop;
-        if !apart.is_empty() {
-            self.apart.extend_from_slice(apart.as_slice())?;
-            trial.has_refused = Some(refusal);
+    fn learn(&mut self, trial: &mut Trial<'_>, stop: Stop) -> Result<(), Refusal>
+        ensures { IfErr result IsOfNoBudget }
+    {
+        if !stop.apart.is_empty() {
+            self.apart.extend_from_slice(stop.apart.as_slice())?;
+            trial.has_stopped = Some(stop);
             return Ok(());
         }
-        let is_unknown = refusal.reason() == Some(Reason::UnknownOperand);
+        let is_unknown = stop.reason() == Some(Reason::UnknownOperand);
         if !is_unknown || trial.effort.widest_compared >= WIDEST {
-            return Err(refusal);
+            return Err(stop.refusal());
         }
         trial.effort.widest_compared = WIDEST;
-        trial.has_refused = Some(refusal);
+        trial.has_stopped = Some(stop);
         Ok(())
     }
 }
@@ -343,8 +354,8 @@ fn run_on(
         match run.arrivals.make_room(task.alloc) {
             Ok(true) => {}
             Ok(false) => break,
-            Err(error) => return Some(out_of_memory(task, error)),
+            Err(error) => return Some(Stop::out_of_memory(task.alloc, error)),
         }
     }
-    Some(make_stop(task.alloc, too_many_steps()))
+    Some(Stop::too_many_steps(task.alloc))
 }

@@ -8,11 +8,11 @@ use Rattle.hintcheck_fonts.proofs.program.cut.Goals as goal
 pub returns-in-Err-CannotCut-clause-uncut : goal.returns-in-Err-CannotCut-clause-uncut
 returns-in-Err-CannotCut-clause-uncut c = λ called.
     let offset = c.in-Err-CannotCut.offset in
-    reported called c.refused_at.result spot.Main offset reason.CannotCut (IsUncut called c.args.bytes.now) c.refused_at.ensures
+    reported called c.in_main.result spot.Main offset reason.CannotCut (IsUncut called c.args.bytes.now) c.in_main.ensures
     (no_cut offset (c.in-Err-CannotCut.ensures.refused offset (ap Err c.in-Err-CannotCut.field-0-is)))
 
 pub returns-in-Err-Structure-clause-uncut : goal.returns-in-Err-Structure-clause-uncut
 returns-in-Err-Structure-clause-uncut c = λ called.
     let offset = c.in-Err-Structure.offset in
     let (is, cut, fault) = c.in-Err-Structure.ensures.unstructured offset (ap Err c.in-Err-Structure.field-0-is) in
-    reported called c.refused_at-in-Err-Structure.result spot.Main offset reason.Structure (IsUncut called c.args.bytes.now) c.refused_at-in-Err-Structure.ensures (no_structure is offset cut fault)
+    reported called c.in_main-in-Err-Structure.result spot.Main offset reason.Structure (IsUncut called c.args.bytes.now) c.in_main-in-Err-Structure.ensures (no_structure is offset cut fault)

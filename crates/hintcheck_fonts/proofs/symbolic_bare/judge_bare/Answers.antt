@@ -19,4 +19,4 @@ returns c =
     let P : ℕ → List Instruction → Type 0 = λ n is. let with = setting_with c.args.limits n in
     AreCheckedInTurn (with FontProgram is is) (with CvtProgram is is) (with (GlyphProgram g.points g.contours) main is) in
     safe_alone (font_around c.args.limits c.args.cvt) g main c.in_ok-program.ensures.cut.0 c.in_ok-program.ensures.cut.1
-    (subst (λ (is : List Instruction). P c.args.cvt is) c.in_ok-empty.ensures (subst (λ (n : ℕ). P n c.in_ok-empty.empty) c.from.ensures c.in_ok-check_in_turn.ensures))
+    (subst (λ (is : List Instruction). P c.args.cvt is) c.in_ok-empty.ensures (subst (λ (n : ℕ). P n c.in_ok-empty.empty) c.from.ensures c.in_ok-check_in_turn.ensures.checked))

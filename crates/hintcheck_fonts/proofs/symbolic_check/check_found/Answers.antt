@@ -4,13 +4,13 @@ use Rattle.tt_abs.specs.Settings.{setting_of}
 use Rattle.hintcheck_fonts.specs.Representation.SymbolicChecks.{IsEnded}
 use Rattle.hintcheck_fonts.proofs.symbolic_check.check_found.Goals as goal
 
-pub returns : goal.returns
-returns c = on_ok_weaker c.check_glyph.result (λ run. record {
+pub returns-clause-checked : goal.returns-clause-checked
+returns-clause-checked c = on_ok_weaker c.check_glyph.result (λ run. record {
   first = c.in_ok-first.first;
   second = c.in_ok-second.second;
   starts = c.in_ok-starts.starts;
-  font_ended = c.in_ok-first.ensures;
-  cvt_ended = subst (λ (fs : List (ℕ × ℕ)). IsEnded (setting_of c.args.cvt.now) fs c.in_ok-second.second) c.as_slice-functions.ensures.value c.in_ok-second.ensures;
+  font_ended = c.in_ok-first.ensures.ended;
+  cvt_ended = subst (λ (fs : List (ℕ × ℕ)). IsEnded (setting_of c.args.cvt.now) fs c.in_ok-second.second) c.as_slice-functions.ensures.value c.in_ok-second.ensures.ended;
   begun = c.in_ok-starts.ensures;
   runnable = run;
-}) c.check_glyph.ensures
+}) c.check_glyph.ensures.runnable

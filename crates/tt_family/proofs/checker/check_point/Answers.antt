@@ -1,21 +1,18 @@
-use Rattle.std.proofs.Common.{rules, arith, ◌≡◌, ◌<◌, List, Ok, true, false, refl, sym, ◌∙◌, ap, subst}
+use Rattle.std.proofs.Common.{rules, arith, ◌≡◌, ◌<◌, List, Ok, Err, true, false, refl, sym, ◌∙◌, ap, subst}
 use Rattle.std.specs.Prelude.{◌↔◌}
 use Rattle.tt_code.specs.Settings.{is_main_end}
 use Rattle.tt_code.specs.declared.machine.Frame.{Frame}
-use Rattle.tt_abs.specs.Failures.{reason_of}
 use Rattle.tt_abs.specs.Lines.{Precedes}
 use Rattle.tt_abs.specs.Moves.{nexts_of}
 use Rattle.tt_abs.specs.Settings.{setting_of}
 use Rattle.tt_abs.specs.StateFlow.{Place}
 use Rattle.tt_abs.specs.States.{abstract_of}
 use Rattle.tt_abs.specs.Transfers.{outcome_on_cells}
-use Rattle.tt_family.specs.Checks.{saturated_offset}
+use Rattle.tt_abs.proofs.StepLemmas.{for_reason}
 use Rattle.tt_family.specs.Contents.{family_of, frames_at}
 use Rattle.tt_family.specs.Puts.{place_of}
-use Rattle.tt_abs.specs.Spots.{spot_of}
 use Rattle.tt_family.specs.Representation.Cursors.{MayLeaveOut}
 use Rattle.tt_family.specs.Fillings.{IsAfter}
-use Rattle.tt_abs.specs.declared.refusal.Refusal.TheVariants.{Refused}
 use Rattle.tt_family.specs.declared.meeting.Coverage.TheVariants as coverage
 use Rattle.tt_family.proofs.Checked.{broken_here, frames_back, outcome_moved, passed_at_end, passed_here, refusal_moved, refused_here, stores_here}
 use Rattle.tt_family.proofs.StoredCells.{stored_above, stored_within}
@@ -42,8 +39,8 @@ returns-then-is_end-clause-passed c =
     passed_at_end S (family_of c.args.certificate.now) (MayLeaveOut c.args.listing S P) P c.args.walk.now.made _ c.args.walk.now.made refl
     (stored_within S c.args.walk.now.made c.stored.result.now c.are_stored_within.result c.stored.ensures c.are_stored_within.ensures within) ends
 
-pub returns-in-Err-Refused-clause-broken : goal.returns-in-Err-Refused-clause-broken
-returns-in-Err-Refused-clause-broken c =
+pub returns-in-Err-clause-broken : goal.returns-in-Err-clause-broken
+returns-in-Err-clause-broken c =
     let S = setting_of c.args.setting.now in
     let fs = frames_at c.args.certificate.now.contexts c.args.walk.now.context in
     let P = place_of c.args.certificate.now c.args.walk.now.context c.args.offset in
@@ -51,9 +48,10 @@ returns-in-Err-Refused-clause-broken c =
     let back = frames_back c.as_slice.result.now _ fs c.as_slice.ensures.value c.requires.walk.frames in
     let running : is_main_end S fs c.args.offset ≡ false = ap (λ f. is_main_end S f c.args.offset) (sym back) ∙ sym c.is_end.ensures ∙ c.if-is_end.false in
     refused_here S (family_of c.args.certificate.now) (MayLeaveOut c.args.listing S P) P c.args.walk.now.made
-    (stored_within S c.args.walk.now.made c.stored.result.now c.are_stored_within.result c.stored.ensures c.are_stored_within.ensures within) running c.fault_in-in-Err-Refused.result
-    c.in-Err-Refused.failed (c.fault_in-in-Err-Refused.ensures ∙ ap (Refused (spot_of fs) (saturated_offset c.args.offset)) c.in-Err-Refused.failed-is)
-    (refusal_moved S fs _ c.args.offset _ c.args.walk.now.made _ back refl refl (reason_of c.in-Err-Refused.failed) (rw c.in-Err-Refused.field-0-is at c.in-Err-Refused.ensures.refused))
+    (stored_within S c.args.walk.now.made c.stored.result.now c.are_stored_within.result c.stored.ensures c.are_stored_within.ensures within) running c.fault_in-in-Err.result
+    c.in-Err.fault c.fault_in-in-Err.ensures
+    (for_reason c.in-Err.fault _ (λ r. outcome_on_cells S fs c.args.offset (abstract_of c.args.walk.now.made) ≡ Err r)
+    (refusal_moved S fs _ c.args.offset _ c.args.walk.now.made _ back refl refl) c.in-Err.ensures.refused)
 
 pub check_successors-requires-clause-turn : goal.check_successors-requires-clause-turn
 check_successors-requires-clause-turn c =
@@ -84,8 +82,8 @@ check_successors-requires-clause-forward c = λ end is.
     let line : Precedes S (fs, c.args.offset) (fs, end) = line_of S c.args.listing (fs, c.args.offset) (fs, end) ((same_places (fs, end)).0 (refl, is)) in
     let lt : c.args.offset < end = line.ends.forward in omega arith
 
-pub returns-in-Err-clause-broken : goal.returns-in-Err-clause-broken
-returns-in-Err-clause-broken c =
+pub returns-in-Err-check_successors-clause-broken : goal.returns-in-Err-check_successors-clause-broken
+returns-in-Err-check_successors-clause-broken c =
     let S = setting_of c.args.setting.now in
     let fs = frames_at c.args.certificate.now.contexts c.args.walk.now.context in
     let P = place_of c.args.certificate.now c.args.walk.now.context c.args.offset in
@@ -98,7 +96,7 @@ returns-in-Err-clause-broken c =
     (c.in-Ok.ensures.in_range c.requires.in_range) running
     (outcome_moved S fs _ c.args.offset _ c.args.walk.now.made _ back refl refl c.in-Ok.step.moves c.step_at.new.state c.in-Ok.ensures.ok)
     c.left_out_after-after.result (subst A back c.left_out_after-after.ensures)
-    c.in-Err.fault c.in-Err.ensures.gap
+    c.in-Err-check_successors.fault c.in-Err-check_successors.ensures.gap
 
 pub returns-in-Ok-Next-clause-passed : goal.returns-in-Ok-Next-clause-passed
 returns-in-Ok-Next-clause-passed c =

@@ -1,11 +1,11 @@
 use Rattle.std.proofs.Common.{◌≡◌, ◌∙◌, ap, false, refl, sym}
 use Rattle.tt_code.specs.Settings.{is_main_end}
 use Rattle.tt_abs.specs.Settings.{setting_of}
-use Rattle.tt_abs.proofs.StepLemmas.{for_reason}
+use Rattle.tt_abs.proofs.StepLemmas.{for_reason, refused_within}
 use Rattle.tt_family.proofs.Checked.{frames_back, refusal_moved}
 use Rattle.tt_find.specs.Representation.Solvers.{IsRefusedAt, here_of}
 use Rattle.tt_family.specs.Contents.{frames_at}
-use Rattle.tt_find.proofs.Steps.{refused_names, refused_within}
+use Rattle.tt_find.proofs.Steps.{refused_names}
 use Rattle.tt_find.proofs.carry.step_state.Goals as goal
 
 pub returns-in-Err-clause-refused : goal.returns-in-Err-clause-refused

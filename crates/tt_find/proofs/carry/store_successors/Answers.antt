@@ -15,7 +15,8 @@ use Rattle.tt_find.specs.Representation.Solvers.{HasRisen, IsApart, IsLeadingOn,
 use Rattle.tt_find.specs.declared.solver.Solver.{Solver}
 use Rattle.tt_find.specs.declared.walk.Walk.{Walk}
 use Rattle.tt_find.proofs.Leads.{countable_on, held, just_over, last_over, none_over, not_entered, put, ranged_to, reached_from, too_many_on}
-use Rattle.tt_find.proofs.Steps.{apart_left, refused_within, risen_on, stop_map, stored_updates}
+use Rattle.tt_abs.proofs.StepLemmas.{refused_within}
+use Rattle.tt_find.proofs.Steps.{apart_left, risen_on, stop_map, stored_updates}
 use Rattle.tt_find.proofs.carry.store_successors.Goals as goal
 use Rattle.tt_find.proofs.carry.store_successors.Goals.{then-is_none+then-goes_over, else-is_none+in_default-store}
 

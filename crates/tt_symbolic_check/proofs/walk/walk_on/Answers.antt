@@ -5,9 +5,9 @@ pub loop-step-init : goal.loop-step-init
 loop-step-init c = reaches_none c.args.setting.now c.args.kept.now c.args.listed.now c.args.walk.now _ (λ final x. tt)
 
 pub loop-step-preserved : goal.loop-step-preserved
-loop-step-preserved c = reaches_on c.args.setting.now c.args.kept.now c.args.listed.now c.args.walk.now c.loop-step.walk c.advance.new.walk c.loop-step.invariant (take_reaches c.args.setting.now c.args.kept.now c.args.listed.now c.loop-step.walk c.take_pending.new.walk c.advance.new.walk c.in-Some.entry c.in-Some.ensures.some c.in_ok-advance-in-Some.ensures)
+loop-step-preserved c = reaches_on c.args.setting.now c.args.kept.now c.args.listed.now c.args.walk.now c.loop-step.walk c.advance.new.walk c.loop-step.invariant (take_reaches c.args.setting.now c.args.kept.now c.args.listed.now c.loop-step.walk c.take_pending.new.walk c.advance.new.walk c.in-Some.entry c.in-Some.ensures.some c.in_ok-advance-in-Some.ensures.walks)
 
-pub returns-in-None : goal.returns-in-None
-returns-in-None c =
+pub returns-in-None-clause-finishes : goal.returns-in-None-clause-finishes
+returns-in-None-clause-finishes c =
     let n = c.take_pending.ensures.none c.in-None.is in
     record { none_pending = n.pending; reaches = reaches_on c.args.setting.now c.args.kept.now c.args.listed.now c.args.walk.now c.loop-step.walk c.take_pending.new.walk c.loop-step.invariant (nothing_reaches c.args.setting.now c.args.kept.now c.args.listed.now c.loop-step.walk c.take_pending.new.walk n) }
