@@ -298,8 +298,7 @@ impl SymbolicCheck {
         ensures answer { result ≡ answer }
         ensures noted { IfErr answer (λ refusal. told_reason refusal ≡ Some Reason.KeptEntry
             → IsTrue self.new.may_write_kept) }
-        ensures ends { self.new.ends ≡ self.old.ends }
-        ensures starts { self.new.starts ≡ self.old.starts }
+        ensures rest { self.new ≡ record self.old { may_write_kept = self.new.may_write_kept } }
     {
         if let Err(refusal) = &answer {
             if refusal.reason() == Some(Reason::KeptEntry) {

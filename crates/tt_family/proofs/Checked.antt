@@ -1,5 +1,5 @@
 -- What the check of one point tells.
-use Rattle.std.specs.Prelude.{◌≡◌, ◌↔◌, ℕ, ◌+◌, ◌<◌, Option, Some, None, List, [], ◌∷◌, true, false, IsTrue, Result, Ok, Err, IfOk, IfErr, length, map, reverse, slice_get, zero, suc}
+use Rattle.std.specs.Prelude.{◌≡◌, ◌↔◌, ℕ, ◌+◌, ◌<◌, ◌^◌, Option, Some, None, List, [], ◌∷◌, true, false, IsTrue, Result, Ok, Err, IfOk, IfErr, length, map, reverse, slice_get, zero, suc}
 use Rattle.std.specs.Borrow.{Bor}
 use Rattle.std.proofs.Common.{refl, sym, ◌∙◌, ap, subst, arith, inl, inr}
 use Rattle.std.specs.Option.{option_map}
@@ -189,8 +189,10 @@ same_states fs ways b i n e =
     let (way, found, same) = map_found (next_by fs b) (ways_of ways) i n e in ap (λ (x : Next). x.state) same
 
 module _ (s : Setting) (family : Place → Option State) (L : Place → Type 0) (p : Place) (a : State) where
-  pub stores_here : (fault : Refusal) → fault ≡ Refused (spot_of p.0) (saturated_offset p.1) (Only Storage) → (IsStoredWithin s a → ⊥) → Names (BreaksAt s family L p a) fault
-  stores_here fault e above = let N : Refusal → Type 0 = λ x. Names (BreaksAt s family L p a) x in subst N (sym e) (p, refl, refl, stores above)
+  pub stores_here : (fault : Refusal) → p.1 < 2 ^ 32 → fault ≡ Refused (spot_of p.0) p.1 (Only Storage) → (IsStoredWithin s a → ⊥) → Names (BreaksAt s family L p a) fault
+  stores_here fault within e above =
+      let offset : p.1 ≡ saturated_offset p.1 = omega arith in
+      let N : Refusal → Type 0 = λ x. Names (BreaksAt s family L p a) x in subst N (sym e) (p, refl, offset, stores above)
 
   -- at the end only storage indexes are checked
   pub passed_at_end : (carried : Option ℕ) (t : State) → carried ≡ None → IsStoredWithin s a → is_main_end s p.0 p.1 ≡ true → IsPassed s family L p a carried t
@@ -293,12 +295,13 @@ module _ (s : Setting) (family : Place → Option State) (L : Place → Type 0) 
     )
     broken_here (Exhausted by) h = tt
 
-  pub refused_here : IsStoredWithin s a → is_main_end s p.0 p.1 ≡ false → (fault : Refusal) (e : StepFault) → fault ≡ refusal_at (spot_of p.0) (saturated_offset p.1) e
+  pub refused_here : IsStoredWithin s a → is_main_end s p.0 p.1 ≡ false → (fault : Refusal) (e : StepFault) → p.1 < 2 ^ 32 → fault ≡ refusal_at (spot_of p.0) p.1 e
       → ForReason e (λ r. outcome_on_cells s p.0 p.1 (abstract_of a) ≡ Err r) → Names (BreaksAt s family L p a) fault
-  refused_here stored running fault (step.Refused failed) is h =
+  refused_here stored running fault (step.Refused failed) within is h =
+      let offset : p.1 ≡ saturated_offset p.1 = omega arith in
       let N : Refusal → Type 0 = λ x. Names (BreaksAt s family L p a) x in
-      subst N (sym is) (p, refl, refl, refused (reason_of failed) stored (record { running = running; refused = h }))
-  refused_here stored running fault (step.OutOfMemory m) is h = let N : Refusal → Type 0 = λ x. Names (BreaksAt s family L p a) x in subst N (sym is) tt
+      subst N (sym is) (p, refl, offset, refused (reason_of failed) stored (record { running = running; refused = h }))
+  refused_here stored running fault (step.OutOfMemory m) within is h = let N : Refusal → Type 0 = λ x. Names (BreaksAt s family L p a) x in subst N (sym is) tt
 
 -- frames that were turned round twice
 pub frames_back : (xs ys zs : List Frame) → xs ≡ ys → ys ≡ reverse zs → reverse xs ≡ zs

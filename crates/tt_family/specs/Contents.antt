@@ -5,9 +5,12 @@ use Rattle.std.specs.List.{sum_by}
 use Rattle.tt_code.specs.declared.machine.Frame.{Frame}
 use Rattle.tt_code.specs.declared.reason.Reason.TheVariants.{TooManyContexts}
 use Rattle.tt_abs.specs.declared.failed.Failed.TheVariants.{Only}
+use Rattle.tt_abs.specs.declared.refusal.Refusal.{Refusal}
 use Rattle.tt_abs.specs.declared.state.State.{State}
 use Rattle.tt_abs.specs.declared.step_fault.StepFault.{StepFault}
 use Rattle.tt_abs.specs.Moves.{ForFailed}
+use Rattle.tt_abs.specs.Refusals.{refusal_at}
+use Rattle.tt_abs.specs.Spots.{spot_of}
 use Rattle.tt_abs.specs.States.{state_order}
 use Rattle.tt_family.specs.Places.{states_of}
 
@@ -42,6 +45,11 @@ HasContext contexts frames = number_of contexts frames < length contexts
 -- the frames of a context
 abbrev pub frames_at : List (List Frame) → ℕ → List Frame
 frames_at contexts number = slice_index_or contexts number []
+
+-- the refusal of the instruction at an offset of a context
+abbrev pub refusal_in : Contents → ℕ → ℕ → StepFault → Refusal
+refusal_in contents context offset =
+    refusal_at (spot_of (frames_at contents.contexts context)) offset
 
 -- a context has the frames of this parent and one more
 abbrev pub HasChild : List (List Frame) → ℕ → Frame → Type 0

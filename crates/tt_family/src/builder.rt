@@ -16,7 +16,7 @@ ghost use Rattle.std.specs.BTreeMap.{IsOrdered, get};
 ghost use Rattle.tt_family.specs.Representation.FileOrder.{IsFileOrder, children};
 ghost use Rattle.tt_family.specs.Ascending.{IsFinished, IsContextAt};
 ghost use Rattle.tt_family.specs.Ends.{AreDefinedAtEnd, AreDefinedWhereFilled, AreKnownAtEnd, FillingsKeepEnd};
-ghost use Rattle.tt_family.specs.Contents.{AddsChild, HasChild, IsChild, IsFamily, IsFullWithout, family_of, frames_at, points_of, state_at};
+ghost use Rattle.tt_family.specs.Contents.{AddsChild, HasChild, IsChild, IsFamily, IsFullWithout, family_of, frames_at, points_of, refusal_in, state_at};
 ghost use Rattle.tt_abs.specs.Spots.{spot_of};
 
 use crate::joined::Joined;
@@ -25,7 +25,7 @@ use crate::states::States;
 use std::alloc::{AllocError, Global};
 use std::collections::BTreeMap;
 use std::marker::Model;
-use tt_abs::{Failed, Spot, State, StepFault};
+use tt_abs::{Failed, Refusal, Spot, State, StepFault};
 use tt_code::{Frame, Reason};
 
 /// How many contexts are kept at most, including the empty one.
@@ -194,6 +194,14 @@ impl Builder {
             Some((_, frame)) => Spot::of_body(frame.body),
             None => Spot::Main,
         }
+    }
+
+    /// Returns the refusal of the instruction that is at an offset of a context.
+    pub fn refused(&self, context: u32, offset: u32, fault: StepFault) -> Refusal
+        requires { context < length self.now.contexts }
+        ensures { result ≡ refusal_in self.now context offset fault }
+    {
+        fault.at(self.spot(context), offset)
     }
 
     /// Returns the number of the context that has the parent's frames and this one more: `None` if

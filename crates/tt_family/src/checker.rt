@@ -22,7 +22,7 @@ use crate::builder::Builder;
 use crate::certificate::Certificate;
 use crate::cursor::Cursor;
 use crate::listing::{Listing, added_after};
-use crate::meeting::{Coverage, check_covered, check_successors, fault_in};
+use crate::meeting::{Coverage, check_covered, check_successors};
 use crate::states::States;
 use std::alloc::Global;
 use tt_abs::{Failed, Kind, Point, Refusal, Setting, Spot, StepFault, step_at};
@@ -133,12 +133,8 @@ fn check_point(
     walk.is_next = false;
     walk.carried = None;
     if !are_stored_within(walk.made.stored(), setting.limits.storage) {
-        return Err(fault_in(
-            certificate,
-            walk.context,
-            offset,
-            StepFault::Refused(Failed::Only(Reason::Storage)),
-        ));
+        let fault = StepFault::Refused(Failed::Only(Reason::Storage));
+        return Err(certificate.builder().refused(walk.context, offset, fault));
     }
     let point = Point {
         frames: walk.frames.as_slice(),
@@ -149,7 +145,7 @@ fn check_point(
     }
     let step = match step_at(setting, &point, &mut walk.made) {
         Ok(step) => step,
-        Err(fault) => return Err(fault_in(certificate, walk.context, offset, fault)),
+        Err(fault) => return Err(certificate.builder().refused(walk.context, offset, fault)),
     };
     let after = left_out_after(setting, listing, &point, step.end);
     match check_successors(certificate, walk, step.moves, after) {

@@ -1,11 +1,10 @@
 //! How a state is covered at the places to which it goes, or added there.
 
 ghost use Rattle.std.specs.Prelude.{◌≡◌, ◌<◌, IfErr, IfOk, IsTrue, Some, length};
-ghost use Rattle.tt_family.specs.Checks.{FitOffsetsBefore, HasNextTurn, NamesGap, saturated_offset};
-ghost use Rattle.tt_family.specs.Contents.{family_of, frames_at};
+ghost use Rattle.tt_family.specs.Checks.{FitOffsetsBefore, HasNextTurn, NamesGap};
+ghost use Rattle.tt_family.specs.Contents.{family_of};
 ghost use Rattle.tt_family.specs.Puts.{place_of};
-ghost use Rattle.tt_abs.specs.Refusals.{IsOfNoBudget, refusal_at};
-ghost use Rattle.tt_abs.specs.Spots.{spot_of};
+ghost use Rattle.tt_abs.specs.Refusals.{IsOfNoBudget};
 ghost use Rattle.tt_family.specs.Representation.Cursors.{AreMadeMet, IsEntry, IsMadeMet, IsMetBy, IsPastStart, IsUnlisted, IsUnlistedAfter, IsWalk, MayTurn, NamesFirstGapMade, NamesGapMade, calls_of, coverage_of_both, place_of_way as place_of_move, point_of};
 
 use crate::certificate::Certificate;
@@ -36,20 +35,6 @@ fn both_coverages(first: Coverage, second: Coverage) -> Coverage
             _ => first,
         },
     }
-}
-
-/// Returns the refusal of the instruction that is at an offset of a context.
-pub(crate) fn fault_in(
-    certificate: &Certificate,
-    context: u32,
-    offset: u32,
-    fault: StepFault,
-) -> Refusal
-    requires { context < length certificate.now.contexts }
-    ensures { result ≡ refusal_at (spot_of (frames_at certificate.now.contexts context))
-        (saturated_offset offset) fault }
-{
-    fault.at(certificate.builder().spot(context), offset)
 }
 
 /// Returns how a state is covered at an offset of a context; the caller says whether it may be left
@@ -88,16 +73,16 @@ pub(crate) fn check_covered(
             if may_be_left_out {
                 Ok(Coverage::Added)
             } else {
-                let failed = Failed::Only(Reason::MissingPoint);
-                Err(fault_in(certificate, context, offset, StepFault::Refused(failed)))
+                let fault = StepFault::Refused(Failed::Only(Reason::MissingPoint));
+                Err(certificate.builder().refused(context, offset, fault))
             }
         }
         Some(above) => {
             if state.below(above) {
                 Ok(Coverage::Listed)
             } else {
-                let failed = Failed::Only(Reason::NotCovered);
-                Err(fault_in(certificate, context, offset, StepFault::Refused(failed)))
+                let fault = StepFault::Refused(Failed::Only(Reason::NotCovered));
+                Err(certificate.builder().refused(context, offset, fault))
             }
         }
     }

@@ -24,7 +24,7 @@ use Rattle.tt_abs.specs.StateFlow.{IsPlace, Place, flow_of, height_of}
 use Rattle.tt_abs.specs.States.{state_laws, state_order}
 use Rattle.tt_abs.proofs.LineLaws.{precedes_no_start, precedes_one}
 use Rattle.tt_family.specs.Checks.{point_key_of}
-use Rattle.tt_family.specs.Contents.{AddsContext, Contents, HasContext, IsFamily, family_of, frames_at, number_of}
+use Rattle.tt_family.specs.Contents.{AddsContext, Contents, HasContext, IsFamily, family_of, frames_at, number_of, refusal_in}
 use Rattle.tt_family.specs.Numbers.{at-number_of, number_of-place}
 use Rattle.tt_family.specs.Places.{PutGives, PutsAt, has_point, states_of}
 use Rattle.tt_family.specs.Joins.{TellsOtherDepth}
@@ -42,7 +42,7 @@ use Rattle.tt_find.specs.declared.stop.Stop.{Stop}
 use Rattle.tt_find.specs.declared.stop.Stop.TheVariants.{Fault, Restart}
 use Rattle.tt_find.specs.declared.solver.Solver.{Solver}
 use Rattle.tt_find.specs.Found.{AreDerivedContexts, IsDerived, IsJustified, IsNeeded, NamesPlace, NamesStop, refused, apart, too_many}
-use Rattle.tt_find.specs.Representation.Solvers.{ArePoints, AreVisits, ComesFrom, HasLaws, HasRisen, IsAmong, IsApart, IsApartAt, IsCarriedOn, IsCountable, IsLeading, IsListed, IsOnWay, IsPassed, IsPopped, IsPut, IsRefusedAt, IsSound, IsStored, IsSoundSoFar, IsWhole, IsWithinBudget, KeepsRest, MayLead, NamesApart, Pends, PendsFrom, SparesAt, places_from, refused_in, updates_of}
+use Rattle.tt_find.specs.Representation.Solvers.{ArePoints, AreVisits, ComesFrom, HasLaws, HasRisen, IsAmong, IsApart, IsApartAt, IsCarriedOn, IsCountable, IsLeading, IsListed, IsOnWay, IsPassed, IsPopped, IsPut, IsRefusedAt, IsSound, IsStored, IsSoundSoFar, IsWhole, IsWithinBudget, KeepsRest, MayLead, NamesApart, Pends, PendsFrom, SparesAt, places_from, updates_of}
 use Rattle.tt_find.proofs.Budget.{budget_put, budget_same, room_for, updates_fit}
 use Rattle.tt_find.proofs.Listed.{cases_source, listed_back, listed_before, listed_grown, listed_now, listed_on, there_now}
 use Rattle.tt_find.proofs.Marking.{kept_here, kept_passed, kept_put, kept_state, none_kept}
@@ -71,7 +71,7 @@ refused_names Is p (step.Refused failed) fault is h = names_at Is p failed fault
 refused_names Is p (step.OutOfMemory m) fault is h = let N : Refusal → Type 0 = λ x. NamesPlace Is x in subst N (sym is) tt
 
 -- a state that isn't put has another depth than the one at its point
-pub apart_names : (v : Contents) (c off : ℕ) (t : State) (e : StepFault) (fault : Refusal) → fault ≡ refused_in v c off e → TellsOtherDepth (family_state v c off) t e → NamesApart v c off t fault
+pub apart_names : (v : Contents) (c off : ℕ) (t : State) (e : StepFault) (fault : Refusal) → fault ≡ refusal_in v c off e → TellsOtherDepth (family_state v c off) t e → NamesApart v c off t fault
 apart_names v c off t e fault is told =
     refused_names (IsApartAt v c off t) (place_of v c off) e fault is
     (failed_reason e _ (IsApartAt v c off t (place_of v c off)) (λ failed h.

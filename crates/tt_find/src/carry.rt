@@ -10,7 +10,7 @@ ghost use Rattle.tt_find.specs.Representation.SolverSubjects.{EndsJustBefore, Go
 ghost use Rattle.tt_find.specs.Representation.Solvers.{HasRisen, IsStored, IsWalk, KeepsEverywhere, MakesAtMost, StopsApart, TellsSource};
 
 use crate::approach::Approach;
-use crate::solver::{Solver, refused_at};
+use crate::solver::Solver;
 use crate::stop::Stop;
 use crate::successor::resolve_successor;
 use crate::walk::Walk;
@@ -46,7 +46,7 @@ fn step_state(
     walk.known = None;
     match step_at(setting, &point, &mut walk.state) {
         Ok(step) => Ok(Some(step)),
-        Err(fault) => Err(refused_at(builder, walk.context, offset, fault)),
+        Err(fault) => Err(builder.refused(walk.context, offset, fault)),
     }
 }
 
@@ -181,7 +181,7 @@ fn store_successors(
         let (context, next) = match resolve_successor(&mut solver.builder, here, way) {
             Ok(place) => place,
             Err(fault) => {
-                return Err(Stop::Fault(refused_at(&solver.builder, here, offset, fault)));
+                return Err(Stop::Fault(solver.builder.refused(here, offset, fault)));
             }
         };
         let source = approach_of(here, context, after, next);

@@ -7,7 +7,7 @@ ghost use Rattle.tt_abs.specs.declared.state.State.{State as StateValue};
 ghost use Rattle.tt_family.specs.Contents.{state_at};
 ghost use Rattle.tt_family.specs.Joins.{TellsNew, TellsNewAt};
 ghost use Rattle.tt_find.specs.Finders.{IsEmptySolver};
-ghost use Rattle.tt_find.specs.Representation.Solvers.{IsPassed, IsPut, KeepsRest, NamesApart, SparesAt, refused_in};
+ghost use Rattle.tt_find.specs.Representation.Solvers.{IsPassed, IsPut, KeepsRest, NamesApart, SparesAt};
 ghost use Rattle.tt_find.specs.Representation.OffsetMarks.{mark_of};
 
 use crate::approach::Approach;
@@ -15,7 +15,7 @@ use crate::marks::{Mark, OffsetMarks};
 use crate::worklist::Worklist;
 use std::alloc::{AllocError, Global};
 use std::collections::BTreeSet;
-use tt_abs::{Exhausted, Refusal, Spot, State, StepFault};
+use tt_abs::{Exhausted, Refusal, Spot, State};
 use tt_family::{Builder, Joined, PointKey};
 
 /// The family so far. Its states are kept at the points where ways meet; those in between are made
@@ -51,14 +51,6 @@ impl Drop for Solver {
         drop(spare);
         drop(marks);
     }
-}
-
-/// Returns the refusal of an instruction that is at this point.
-pub(crate) fn refused_at(builder: &Builder, context: u32, offset: u32, fault: StepFault) -> Refusal
-    requires { context < length builder.now.contexts }
-    ensures { result ≡ refused_in builder.now context offset fault }
-{
-    fault.at(builder.spot(context), offset)
 }
 
 impl Solver {
@@ -113,7 +105,7 @@ impl Solver {
     {
         let joined = match self.builder.put_state(context, offset, state) {
             Ok(joined) => joined,
-            Err(fault) => return Err(refused_at(&self.builder, context, offset, fault)),
+            Err(fault) => return Err(self.builder.refused(context, offset, fault)),
         };
         if !joined.is_change() {
             return Ok(joined);

@@ -15,7 +15,7 @@ mod walk;
 pub use checking::check;
 pub use copying::{Split, copied, copy_into, lower, raise};
 pub use covering::{covers, has_functions};
-pub use site::{Site, too_many_steps};
+pub use site::{START, Site, too_many_steps};
 pub use splits::wanted;
 pub use start::{Start, start_state};
 pub use walk::{Effort, USUAL_EFFORT, is_at_end};

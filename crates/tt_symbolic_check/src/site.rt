@@ -17,6 +17,12 @@ pub struct Site {
     pub offset: u32,
 }
 
+/// Where a program starts.
+pub const START: Site = Site {
+    spot: Spot::Main,
+    offset: 0,
+};
+
 impl Site {
     /// Returns where the state is.
     pub fn of(state: &State) -> Site {

@@ -18,12 +18,11 @@ use crate::waiting::Waiting;
 use crate::writes::Writes;
 use std::alloc::{AllocError, Global};
 use std::mem;
-use tt_abs::{Kind, Refusal, Setting, Spot, StepFault};
+use tt_abs::{Kind, Refusal, Setting, StepFault};
 use tt_code::Reason;
 use tt_symbolic::kept::Kept;
 use tt_symbolic::step::code_at;
-use tt_symbolic_check::{Site, Start, is_at_end, lower, raise, start_state, wanted};
-use tt_symbolic_state::State;
+use tt_symbolic_check::{START, Site, Start, is_at_end, lower, raise, start_state, wanted};
 
 /// How many steps a state makes beside another one before it is put down.
 const MOST_CROWDED: u32 = 40;
@@ -43,12 +42,6 @@ const MOST_SEEN: usize = 16;
 
 /// The code of EIF.
 const EIF: u8 = 0x59;
-
-/// Where a program starts.
-const START: Site = Site {
-    spot: Spot::Main,
-    offset: 0,
-};
 
 /// Why a run ends before nothing waits.
 #[derive(Drop)]

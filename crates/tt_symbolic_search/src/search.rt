@@ -305,9 +305,9 @@ impl Search {
         let mut run = Run::begin(&task, trial.starts, spare)?;
         let stop = run_on(&mut run, &task, &mut self.merges, &mut self.writes);
         self.steps = self.steps.saturating_add(run.steps);
-        match &stop {
-            Some(met) if met.reason() == Some(Reason::TooManySteps) => Err(too_many_steps()),
-            _ => Ok((run, stop)),
+        match stop {
+            Some(met) if met.reason() == Some(Reason::TooManySteps) => Err(met.refusal()),
+            stop => Ok((run, stop)),
         }
     }
 

@@ -10,13 +10,11 @@ use Rattle.tt_abs.specs.declared.moves.Move.{Move}
 use Rattle.tt_abs.specs.declared.moves.Moves.{Moves}
 use Rattle.tt_abs.specs.declared.state.State.{State}
 use Rattle.tt_abs.specs.declared.instruction.Stepped.{Stepped}
-use Rattle.tt_abs.specs.declared.step_fault.StepFault.{StepFault}
 use Rattle.tt_abs.specs.Families.{CoversAt, Derived}
 use Rattle.tt_abs.specs.Flows.{Flow, FlowLaws}
 use Rattle.tt_abs.specs.Lines.{EndsAt, Precedes}
 use Rattle.tt_abs.specs.Moves.{frames_after, nexts_of, offset_after, ways_of}
 use Rattle.tt_abs.specs.Orders.{Order}
-use Rattle.tt_abs.specs.Refusals.{refusal_at}
 use Rattle.tt_abs.specs.StateFlow.{AreProgramsShort, GivesState, Place, RefusesState, flow_of, height_of}
 use Rattle.tt_abs.specs.States.{abstract_of, state_order}
 use Rattle.tt_abs.specs.Transfers.{outcome_on_cells}
@@ -262,11 +260,6 @@ StopsApart solver context offset t =
 -- states are kept everywhere, or not, as before
 abbrev pub KeepsEverywhere : Solver → Solver → Type 0
 KeepsEverywhere old new = new.marks.everywhere ≡ old.marks.everywhere
-
--- the refusal of an instruction at an offset of a context
-abbrev pub refused_in : Contents → ℕ → ℕ → StepFault → Refusal
-refused_in contents context offset =
-    refusal_at (spot_of (frames_at contents.contexts context)) offset
 
 -- the state is refused at this place
 pub record IsRefusedAt (s : Setting) (at : Place) (state : State) (p : Place) (r : Reason)

@@ -1,5 +1,5 @@
 use Rattle.std.proofs.Common.{rules, arith, ◌≡◌, ◌<◌, List, Ok, Err, true, false, refl, sym, ◌∙◌, ap, subst}
-use Rattle.std.specs.Prelude.{◌↔◌}
+use Rattle.std.specs.Prelude.{◌^◌, ◌↔◌}
 use Rattle.tt_code.specs.Settings.{is_main_end}
 use Rattle.tt_code.specs.declared.machine.Frame.{Frame}
 use Rattle.tt_abs.specs.Lines.{Precedes}
@@ -8,8 +8,11 @@ use Rattle.tt_abs.specs.Settings.{setting_of}
 use Rattle.tt_abs.specs.StateFlow.{Place}
 use Rattle.tt_abs.specs.States.{abstract_of}
 use Rattle.tt_abs.specs.Transfers.{outcome_on_cells}
+use Rattle.tt_abs.specs.declared.step_fault.StepFault.{StepFault}
+use Rattle.tt_abs.specs.declared.failed.Failed.TheVariants.{Only}
+use Rattle.tt_code.specs.declared.reason.Reason.TheVariants.{Storage}
 use Rattle.tt_abs.proofs.StepLemmas.{for_reason}
-use Rattle.tt_family.specs.Contents.{family_of, frames_at}
+use Rattle.tt_family.specs.Contents.{Contents, family_of, frames_at, refusal_in}
 use Rattle.tt_family.specs.Puts.{place_of}
 use Rattle.tt_family.specs.Representation.Cursors.{MayLeaveOut}
 use Rattle.tt_family.specs.Fillings.{IsAfter}
@@ -25,7 +28,9 @@ returns-then-not-are_stored_within-clause-broken c =
     let S = setting_of c.args.setting.now in
     let P = place_of c.args.certificate.now c.args.walk.now.context c.args.offset in
     let above : c.are_stored_within.result ≡ false = search rules in
-    stores_here S (family_of c.args.certificate.now) (MayLeaveOut c.args.listing S P) P c.args.walk.now.made c.fault_in.result c.fault_in.ensures
+    let within : c.args.offset < 2 ^ 32 = omega arith in
+    stores_here S (family_of c.args.certificate.now) (MayLeaveOut c.args.listing S P) P c.args.walk.now.made c.refused.result within
+    (c.refused.ensures ∙ ap (λ (v : Contents). refusal_in v c.args.walk.now.context c.args.offset (StepFault.Refused (Only Storage))) c.builder.ensures)
     (stored_above S c.args.walk.now.made c.stored.result.now c.are_stored_within.result c.stored.ensures c.are_stored_within.ensures above)
 
 pub returns-then-is_end-clause-passed : goal.returns-then-is_end-clause-passed
@@ -47,9 +52,10 @@ returns-in-Err-clause-broken c =
     let within : c.are_stored_within.result ≡ true = search rules in
     let back = frames_back c.as_slice.result.now _ fs c.as_slice.ensures.value c.requires.walk.frames in
     let running : is_main_end S fs c.args.offset ≡ false = ap (λ f. is_main_end S f c.args.offset) (sym back) ∙ sym c.is_end.ensures ∙ c.if-is_end.false in
+    let offset_within : c.args.offset < 2 ^ 32 = omega arith in
     refused_here S (family_of c.args.certificate.now) (MayLeaveOut c.args.listing S P) P c.args.walk.now.made
-    (stored_within S c.args.walk.now.made c.stored.result.now c.are_stored_within.result c.stored.ensures c.are_stored_within.ensures within) running c.fault_in-in-Err.result
-    c.in-Err.fault c.fault_in-in-Err.ensures
+    (stored_within S c.args.walk.now.made c.stored.result.now c.are_stored_within.result c.stored.ensures c.are_stored_within.ensures within) running c.refused-in-Err.result
+    c.in-Err.fault offset_within (c.refused-in-Err.ensures ∙ ap (λ (v : Contents). refusal_in v c.args.walk.now.context c.args.offset c.in-Err.fault) c.builder-in-Err.ensures)
     (for_reason c.in-Err.fault _ (λ r. outcome_on_cells S fs c.args.offset (abstract_of c.args.walk.now.made) ≡ Err r)
     (refusal_moved S fs _ c.args.offset _ c.args.walk.now.made _ back refl refl) c.in-Err.ensures.refused)
 

@@ -15,9 +15,9 @@ returns-in-Err-clause-refused c =
     let p = here_of c.args.builder.now c.args.walk.now c.args.offset in
     let back = frames_back c.as_slice.result.now _ fs c.as_slice.ensures.value c.requires.walk.calls in
     let running : is_main_end S fs c.args.offset ≡ false = ap (λ f. is_main_end S f c.args.offset) (sym back) ∙ sym c.is_end.ensures ∙ c.if-is_end.false in
-    refused_names (IsRefusedAt S p c.args.walk.now.state) p c.in-Err.fault c.refused_at.result c.refused_at.ensures
+    refused_names (IsRefusedAt S p c.args.walk.now.state) p c.in-Err.fault c.refused.result c.refused.ensures
     (for_reason c.in-Err.fault _ (IsRefusedAt S p c.args.walk.now.state p) (λ r h.
     record { place = refl; refused = record { running = running; refused = refusal_moved S fs _ c.args.offset _ c.args.walk.now.state _ back refl refl r h } }) c.in-Err.ensures.refused)
 
 pub returns-in-Err-clause-within : goal.returns-in-Err-clause-within
-returns-in-Err-clause-within c = refused_within _ c.args.offset c.in-Err.fault c.refused_at.result c.refused_at.ensures
+returns-in-Err-clause-within c = refused_within _ c.args.offset c.in-Err.fault c.refused.result c.refused.ensures

@@ -6,10 +6,8 @@ use Rattle.tt_abs.specs.Settings.{setting_of}
 use Rattle.tt_abs.specs.declared.moves.Move.{Move}
 use Rattle.tt_abs.specs.declared.moves.Moves.{Moves}
 use Rattle.tt_abs.specs.declared.moves.Moves.TheVariants.{One, Two}
-use Rattle.tt_family.specs.Contents.{Contents, family_of, frames_at}
+use Rattle.tt_family.specs.Contents.{Contents, family_of, frames_at, refusal_in}
 use Rattle.tt_family.specs.Puts.{place_of}
-use Rattle.tt_abs.specs.Spots.{spot_of}
-use Rattle.tt_abs.specs.Refusals.{refusal_at}
 use Rattle.tt_find.specs.Found.{IsJustified}
 use Rattle.tt_find.specs.Representation.Solvers.{HasRisen, IsApart, IsLeadingOn, IsLeadingTo, TellsSource, calls_of, here_of, place_over, places_from, updates_of}
 use Rattle.tt_find.specs.declared.solver.Solver.{Solver}
@@ -32,13 +30,13 @@ returns-in-Err-clause-stops c =
     let solver = c.loop-way.solver in
     let here = c.args.walk.now.context in
     let fault = c.in-Err.fault in
-    not_entered s fs c.requires.laws (frames_at solver.builder.contexts here, c.args.offset) fault solver.builder.contexts _ c.refused_at.result
-    (c.refused_at.ensures ∙ ap (λ (v : Contents). refusal_at (spot_of (frames_at v.contexts here)) c.args.offset fault) c.in-Err.ensures.kept)
+    not_entered s fs c.requires.laws (frames_at solver.builder.contexts here, c.args.offset) fault solver.builder.contexts _ c.refused.result
+    (c.refused.ensures ∙ ap (λ (v : Contents). refusal_in v here c.args.offset fault) c.in-Err.ensures.kept)
     (too_many_on s fs c.requires.laws solver c.loop-way.walk c.args.offset c.args.after c.args.ways c.loop-way.index c.loop-way.over c.in-Some.way here c.loop-way.invariant.here
     c.loop-way.invariant.on (sym c.in-Some.ensures)) c.in-Err.ensures.full
 
 pub returns-in-Err-clause-within : goal.returns-in-Err-clause-within
-returns-in-Err-clause-within c = refused_within _ c.args.offset c.in-Err.fault c.refused_at.result c.refused_at.ensures
+returns-in-Err-clause-within c = refused_within _ c.args.offset c.in-Err.fault c.refused.result c.refused.ensures
 
 pub store-requires-clause-in_range : goal.store-requires-clause-in_range
 store-requires-clause-in_range c =

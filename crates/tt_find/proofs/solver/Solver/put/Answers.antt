@@ -1,8 +1,7 @@
 use Rattle.std.proofs.Common.{arith, ℕ, Bool, ◌+◌, cond, ◌≡◌, ap, length, sym, ◌∙◌}
 use Rattle.tt_abs.specs.States.{state_order}
 use Rattle.tt_family.specs.Joins.{is_change}
-use Rattle.tt_family.specs.Contents.{Contents}
-use Rattle.tt_find.specs.Representation.Solvers.{refused_in}
+use Rattle.tt_family.specs.Contents.{Contents, refusal_in}
 use Rattle.tt_find.proofs.Placed.{put_new}
 use Rattle.tt_abs.proofs.StepLemmas.{refused_within}
 use Rattle.tt_find.proofs.Steps.{apart_names}
@@ -34,8 +33,8 @@ returns-clause-new c = λ new.
 
 pub returns-in-Err-clause-apart : goal.returns-in-Err-clause-apart
 returns-in-Err-clause-apart c =
-    apart_names c.args.self.now.builder c.args.context c.args.offset c.args.state.now c.in-Err.fault c.refused_at.result
-    (c.refused_at.ensures ∙ ap (λ (v : Contents). refused_in v c.args.context c.args.offset c.in-Err.fault) c.in-Err.ensures.kept) c.in-Err.ensures.depth
+    apart_names c.args.self.now.builder c.args.context c.args.offset c.args.state.now c.in-Err.fault c.refused.result
+    (c.refused.ensures ∙ ap (λ (v : Contents). refusal_in v c.args.context c.args.offset c.in-Err.fault) c.in-Err.ensures.kept) c.in-Err.ensures.depth
 
 pub returns-in-Err-clause-within : goal.returns-in-Err-clause-within
-returns-in-Err-clause-within c = refused_within _ c.args.offset c.in-Err.fault c.refused_at.result c.refused_at.ensures
+returns-in-Err-clause-within c = refused_within _ c.args.offset c.in-Err.fault c.refused.result c.refused.ensures
