@@ -11,8 +11,8 @@ use Rattle.hintcheck_fonts.specs.declared.certificate.FindFontFault.{FindFontFau
 use Rattle.hintcheck_fonts.specs.declared.certificate.FindFontFault.TheVariants as find
 use Rattle.hintcheck_fonts.specs.declared.font.VerdictFault.{VerdictFault}
 use Rattle.hintcheck_fonts.specs.declared.font.VerdictFault.TheVariants as judging
-use Rattle.hintcheck_fonts.specs.declared.certificate_upgrade.UpgradeFault.{UpgradeFault}
-use Rattle.hintcheck_fonts.specs.declared.certificate_upgrade.UpgradeFault.TheVariants as upgrading
+use Rattle.tt_cert.specs.declared.fault.CertFault.{CertFault}
+use Rattle.tt_cert.specs.declared.fault.CertFault.TheVariants as upgrading
 use Rattle.hintcheck_explain.specs.declared.asked.ExplainFault.{ExplainFault}
 use Rattle.hintcheck_explain.specs.declared.asked.ExplainFault.TheVariants as explaining
 use Rattle.tt_abs.specs.declared.exhausted.Exhausted.{Exhausted}
@@ -90,7 +90,7 @@ fault_of_explain (explaining.Write failed) = fault_of_print failed
 fault_of_explain (explaining.Exhausted by) = fault_of_end by
 
 -- the fault of a certificate that isn't upgraded
-abbrev pub fault_of_upgrade : UpgradeFault → CommandFault
+abbrev pub fault_of_upgrade : CertFault → CommandFault
 fault_of_upgrade (upgrading.Form place) = fault.Form place
 fault_of_upgrade upgrading.Read = fault.Read
 fault_of_upgrade upgrading.Write = fault.File

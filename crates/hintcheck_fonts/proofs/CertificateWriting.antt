@@ -7,8 +7,8 @@ use Rattle.tt_code.specs.Cut.{Instruction}
 use Rattle.tt_family.specs.Contents.{Contents}
 use Rattle.tt_family.specs.Ascending.{IsFinished}
 use Rattle.tt_cert.specs.declared.form.Form.TheVariants.{Four}
-use Rattle.tt_cert.specs.declared.fault.EncodeFault.{EncodeFault}
-use Rattle.tt_cert.specs.declared.fault.EncodeFault.TheVariants as encode
+use Rattle.tt_cert.specs.declared.fault.CertFault.{CertFault}
+use Rattle.tt_cert.specs.declared.fault.CertFault.TheVariants as cert
 use Rattle.tt_cert.specs.declared.name.Name.{Name}
 use Rattle.tt_cert.specs.Answers.{CountsWrite}
 use Rattle.tt_cert.specs.Rules.{AreCallsInTurn, Fits}
@@ -49,14 +49,18 @@ pub refuses_none : (d : FontData) (rs : List Refused) (n : ℕ) → n ≡ length
 refuses_none d rs n long all zero = (judgement_on d rs, all, nil_from_length rs (sym long ∙ zero))
 
 -- a section that can't be written counts as the search for a certificate counts
-pub counts_encoding : (e : EncodeFault) (a b n : ℕ) → b ≡ a → CountsWrite {T = Unit {0}} (Err e) b n → CountsFind {T = Unit {0}} (Err (fault_of_encoding e)) a n
-counts_encoding encode.Write a b n same counted = counted ∙ ap (λ k. k + 1) same
-counts_encoding (encode.OutOfMemory error) a b n same counted = counted ∙ same
+pub counts_encoding : (e : CertFault) (a b n : ℕ) → b ≡ a → CountsWrite {T = Unit {0}} (Err e) b n → CountsFind {T = Unit {0}} (Err (fault_of_encoding e)) a n
+counts_encoding cert.Write a b n same counted = counted ∙ ap (λ k. k + 1) same
+counts_encoding (cert.Form place) a b n same counted = absurd counted
+counts_encoding cert.Read a b n same counted = absurd counted
+counts_encoding (cert.OutOfMemory error) a b n same counted = counted ∙ same
 
 -- and that isn't the font's fault
-pub encoding_no_font : (e : EncodeFault) → IsFindFaultOutsideFont (fault_of_encoding e)
-encoding_no_font encode.Write = tt
-encoding_no_font (encode.OutOfMemory error) = tt
+pub encoding_no_font : (e : CertFault) → IsFindFaultOutsideFont (fault_of_encoding e)
+encoding_no_font cert.Write = tt
+encoding_no_font (cert.Form place) = tt
+encoding_no_font cert.Read = tt
+encoding_no_font (cert.OutOfMemory error) = tt
 
 -- one text after the other
 

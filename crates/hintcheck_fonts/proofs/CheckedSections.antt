@@ -4,15 +4,15 @@ use Rattle.std.specs.Prelude.{slice_get}
 use Rattle.std.proofs.lemmas.List.{drop_all}
 use Rattle.tt_family.specs.Contents.{Contents}
 use Rattle.tt_family.specs.Ascending.{IsFinished}
-use Rattle.tt_cert.specs.Answers.{CountsRead, GivesSection, input_at}
-use Rattle.tt_cert.specs.declared.fault.DecodeFault.{DecodeFault}
-use Rattle.tt_cert.specs.declared.fault.DecodeFault.TheVariants as decode
+use Rattle.tt_cert.specs.Answers.{GivesSection, input_at}
+use Rattle.tt_cert.specs.declared.fault.CertFault.{CertFault}
+use Rattle.tt_cert.specs.declared.fault.CertFault.TheVariants as cert
 use Rattle.tt_cert.specs.declared.form.Form.{Form}
 use Rattle.tt_cert.specs.declared.name.Name.{Name}
 use Rattle.tt_cert.specs.Reading.{section_at}
 use Rattle.tt_cert.specs.Sections.{section_of}
 use Rattle.tt_font.specs.Reading.{GlyphData}
-use Rattle.hintcheck_fonts.specs.CertificateFaults.{CountsCheck, Decodes, IsCheckFaultOutsideFontAndBudget, fault_of_decoding}
+use Rattle.hintcheck_fonts.specs.CertificateFaults.{ComesTo, CountsCheck, fault_of_decoding}
 use Rattle.hintcheck_fonts.specs.Certificates.{Finding, HasNoSection, IsSectionOf, not_read, of_another, refused_before}
 use Rattle.hintcheck_fonts.specs.CheckedFonts.{Finds, IsTold, all_refused}
 use Rattle.hintcheck_fonts.specs.declared.font_check.CheckFontFault.{CheckFontFault}
@@ -33,11 +33,12 @@ pub section_of_another : (form : Form) (old new : Option (List ℕ)) (place afte
     → HasNoSection form (input_at place old) called place
 section_of_another form old new place after called named family gives differs told = of_another (section_of named family) (input_at after new) (gives told).1 differs
 
-pub no_section_read : {T : Type 0} (Is : T → Type 0) (form : Form) (old new : Option (List ℕ)) (place : ℕ) (called : Name) (e : DecodeFault)
-    → GivesSection old new (Err e) (section_at form (input_at place old)) → IsTold old → Decodes {T = T} (Err e) Is (HasNoSection form (input_at place old) called)
-no_section_read Is form old new place called (decode.Form p) gives told = not_read p (gives told)
-no_section_read Is form old new place called decode.Read gives told = tt
-no_section_read Is form old new place called (decode.OutOfMemory e) gives told = tt
+pub no_section_read : {T : Type 0} (Is : T → Type 0) (form : Form) (old new : Option (List ℕ)) (place : ℕ) (called : Name) (e : CertFault)
+    → GivesSection old new (Err e) (section_at form (input_at place old)) → IsTold old → ComesTo {T = T} (Err e) Is (HasNoSection form (input_at place old) called)
+no_section_read Is form old new place called (cert.Form p) gives told = not_read p (gives told)
+no_section_read Is form old new place called cert.Read gives told = tt
+no_section_read Is form old new place called cert.Write gives told = tt
+no_section_read Is form old new place called (cert.OutOfMemory e) gives told = tt
 
 -- glyph programs
 
@@ -71,24 +72,14 @@ finds_fault Is Is' At At' (check.OutOfMemory e) h f = tt
 finds_fault Is Is' At At' check.Budget h f = tt
 
 -- so does a section that isn't there
-pub finds_decoding : {T U : Type 0} (Is : T → Type 0) (Is' : U → Type 0) (At At' : ℕ → Type 0) (e : DecodeFault) → Decodes {T = T} (Err e) Is At → ((place : ℕ) → At place → At' place)
+pub finds_decoding : {T U : Type 0} (Is : T → Type 0) (Is' : U → Type 0) (At At' : ℕ → Type 0) (e : CertFault) → ComesTo {T = T} (Err e) Is At → ((place : ℕ) → At place → At' place)
     → Finds {T = U} (Err (fault_of_decoding e)) Is' At'
-finds_decoding Is Is' At At' (decode.Form place) h f = f place h
-finds_decoding Is Is' At At' decode.Read h f = tt
-finds_decoding Is Is' At At' (decode.OutOfMemory e) h f = tt
+finds_decoding Is Is' At At' (cert.Form place) h f = f place h
+finds_decoding Is Is' At At' cert.Read h f = tt
+finds_decoding Is Is' At At' cert.Write h f = tt
+finds_decoding Is Is' At At' (cert.OutOfMemory e) h f = tt
 
 -- failures are counted from before the call too, where nothing failed till then
 
 pub counts_from : (e : CheckFontFault) (first old new : ℕ) → old ≡ first → CountsCheck {T = Unit {0}} (Err e) old new → CountsCheck {T = Unit {0}} (Err e) first new
 counts_from e first old new same h = let C : ℕ → Type 0 = λ n. CountsCheck {T = Unit {0}} (Err e) n new in subst C same h
-
-pub counts_decoding : (e : DecodeFault) (old new : ℕ) → CountsRead {T = Unit {0}} (Err e) old new → CountsCheck {T = Unit {0}} (Err (fault_of_decoding e)) old new
-counts_decoding decode.Read old new h = h
-counts_decoding (decode.OutOfMemory error) old new h = h
-counts_decoding (decode.Form place) old new h = h
-
--- a certificate that can't be read isn't a fault of the font's
-pub decoding_is_no_font : (e : DecodeFault) → IsCheckFaultOutsideFontAndBudget (fault_of_decoding e)
-decoding_is_no_font decode.Read = tt
-decoding_is_no_font (decode.OutOfMemory error) = tt
-decoding_is_no_font (decode.Form place) = tt

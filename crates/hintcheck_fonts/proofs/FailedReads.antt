@@ -6,9 +6,9 @@ use Rattle.std.specs.Io.KnownBytes.{Consumes, Keeps}
 use Rattle.std.proofs.KnownBytes.{Consumes-trans}
 use Rattle.std.proofs.lemmas.List.{length-append}
 use Rattle.tt_family.specs.Contents.{Contents}
-use Rattle.tt_cert.specs.Answers.{StopsAtEnd, input_at}
-use Rattle.tt_cert.specs.declared.fault.DecodeFault.{DecodeFault}
-use Rattle.tt_cert.specs.declared.fault.DecodeFault.TheVariants as decode
+use Rattle.tt_cert.specs.Answers.{CountsRead, StopsAtEnd, input_at}
+use Rattle.tt_cert.specs.declared.fault.CertFault.{CertFault}
+use Rattle.tt_cert.specs.declared.fault.CertFault.TheVariants as cert
 use Rattle.tt_cert.specs.declared.form.Form.{Form}
 use Rattle.tt_cert.specs.declared.name.Name.{Name}
 use Rattle.tt_cert.specs.Forms.{form_of}
@@ -239,28 +239,32 @@ ends_there s front form from reads =
 -- a read failed
 
 -- in a section
-pub section_cut_short : (d : FontData) (form : Form) (stage : Stage) (called : Name) (place : ℕ) (old new : Option (List ℕ)) (e : DecodeFault)
+pub section_cut_short : (d : FontData) (form : Form) (stage : Stage) (called : Name) (place : ℕ) (old new : Option (List ℕ)) (e : CertFault) (a b : ℕ) → CountsRead {T = Unit {0}} (Err e) a b
     → ((i : Input) (at : ℕ) → HasNoSection form i called at → IsFaultAt d form i stage at) → StopsAtEnd place old new (section_at form) e
     → HasRead old new (λ front. EndsInSection d form stage (input_at place (Some front))) (fault_of_decoding e)
-section_cut_short d form stage called place old new (decode.Form at) no_section stops = tt
-section_cut_short d form stage called place old new (decode.OutOfMemory error) no_section stops = tt
-section_cut_short d form stage called place old new decode.Read no_section stops = λ told.
+section_cut_short d form stage called place old new (cert.Form at) a b counted no_section stops = tt
+section_cut_short d form stage called place old new cert.Write a b counted no_section stops = absurd counted
+section_cut_short d form stage called place old new (cert.OutOfMemory error) a b counted no_section stops = tt
+section_cut_short d form stage called place old new cert.Read a b counted no_section stops = λ told.
     let s = stops told in
     let at = place_after place (length s.front) in
     (s.front, s.consumed, in_section (no_section (input_at place (Some s.front)) at (not_read at s.refused)))
 
 -- in a header
-pub header_cut_short : (old new : Option (List ℕ)) (e : DecodeFault) → StopsAtEnd 0 old new header_at e → HasRead old new IsCutHeader (fault_of_decoding e)
-header_cut_short old new (decode.Form at) stops = tt
-header_cut_short old new (decode.OutOfMemory error) stops = tt
-header_cut_short old new decode.Read stops = λ told. let s = stops told in (s.front, s.consumed, s.refused)
+pub header_cut_short : (old new : Option (List ℕ)) (e : CertFault) (a b : ℕ) → CountsRead {T = Unit {0}} (Err e) a b → StopsAtEnd 0 old new header_at e → HasRead old new IsCutHeader (fault_of_decoding e)
+header_cut_short old new (cert.Form at) a b counted stops = tt
+header_cut_short old new cert.Write a b counted stops = absurd counted
+header_cut_short old new (cert.OutOfMemory error) a b counted stops = tt
+header_cut_short old new cert.Read a b counted stops = λ told. let s = stops told in (s.front, s.consumed, s.refused)
 
 -- nothing was read after all sections
-pub end_not_read : (d : FontData) (form : Form) (stage : Stage) (place : ℕ) (old new : Option (List ℕ)) (e : DecodeFault) → IsLast d stage → (e ≡ decode.Read → Keeps old new)
+pub end_not_read : (d : FontData) (form : Form) (stage : Stage) (place : ℕ) (old new : Option (List ℕ)) (e : CertFault) (a b : ℕ) → CountsRead {T = Unit {0}} (Err e) a b
+    → IsLast d stage → (e ≡ cert.Read → Keeps old new)
     → HasRead old new (λ front. EndsInSection d form stage (input_at place (Some front))) (fault_of_decoding e)
-end_not_read d form stage place old new (decode.Form at) last kept = tt
-end_not_read d form stage place old new (decode.OutOfMemory error) last kept = tt
-end_not_read d form stage place old new decode.Read last kept = λ told. ([], consumes_none old new (kept refl), after_all last refl)
+end_not_read d form stage place old new (cert.Form at) a b counted last kept = tt
+end_not_read d form stage place old new cert.Write a b counted last kept = absurd counted
+end_not_read d form stage place old new (cert.OutOfMemory error) a b counted last kept = tt
+end_not_read d form stage place old new cert.Read a b counted last kept = λ told. ([], consumes_none old new (kept refl), after_all last refl)
   where
     consumes_none : (a b : Option (List ℕ)) → Keeps a b → Consumes a b []
     consumes_none None b k = tt

@@ -6,8 +6,8 @@ use Rattle.std.proofs.lemmas.Option.{slice_get_within}
 use Rattle.tt_code.specs.Cut.{Instruction}
 use Rattle.tt_family.specs.Contents.{Contents}
 use Rattle.tt_cert.specs.Answers.{GivesHeader, IsMore, input_at}
-use Rattle.tt_cert.specs.declared.fault.DecodeFault.{DecodeFault}
-use Rattle.tt_cert.specs.declared.fault.DecodeFault.TheVariants as decode
+use Rattle.tt_cert.specs.declared.fault.CertFault.{CertFault}
+use Rattle.tt_cert.specs.declared.fault.CertFault.TheVariants as cert
 use Rattle.tt_cert.specs.declared.form.Form.{Form}
 use Rattle.tt_cert.specs.declared.name.Name.{Name}
 use Rattle.tt_cert.specs.Readers.{Input}
@@ -33,11 +33,12 @@ use Rattle.hintcheck_fonts.proofs.ProgramSteps.{is_last, last_there}
 
 -- the header
 
-pub header_fault : {T : Type 0} (Is : T → Type 0) (d : FontData) (old new : Option (List ℕ)) (e : DecodeFault) → GivesHeader old new (Err e) (header_at (input_at 0 old))
+pub header_fault : {T : Type 0} (Is : T → Type 0) (d : FontData) (old new : Option (List ℕ)) (e : CertFault) → GivesHeader old new (Err e) (header_at (input_at 0 old))
     → IsTold old → Finds {T = T} (Err (fault_of_decoding e)) Is (IsHeaderFault d old)
-header_fault Is d old new (decode.Form p) gives told = no_header_read p (gives told)
-header_fault Is d old new decode.Read gives told = tt
-header_fault Is d old new (decode.OutOfMemory e) gives told = tt
+header_fault Is d old new (cert.Form p) gives told = no_header_read p (gives told)
+header_fault Is d old new cert.Read gives told = tt
+header_fault Is d old new cert.Write gives told = tt
+header_fault Is d old new (cert.OutOfMemory e) gives told = tt
 
 pub other_number_read : (d : FontData) (old new : Option (List ℕ)) (form : Form) (sections : ℕ) → GivesHeader old new (Ok (form, sections)) (header_at (input_at 0 old))
     → sections ≢ length d.glyphs + 2 → IsTold old → IsHeaderFault d old 6
@@ -113,15 +114,16 @@ follows d form f p known id place None last told more = absurd cc
 follows d form f p known id place (Some []) last told more = absurd (omega arith)
 follows d form f p known id place (Some (x ∷ xs)) last told more = more_follows f p known id last (λ e. absurd cc)
 
-pub fault_at_end : {T : Type 0} (Is : T → Type 0) (e : DecodeFault) (d : FontData) (form : Form) (f p : List Instruction) (known : List (ℕ × ℕ)) (id at : ℕ) (left : Option (List ℕ))
-    → ((place : ℕ) → e ≡ decode.Form place → (place ≡ at) × IsMore left) → id ≡ length d.glyphs → IsTold left
+pub fault_at_end : {T : Type 0} (Is : T → Type 0) (e : CertFault) (d : FontData) (form : Form) (f p : List Instruction) (known : List (ℕ × ℕ)) (id at : ℕ) (left : Option (List ℕ))
+    → ((place : ℕ) → e ≡ cert.Form place → (place ≡ at) × IsMore left) → id ≡ length d.glyphs → IsTold left
     → Finds {T = T} (Err (fault_of_decoding e)) Is (IsFaultAt d form (input_at at left) (at_glyph f p known id))
-fault_at_end Is (decode.Form place) d form f p known id at left named last told =
+fault_at_end Is (cert.Form place) d form f p known id at left named last told =
     let both = named place refl in
     let F : ℕ → Type 0 = λ n. IsFaultAt d form (input_at at left) (at_glyph f p known id) n in
     subst F (sym both.0) (follows d form f p known id at left last told both.1)
-fault_at_end Is decode.Read d form f p known id at left named last told = tt
-fault_at_end Is (decode.OutOfMemory error) d form f p known id at left named last told = tt
+fault_at_end Is cert.Read d form f p known id at left named last told = tt
+fault_at_end Is cert.Write d form f p known id at left named last told = tt
+fault_at_end Is (cert.OutOfMemory error) d form f p known id at left named last told = tt
 
 -- the same at a stage where no program is next
 
@@ -132,8 +134,8 @@ ends_there d (after_font f functions) place left none going kept told at = absur
 ends_there d (at_glyph f p known id) place left none going kept told at = nothing_follows d f p known id place left (last_there d f p known id none kept.1) told at
 ends_there d over place left none going kept told at = absurd (going refl)
 
-pub more_there : {T : Type 0} (Is : T → Type 0) (e : DecodeFault) (d : FontData) (form : Form) (s : Stage) (at : ℕ) (left : Option (List ℕ)) → next_program d s ≡ None → s ≢ over → KeepsGood d s
-    → ((place : ℕ) → e ≡ decode.Form place → (place ≡ at) × IsMore left) → IsTold left → Finds {T = T} (Err (fault_of_decoding e)) Is (IsFaultAt d form (input_at at left) s)
+pub more_there : {T : Type 0} (Is : T → Type 0) (e : CertFault) (d : FontData) (form : Form) (s : Stage) (at : ℕ) (left : Option (List ℕ)) → next_program d s ≡ None → s ≢ over → KeepsGood d s
+    → ((place : ℕ) → e ≡ cert.Form place → (place ≡ at) × IsMore left) → IsTold left → Finds {T = T} (Err (fault_of_decoding e)) Is (IsFaultAt d form (input_at at left) s)
 more_there Is e d form at_start at left none going kept named told = absurd cc
 more_there Is e d form (after_font f functions) at left none going kept named told = absurd cc
 more_there Is e d form (at_glyph f p known id) at left none going kept named told =

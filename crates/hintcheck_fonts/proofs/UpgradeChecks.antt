@@ -25,9 +25,9 @@ use Rattle.tt_font.specs.Reading.{FontData, GlyphData}
 use Rattle.hintcheck_fonts.specs.Certificates.{AreChecked, AreSectionsChecked, Finding, HasNoSection, IsChecked, IsGoodListing, IsSectionOf, Passes, PassesToEnd, after_header, at_end, both_passed, cvt_refused, followed as followed_by, font_refused, no_cvt_section, no_font_section, no_header as no_header_there, no_section as no_section_there, other_number, passed, refused, sections_checked}
 use Rattle.hintcheck_fonts.specs.FontPrograms.{cvt_subject, font_of, font_subject, glyph_subject}
 use Rattle.hintcheck_fonts.specs.Programs.{Subject}
-use Rattle.hintcheck_fonts.specs.UpgradeFaults.{ComesTo}
-use Rattle.hintcheck_fonts.specs.declared.certificate_upgrade.UpgradeFault.{UpgradeFault}
-use Rattle.hintcheck_fonts.specs.declared.certificate_upgrade.UpgradeFault.TheVariants as upgrade
+use Rattle.hintcheck_fonts.specs.CertificateFaults.{ComesTo}
+use Rattle.tt_cert.specs.declared.fault.CertFault.{CertFault}
+use Rattle.tt_cert.specs.declared.fault.CertFault.TheVariants as cert
 use Rattle.hintcheck_fonts.specs.Upgrades.{AreCertificate, AreRead, BeginWith, IsUpgradeOf, KeepsFamilies, UpgradesTo, family_texts, followed, header_in, name_at, no_font, no_header, no_section, none, one_more, upgraded}
 use Rattle.hintcheck_fonts.proofs.OneFinding.{fails_not, is_there, no_answer, none as nothing, one_answer, one_refuses, one_section, some_refused}
 
@@ -322,10 +322,10 @@ accepted_is_old d bytes r place are lt checked (followed form families at begin 
     more (ap (λ (i : Input). i.bytes) same.1 ∙ a.read.ended)
 
 -- so where the check refuses nothing, an upgrade that isn't refused for its form writes what is asked
-pub accepts_from : {T : Type 0} (d : FontData) (bytes : List ℕ) (r : Result T UpgradeFault) (Is : T → Type 0) (Writes : T → Type 0) → AreBytes bytes → length d.glyphs < 2 ^ 16 → IsChecked d bytes (Ok [])
+pub accepts_from : {T : Type 0} (d : FontData) (bytes : List ℕ) (r : Result T CertFault) (Is : T → Type 0) (Writes : T → Type 0) → AreBytes bytes → length d.glyphs < 2 ^ 16 → IsChecked d bytes (Ok [])
     → ComesTo r Is (λ place. UpgradesTo bytes (Err place)) → IfOk r Writes → ComesTo r Writes (λ _. ⊥)
 accepts_from d bytes (Ok x) Is Writes are lt checked comes writes = writes
-accepts_from d bytes (Err (upgrade.Form place)) Is Writes are lt checked comes writes = accepted_is_old d bytes (Err place) place are lt checked comes refl
-accepts_from d bytes (Err upgrade.Read) Is Writes are lt checked comes writes = tt
-accepts_from d bytes (Err upgrade.Write) Is Writes are lt checked comes writes = tt
-accepts_from d bytes (Err (upgrade.OutOfMemory error)) Is Writes are lt checked comes writes = tt
+accepts_from d bytes (Err (cert.Form place)) Is Writes are lt checked comes writes = accepted_is_old d bytes (Err place) place are lt checked comes refl
+accepts_from d bytes (Err cert.Read) Is Writes are lt checked comes writes = tt
+accepts_from d bytes (Err cert.Write) Is Writes are lt checked comes writes = tt
+accepts_from d bytes (Err (cert.OutOfMemory error)) Is Writes are lt checked comes writes = tt

@@ -3,24 +3,19 @@ use Rattle.std.proofs.Common.{◌≡◌, ℕ, ◌+◌, ◌<◌, List, [], ◌∷
 use Rattle.std.specs.Io.KnownBytes.{Consumes, Keeps}
 use Rattle.std.proofs.KnownBytes.{Consumes-trans}
 use Rattle.std.proofs.lemmas.List.{length-append}
-use Rattle.tt_cert.specs.Answers.{GivesHeader, StopsAtEnd, input_at}
+use Rattle.tt_cert.specs.Answers.{CountsWrite, GivesHeader, StopsAtEnd, input_at}
 use Rattle.tt_cert.specs.Readers.{Input, place_after}
 use Rattle.tt_cert.specs.Reading.{header_at, section_at}
 use Rattle.tt_family.specs.Contents.{Contents}
 use Rattle.tt_cert.specs.Sections.{section_of}
-use Rattle.tt_cert.specs.declared.fault.DecodeFault.{DecodeFault}
-use Rattle.tt_cert.specs.declared.fault.DecodeFault.TheVariants as decode
-use Rattle.tt_cert.specs.declared.fault.EncodeFault.{EncodeFault}
-use Rattle.tt_cert.specs.declared.fault.EncodeFault.TheVariants as encode
+use Rattle.tt_cert.specs.declared.fault.CertFault.{CertFault}
+use Rattle.tt_cert.specs.declared.fault.CertFault.TheVariants as cert
 use Rattle.tt_cert.specs.declared.form.Form.{Form}
 use Rattle.tt_cert.proofs.Codecs.{here}
 use Rattle.hintcheck_fonts.specs.Certificates.{HasNoSection, not_read}
 use Rattle.hintcheck_fonts.specs.CheckedFonts.{IsTold}
 use Rattle.hintcheck_fonts.specs.FailedReads.{HasReadOld, IsUnbrokenOld}
-use Rattle.hintcheck_fonts.specs.UpgradeFaults.{fault_of_new, fault_of_old}
 use Rattle.hintcheck_fonts.specs.Upgrades.{AreRead, AreUpgraded, IsNumberOfPrograms, LackSection, name_at, no_header, none, one_more}
-use Rattle.hintcheck_fonts.specs.declared.certificate_upgrade.UpgradeFault.{UpgradeFault}
-use Rattle.hintcheck_fonts.specs.declared.certificate_upgrade.UpgradeFault.TheVariants as upgrade
 use Rattle.hintcheck_fonts.proofs.FailedReads.{header_is_ten, header_steady, known_front, section_steady}
 use Rattle.hintcheck_fonts.proofs.UpgradeSteps.{all_upgraded, section_lacks}
 
@@ -51,27 +46,30 @@ read_always form number i families at (one_more n j after end family others next
     }
 
 -- a read failed in a section
-pub old_section_cut_short : (form : Form) (number place : ℕ) (old new : Option (List ℕ)) (e : DecodeFault) → StopsAtEnd place old new (section_at form) e
-    → HasReadOld old new (λ front. HasNoSection form (input_at place (Some front)) (name_at number) (place_after place (length front))) (fault_of_old e)
-old_section_cut_short form number place old new (decode.Form at) stops = tt
-old_section_cut_short form number place old new (decode.OutOfMemory error) stops = tt
-old_section_cut_short form number place old new decode.Read stops = λ told.
+pub old_section_cut_short : (form : Form) (number place : ℕ) (old new : Option (List ℕ)) (e : CertFault) → StopsAtEnd place old new (section_at form) e
+    → HasReadOld old new (λ front. HasNoSection form (input_at place (Some front)) (name_at number) (place_after place (length front))) e
+old_section_cut_short form number place old new (cert.Form at) stops = tt
+old_section_cut_short form number place old new cert.Write stops = tt
+old_section_cut_short form number place old new (cert.OutOfMemory error) stops = tt
+old_section_cut_short form number place old new cert.Read stops = λ told.
     let s = stops told in (s.front, s.consumed, not_read (place_after place (length s.front)) s.refused)
 
 -- a write that failed is no failed read
-pub encode_no_read : (old new : Option (List ℕ)) (Is : List ℕ → Type 0) (e : EncodeFault) → HasReadOld old new Is (fault_of_new e)
-encode_no_read old new Is encode.Write = tt
-encode_no_read old new Is (encode.OutOfMemory error) = tt
+pub encode_no_read : (old new : Option (List ℕ)) (Is : List ℕ → Type 0) (e : CertFault) (a b : ℕ) → CountsWrite {T = Unit {0}} (Err e) a b → HasReadOld old new Is e
+encode_no_read old new Is cert.Write a b counted = tt
+encode_no_read old new Is (cert.Form place) a b counted = tt
+encode_no_read old new Is cert.Read a b counted = absurd counted
+encode_no_read old new Is (cert.OutOfMemory error) a b counted = tt
 
 -- after the families before it
-pub lack_after : (form : Form) (k count place at : ℕ) (old mid new : Option (List ℕ)) (a b : Option (List ℕ)) (e : UpgradeFault) → k < count
+pub lack_after : (form : Form) (k count place at : ℕ) (old mid new : Option (List ℕ)) (a b : Option (List ℕ)) (e : CertFault) → k < count
     → (IsTold old → IsTold mid × AreUpgraded form 0 k (input_at place old) (input_at at mid) a b)
     → HasReadOld mid new (λ front. HasNoSection form (input_at at (Some front)) (name_at k) (place_after at (length front))) e
     → HasReadOld old new (λ front. LackSection form 0 count (input_at place (Some front)) (place_after place (length front))) e
-lack_after form k count place at old mid new a b (upgrade.Form p) lt before has = tt
-lack_after form k count place at old mid new a b upgrade.Write lt before has = tt
-lack_after form k count place at old mid new a b (upgrade.OutOfMemory error) lt before has = tt
-lack_after form k count place at old mid new a b upgrade.Read lt before has = λ told.
+lack_after form k count place at old mid new a b (cert.Form p) lt before has = tt
+lack_after form k count place at old mid new a b cert.Write lt before has = tt
+lack_after form k count place at old mid new a b (cert.OutOfMemory error) lt before has = tt
+lack_after form k count place at old mid new a b cert.Read lt before has = λ told.
     let (told', done) = before told in
     let r = read_always form 0 (input_at place old) done.families (input_at at mid) done.are_read in
     let (front, consumed, absent) = has told' in
@@ -87,10 +85,11 @@ lack_after form k count place at old mid new a b upgrade.Read lt before has = λ
     )
 
 -- a read failed in the header
-pub old_header_cut_short : (old new : Option (List ℕ)) (e : DecodeFault) → StopsAtEnd 0 old new header_at e → HasReadOld old new IsUnbrokenOld (fault_of_old e)
-old_header_cut_short old new (decode.Form at) stops = tt
-old_header_cut_short old new (decode.OutOfMemory error) stops = tt
-old_header_cut_short old new decode.Read stops = λ told.
+pub old_header_cut_short : (old new : Option (List ℕ)) (e : CertFault) → StopsAtEnd 0 old new header_at e → HasReadOld old new IsUnbrokenOld e
+old_header_cut_short old new (cert.Form at) stops = tt
+old_header_cut_short old new cert.Write stops = tt
+old_header_cut_short old new (cert.OutOfMemory error) stops = tt
+old_header_cut_short old new cert.Read stops = λ told.
     let s = stops told in
     (s.front, s.consumed, record { answer = Err (place_after 0 (length s.front)); comes = no_header (place_after 0 (length s.front)) s.refused; at_end = refl })
 
@@ -115,12 +114,12 @@ header_always old mid form count told gives =
     }
 
 -- a read failed in the sections
-pub old_sections_cut_short : (old mid new : Option (List ℕ)) (form : Form) (count : ℕ) (e : UpgradeFault) → GivesHeader old mid (Ok (form, count)) (header_at (input_at 0 old))
+pub old_sections_cut_short : (old mid new : Option (List ℕ)) (form : Form) (count : ℕ) (e : CertFault) → GivesHeader old mid (Ok (form, count)) (header_at (input_at 0 old))
     → IsNumberOfPrograms count → HasReadOld mid new (λ front. LackSection form 0 count (input_at 10 (Some front)) (place_after 10 (length front))) e → HasReadOld old new IsUnbrokenOld e
-old_sections_cut_short old mid new form count (upgrade.Form p) gives programs has = tt
-old_sections_cut_short old mid new form count upgrade.Write gives programs has = tt
-old_sections_cut_short old mid new form count (upgrade.OutOfMemory error) gives programs has = tt
-old_sections_cut_short old mid new form count upgrade.Read gives programs has = λ told.
+old_sections_cut_short old mid new form count (cert.Form p) gives programs has = tt
+old_sections_cut_short old mid new form count cert.Write gives programs has = tt
+old_sections_cut_short old mid new form count (cert.OutOfMemory error) gives programs has = tt
+old_sections_cut_short old mid new form count cert.Read gives programs has = λ told.
     let h = header_always old mid form count told gives in
     let (front, consumed, lacks) = has (gives told).0 in
     let p = place_after 10 (length front) in (
@@ -140,12 +139,13 @@ consumes_none None b k = tt
 consumes_none (Some xs) None k = absurd k
 consumes_none (Some xs) (Some ys) k = sym k
 
-pub old_end_not_read : (old mid last new : Option (List ℕ)) (form : Form) (count place : ℕ) (a b : Option (List ℕ)) (e : DecodeFault)
+pub old_end_not_read : (old mid last new : Option (List ℕ)) (form : Form) (count place : ℕ) (a b : Option (List ℕ)) (e : CertFault)
     → GivesHeader old mid (Ok (form, count)) (header_at (input_at 0 old)) → IsNumberOfPrograms count
-    → (IsTold mid → IsTold last × AreUpgraded form 0 count (input_at 10 mid) (input_at place last) a b) → (e ≡ decode.Read → Keeps last new) → HasReadOld old new IsUnbrokenOld (fault_of_old e)
-old_end_not_read old mid last new form count place a b (decode.Form p) gives programs done kept = tt
-old_end_not_read old mid last new form count place a b (decode.OutOfMemory error) gives programs done kept = tt
-old_end_not_read old mid last new form count place a b decode.Read gives programs done kept = λ told.
+    → (IsTold mid → IsTold last × AreUpgraded form 0 count (input_at 10 mid) (input_at place last) a b) → (e ≡ cert.Read → Keeps last new) → HasReadOld old new IsUnbrokenOld e
+old_end_not_read old mid last new form count place a b (cert.Form p) gives programs done kept = tt
+old_end_not_read old mid last new form count place a b cert.Write gives programs done kept = tt
+old_end_not_read old mid last new form count place a b (cert.OutOfMemory error) gives programs done kept = tt
+old_end_not_read old mid last new form count place a b cert.Read gives programs done kept = λ told.
     let h = header_always old mid form count told gives in
     let (told', all) = done (gives told).0 in
     let r = read_always form 0 (input_at 10 mid) all.families (input_at place last) all.are_read in

@@ -10,19 +10,17 @@ use Rattle.tt_cert.specs.Readers.{Input}
 use Rattle.tt_cert.specs.Reading.{header_at}
 use Rattle.tt_cert.specs.Families.{family_text}
 use Rattle.tt_cert.specs.Text.{header_text}
-use Rattle.tt_cert.specs.declared.fault.DecodeFault.{DecodeFault}
-use Rattle.tt_cert.specs.declared.fault.DecodeFault.TheVariants as decode
+use Rattle.tt_cert.specs.declared.fault.CertFault.{CertFault}
+use Rattle.tt_cert.specs.declared.fault.CertFault.TheVariants as cert
 use Rattle.tt_cert.specs.declared.form.Form.{Form}
 use Rattle.tt_cert.specs.declared.form.Form.TheVariants.{Four}
 use Rattle.tt_cert.specs.declared.name.Name.{Name}
-use Rattle.hintcheck_fonts.specs.CertificateFaults.{Decodes}
+use Rattle.hintcheck_fonts.specs.CertificateFaults.{ComesTo}
 use Rattle.hintcheck_fonts.specs.Certificates.{HasNoSection, IsSectionOf}
 use Rattle.hintcheck_fonts.specs.CertificateTexts.{WritesBeginning, WritesText}
 use Rattle.hintcheck_fonts.specs.CheckedFonts.{IsTold, bytes_in}
-use Rattle.hintcheck_fonts.specs.UpgradeFaults.{ComesTo, CountsReads, CountsWrites, fault_of_old}
+use Rattle.hintcheck_fonts.specs.UpgradeFaults.{CountsReads, CountsWrites}
 use Rattle.hintcheck_fonts.specs.Upgrades.{AreBegun, AreCertificate, AreRead, AreUpgraded, BeginWith, IsNumberOfPrograms, IsUpgradeBegunOf, IsUpgradeOf, LackSection, UpgradesTo, begun, followed, name_at, no_font, no_header, no_section, family_texts, none, nothing, one_more, upgraded}
-use Rattle.hintcheck_fonts.specs.declared.certificate_upgrade.UpgradeFault.{UpgradeFault}
-use Rattle.hintcheck_fonts.specs.declared.certificate_upgrade.UpgradeFault.TheVariants as upgrade
 use Rattle.hintcheck_fonts.proofs.TextBeginnings.{begins_nothing, begins_on}
 
 -- the end of the bytes
@@ -129,25 +127,19 @@ lack_next form k count first here a b place before lt absent =
 
 -- faults
 
-pub comes_old : {T U : Type 0} (Is : T → Type 0) (Is' : U → Type 0) (At At' : ℕ → Type 0) (e : DecodeFault) → Decodes {T = T} (Err e) Is At → ((place : ℕ) → At place → At' place)
-    → ComesTo {T = U} (Err (fault_of_old e)) Is' At'
-comes_old Is Is' At At' (decode.Form place) h f = f place h
-comes_old Is Is' At At' decode.Read h f = tt
-comes_old Is Is' At At' (decode.OutOfMemory error) h f = tt
-
-pub comes_on : {T U : Type 0} (Is : T → Type 0) (Is' : U → Type 0) (At At' : ℕ → Type 0) (e : UpgradeFault) → ComesTo {T = T} (Err e) Is At → ((place : ℕ) → At place → At' place)
+pub comes_on : {T U : Type 0} (Is : T → Type 0) (Is' : U → Type 0) (At At' : ℕ → Type 0) (e : CertFault) → ComesTo {T = T} (Err e) Is At → ((place : ℕ) → At place → At' place)
     → ComesTo {T = U} (Err e) Is' At'
-comes_on Is Is' At At' (upgrade.Form place) h f = f place h
-comes_on Is Is' At At' upgrade.Read h f = tt
-comes_on Is Is' At At' upgrade.Write h f = tt
-comes_on Is Is' At At' (upgrade.OutOfMemory error) h f = tt
+comes_on Is Is' At At' (cert.Form place) h f = f place h
+comes_on Is Is' At At' cert.Read h f = tt
+comes_on Is Is' At At' cert.Write h f = tt
+comes_on Is Is' At At' (cert.OutOfMemory error) h f = tt
 
 -- failures are counted from before the call too, where nothing failed till then
 
-pub reads_on : (e : UpgradeFault) (first old new : ℕ) → old ≡ first → CountsReads {T = Unit {0}} (Err e) old new → CountsReads {T = Unit {0}} (Err e) first new
+pub reads_on : (e : CertFault) (first old new : ℕ) → old ≡ first → CountsReads {T = Unit {0}} (Err e) old new → CountsReads {T = Unit {0}} (Err e) first new
 reads_on e first old new same h = let C : ℕ → Type 0 = λ n. CountsReads {T = Unit {0}} (Err e) n new in subst C same h
 
-pub writes_on : (e : UpgradeFault) (first old new : ℕ) → old ≡ first → CountsWrites {T = Unit {0}} (Err e) old new → CountsWrites {T = Unit {0}} (Err e) first new
+pub writes_on : (e : CertFault) (first old new : ℕ) → old ≡ first → CountsWrites {T = Unit {0}} (Err e) old new → CountsWrites {T = Unit {0}} (Err e) first new
 writes_on e first old new same h = let C : ℕ → Type 0 = λ n. CountsWrites {T = Unit {0}} (Err e) n new in subst C same h
 
 -- the header
@@ -167,11 +159,12 @@ begin_with old new form count families at gives programs read few told =
     let (place, header) = (gives told).1 in
     record { after = input_at place new; header = header; programs = programs; are_read = read; few = few }
 
-pub header_fails : {T : Type 0} (Is : T → Type 0) (old new : Option (List ℕ)) (e : DecodeFault) → GivesHeader old new (Err e) (header_at (input_at 0 old)) → IsTold old
-    → ComesTo {T = T} (Err (fault_of_old e)) Is (λ place. UpgradesTo (bytes_in old) (Err place))
-header_fails Is old new (decode.Form p) gives told = no_header p (gives told)
-header_fails Is old new decode.Read gives told = tt
-header_fails Is old new (decode.OutOfMemory e) gives told = tt
+pub header_fails : {T : Type 0} (Is : T → Type 0) (old new : Option (List ℕ)) (e : CertFault) → GivesHeader old new (Err e) (header_at (input_at 0 old)) → IsTold old
+    → ComesTo {T = T} (Err e) Is (λ place. UpgradesTo (bytes_in old) (Err place))
+header_fails Is old new (cert.Form p) gives told = no_header p (gives told)
+header_fails Is old new cert.Read gives told = tt
+header_fails Is old new cert.Write gives told = tt
+header_fails Is old new (cert.OutOfMemory e) gives told = tt
 
 pub of_no_font : (old new : Option (List ℕ)) (form : Form) (count : ℕ) → GivesHeader old new (Ok (form, count)) (header_at (input_at 0 old)) → (IsNumberOfPrograms count → ⊥) → IsTold old
     → UpgradesTo (bytes_in old) (Err 6)
@@ -221,11 +214,12 @@ module _ (old new last : Option (List ℕ)) (form : Form) (count place : ℕ) (a
     Appends-trans w a b (header_text Four count) (family_texts 0 all.families) header all.written,
   )
 
-pub followed_by_more : {T : Type 0} (Is : T → Type 0) (e : DecodeFault) (At : ℕ → Type 0) (at : ℕ) (known : Option (List ℕ))
-    → ((p : ℕ) → e ≡ decode.Form p → (p ≡ at) × IsMore known) → (IsMore known → At at) → ComesTo {T = T} (Err (fault_of_old e)) Is At
-followed_by_more Is (decode.Form p) At at known named holds = let both = named p refl in subst At (sym both.0) (holds both.1)
-followed_by_more Is decode.Read At at known named holds = tt
-followed_by_more Is (decode.OutOfMemory error) At at known named holds = tt
+pub followed_by_more : {T : Type 0} (Is : T → Type 0) (e : CertFault) (At : ℕ → Type 0) (at : ℕ) (known : Option (List ℕ))
+    → ((p : ℕ) → e ≡ cert.Form p → (p ≡ at) × IsMore known) → (IsMore known → At at) → ComesTo {T = T} (Err e) Is At
+followed_by_more Is (cert.Form p) At at known named holds = let both = named p refl in subst At (sym both.0) (holds both.1)
+followed_by_more Is cert.Read At at known named holds = tt
+followed_by_more Is cert.Write At at known named holds = tt
+followed_by_more Is (cert.OutOfMemory error) At at known named holds = tt
 
 -- what is written where it ends early
 

@@ -3,29 +3,29 @@
 use Rattle.std.specs.Prelude.{◌≡◌, ◌≢◌, ◌+◌, ℕ, List, [], Option, Some, None, alloc_error, Result, Ok, Err}
 use Rattle.tt_font.specs.Conditions.{Condition}
 use Rattle.tt_font.specs.declared.fault.FontFault.TheVariants.{OutOfMemory}
-use Rattle.tt_cert.specs.declared.fault.EncodeFault.{EncodeFault}
-use Rattle.tt_cert.specs.declared.fault.EncodeFault.TheVariants as encode
-use Rattle.tt_cert.specs.declared.fault.DecodeFault.{DecodeFault}
-use Rattle.tt_cert.specs.declared.fault.DecodeFault.TheVariants as decode
+use Rattle.tt_cert.specs.declared.fault.CertFault.{CertFault}
+use Rattle.tt_cert.specs.declared.fault.CertFault.TheVariants as cert
 use Rattle.hintcheck_fonts.specs.declared.font_check.CheckFontFault.{CheckFontFault}
 use Rattle.hintcheck_fonts.specs.declared.font_check.CheckFontFault.TheVariants as fault
 use Rattle.hintcheck_fonts.specs.declared.certificate.FindFontFault.{FindFontFault}
 use Rattle.hintcheck_fonts.specs.declared.certificate.FindFontFault.TheVariants as find
 use Rattle.hintcheck_fonts.specs.Verdicts.{Judgement}
 
--- What holds of what is read, or of the place that a fault of form names; a failed read and out of
--- memory are unspecified.
-abbrev pub Decodes : {T : Type 0} → Result T DecodeFault → (T → Type 0) → (ℕ → Type 0) → Type 0
-Decodes (Ok x) Is At = Is x
-Decodes (Err (decode.Form place)) Is At = At place
-Decodes (Err decode.Read) Is At = Unit {0}
-Decodes (Err (decode.OutOfMemory error)) Is At = Unit {0}
+-- What holds of an answer, or of the place that a fault of form names; a failed read or write and
+-- out of memory are unspecified.
+abbrev pub ComesTo : {T : Type 0} → Result T CertFault → (T → Type 0) → (ℕ → Type 0) → Type 0
+ComesTo (Ok x) Is At = Is x
+ComesTo (Err (cert.Form place)) Is At = At place
+ComesTo (Err cert.Read) Is At = Unit {0}
+ComesTo (Err cert.Write) Is At = Unit {0}
+ComesTo (Err (cert.OutOfMemory error)) Is At = Unit {0}
 
--- the fault of a certificate that can't be read
-abbrev pub fault_of_decoding : DecodeFault → CheckFontFault
-fault_of_decoding (decode.Form place) = fault.Form place
-fault_of_decoding decode.Read = fault.Read
-fault_of_decoding (decode.OutOfMemory error) = fault.OutOfMemory error
+-- the fault of a certificate that can't be read; no write fails
+abbrev pub fault_of_decoding : CertFault → CheckFontFault
+fault_of_decoding (cert.Form place) = fault.Form place
+fault_of_decoding cert.Read = fault.Read
+fault_of_decoding cert.Write = fault.Read
+fault_of_decoding (cert.OutOfMemory error) = fault.OutOfMemory error
 
 -- the count of failed reads goes up by one exactly where the fault is a failed read
 abbrev pub CountsCheck : {T : Type 0} → Result T CheckFontFault → ℕ → ℕ → Type 0
@@ -55,10 +55,12 @@ IsCheckFaultOutsideFontAndBudget fault.Read = Unit {0}
 IsCheckFaultOutsideFontAndBudget (fault.OutOfMemory error) = Unit {0}
 IsCheckFaultOutsideFontAndBudget fault.Budget = ⊥
 
--- the fault of a certificate that can't be written
-abbrev pub fault_of_encoding : EncodeFault → FindFontFault
-fault_of_encoding encode.Write = find.Write
-fault_of_encoding (encode.OutOfMemory error) = find.OutOfMemory error
+-- the fault of a certificate that can't be written; nothing is read
+abbrev pub fault_of_encoding : CertFault → FindFontFault
+fault_of_encoding cert.Write = find.Write
+fault_of_encoding (cert.Form place) = find.Write
+fault_of_encoding cert.Read = find.Write
+fault_of_encoding (cert.OutOfMemory error) = find.OutOfMemory error
 
 -- the count of failed writes goes up by one exactly where the fault is a failed write
 abbrev pub CountsFind : {T : Type 0} → Result T FindFontFault → ℕ → ℕ → Type 0

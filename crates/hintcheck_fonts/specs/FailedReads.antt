@@ -4,6 +4,8 @@ use Rattle.std.specs.Io.KnownBytes.{Consumes}
 use Rattle.tt_cert.specs.Answers.{input_at}
 use Rattle.tt_cert.specs.Readers.{Input, place_after}
 use Rattle.tt_cert.specs.Reading.{header_at}
+use Rattle.tt_cert.specs.declared.fault.CertFault.{CertFault}
+use Rattle.tt_cert.specs.declared.fault.CertFault.TheVariants as cert
 use Rattle.tt_cert.specs.declared.form.Form.{Form}
 use Rattle.tt_font.specs.Reading.{FontData, Reads}
 use Rattle.hintcheck_fonts.specs.Certificates.{Finding, IsChecked}
@@ -12,8 +14,6 @@ use Rattle.hintcheck_fonts.specs.Sessions.{IsFaultAt, IsLast, ReadsOn, Stage, St
 use Rattle.hintcheck_fonts.specs.Upgrades.{UpgradesTo}
 use Rattle.hintcheck_fonts.specs.declared.font_check.CheckFontFault.{CheckFontFault}
 use Rattle.hintcheck_fonts.specs.declared.font_check.CheckFontFault.TheVariants as fault
-use Rattle.hintcheck_fonts.specs.declared.certificate_upgrade.UpgradeFault.{UpgradeFault}
-use Rattle.hintcheck_fonts.specs.declared.certificate_upgrade.UpgradeFault.TheVariants as upgrade
 
 -- what holds of the bytes that were read from a source, where that tells its bytes
 abbrev pub OfRead : Option (List ℕ) → Option (List ℕ) → (List ℕ → Type 0) → Type 0
@@ -29,12 +29,12 @@ HasRead old new Is (fault.OutOfMemory error) = Unit {0}
 HasRead old new Is fault.Budget = Unit {0}
 
 -- what holds of the bytes that were read, where a read failed in an upgrade
-abbrev pub HasReadOld : Option (List ℕ) → Option (List ℕ) → (List ℕ → Type 0) → UpgradeFault
+abbrev pub HasReadOld : Option (List ℕ) → Option (List ℕ) → (List ℕ → Type 0) → CertFault
     → Type 0
-HasReadOld old new Is upgrade.Read = OfRead old new Is
-HasReadOld old new Is upgrade.Write = Unit {0}
-HasReadOld old new Is (upgrade.Form place) = Unit {0}
-HasReadOld old new Is (upgrade.OutOfMemory error) = Unit {0}
+HasReadOld old new Is cert.Read = OfRead old new Is
+HasReadOld old new Is cert.Write = Unit {0}
+HasReadOld old new Is (cert.Form place) = Unit {0}
+HasReadOld old new Is (cert.OutOfMemory error) = Unit {0}
 
 -- where the bytes end
 abbrev pub end_of : Input → ℕ

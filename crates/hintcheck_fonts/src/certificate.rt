@@ -21,7 +21,7 @@ use crate::report::Verdict;
 use std::alloc::{AllocError, Global};
 use thiserror::Error;
 use tt_abs::Exhausted;
-use tt_cert::{EncodeFault, Encoder, NEWEST_FORM, write_header};
+use tt_cert::{CertFault, Encoder, NEWEST_FORM, write_header};
 use tt_family::Budget;
 use tt_font::{Font, FontFault};
 use tt_stream::Sink;
@@ -79,16 +79,17 @@ impl From<Exhausted> for FindFontFault {
     }
 }
 
-impl From<EncodeFault> for FindFontFault {
+impl From<CertFault> for FindFontFault {
     ghost use Rattle.std.specs.Prelude.{◌≡◌};
     ghost use Rattle.hintcheck_fonts.specs.CertificateFaults.{fault_of_encoding};
 
     ghost from_gives = { λ encode fault. fault ≡ fault_of_encoding encode };
 
-    fn from(fault: EncodeFault) -> FindFontFault {
+    /// Writing answers `Write` or `OutOfMemory`: the others don't come.
+    fn from(fault: CertFault) -> FindFontFault {
         match fault {
-            EncodeFault::Write => FindFontFault::Write,
-            EncodeFault::OutOfMemory(error) => FindFontFault::OutOfMemory(error),
+            CertFault::OutOfMemory(error) => FindFontFault::OutOfMemory(error),
+            CertFault::Write | CertFault::Form(_) | CertFault::Read => FindFontFault::Write,
         }
     }
 }

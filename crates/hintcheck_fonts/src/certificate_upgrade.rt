@@ -10,17 +10,19 @@ ghost use Rattle.hintcheck_fonts.specs.CertificateTexts.{WritesBeginning, Writes
 ghost use Rattle.hintcheck_fonts.specs.CheckedFonts.{IsTold, bytes_in};
 ghost use Rattle.hintcheck_fonts.specs.FailedReads.{HasReadOld, IsUnbrokenOld};
 ghost use Rattle.hintcheck_fonts.specs.Upgrades.{AreBegun, AreUpgraded, IsNumberOfPrograms, IsUpgradeBegunOf, IsUpgradeOf, KeepsFamilies, LackSection, UpgradesTo, name_at};
-ghost use Rattle.hintcheck_fonts.specs.UpgradeFaults.{ComesTo, CountsReads, CountsWrites};
+ghost use Rattle.hintcheck_fonts.specs.CertificateFaults.{ComesTo};
+ghost use Rattle.hintcheck_fonts.specs.UpgradeFaults.{CountsReads, CountsWrites};
 ghost use Rattle.hintcheck_fonts.specs.Representation.ReadProgress.{input_from};
 
 use crate::report::Name;
 use crate::sections::{HEADER, Progress, SECTIONS, next_section};
-use std::alloc::{AllocError, Global};
-use thiserror::Error;
-use tt_cert::{
-    DecodeFault, Decoder, EncodeFault, Encoder, NEWEST_FORM, read_end, read_form, write_header,
-};
+use std::alloc::Global;
+use tt_cert::{Decoder, Encoder, NEWEST_FORM, read_end, read_form, write_header};
 use tt_stream::{Sink, Source};
+
+/// Why a certificate isn't upgraded: the old one can't be read, or is none of any font, or the new
+/// one can't be written.
+pub use tt_cert::CertFault as UpgradeFault;
 
 /// How many sections a certificate has at least: those of a font program, a CVT program and no
 /// glyph.
@@ -28,53 +30,6 @@ const FEWEST: u32 = 2;
 
 /// How many sections a certificate has at most: a font has up to 65,535 glyphs.
 const MOST: u32 = 65_537;
-
-/// Why a certificate isn't upgraded.
-#[derive(Debug, Drop, Error)]
-pub enum UpgradeFault {
-    /// The bytes are no certificate of any font: the place of the first byte of what is wrong, or
-    /// of their end where that comes too early.
-    #[error("certificate form at byte {0}")]
-    Form(u64),
-    /// The old certificate can't be read.
-    #[error("read")]
-    Read,
-    /// The new one can't be written.
-    #[error("write")]
-    Write,
-    /// Memory ran out.
-    #[error("out of memory")]
-    OutOfMemory(AllocError),
-}
-
-impl From<DecodeFault> for UpgradeFault {
-    ghost use Rattle.std.specs.Prelude.{◌≡◌};
-    ghost use Rattle.hintcheck_fonts.specs.UpgradeFaults.{fault_of_old};
-
-    ghost from_gives = { λ decode fault. fault ≡ fault_of_old decode };
-
-    fn from(fault: DecodeFault) -> UpgradeFault {
-        match fault {
-            DecodeFault::Form(place) => UpgradeFault::Form(place),
-            DecodeFault::Read => UpgradeFault::Read,
-            DecodeFault::OutOfMemory(error) => UpgradeFault::OutOfMemory(error),
-        }
-    }
-}
-
-impl From<EncodeFault> for UpgradeFault {
-    ghost use Rattle.std.specs.Prelude.{◌≡◌};
-    ghost use Rattle.hintcheck_fonts.specs.UpgradeFaults.{fault_of_new};
-
-    ghost from_gives = { λ encode fault. fault ≡ fault_of_new encode };
-
-    fn from(fault: EncodeFault) -> UpgradeFault {
-        match fault {
-            EncodeFault::Write => UpgradeFault::Write,
-            EncodeFault::OutOfMemory(error) => UpgradeFault::OutOfMemory(error),
-        }
-    }
-}
 
 /// Returns the name of the program whose section has this number.
 fn name_of(number: u32) -> Name

@@ -21,7 +21,7 @@ use crate::session::Session;
 use std::alloc::{AllocError, Global};
 use thiserror::Error;
 use tt_abs::Exhausted;
-use tt_cert::{DecodeFault, read_form};
+use tt_cert::{CertFault, read_form};
 use tt_family::Budget;
 use tt_font::{Font, FontFault};
 use tt_stream::Source;
@@ -83,17 +83,18 @@ impl From<Exhausted> for CheckFontFault {
     }
 }
 
-impl From<DecodeFault> for CheckFontFault {
+impl From<CertFault> for CheckFontFault {
     ghost use Rattle.std.specs.Prelude.{◌≡◌};
     ghost use Rattle.hintcheck_fonts.specs.CertificateFaults.{fault_of_decoding};
 
     ghost from_gives = { λ decode fault. fault ≡ fault_of_decoding decode };
 
-    fn from(fault: DecodeFault) -> CheckFontFault {
+    /// Reading answers `Form`, `Read` or `OutOfMemory`: `Write` doesn't come.
+    fn from(fault: CertFault) -> CheckFontFault {
         match fault {
-            DecodeFault::Form(place) => CheckFontFault::Form(place),
-            DecodeFault::Read => CheckFontFault::Read,
-            DecodeFault::OutOfMemory(error) => CheckFontFault::OutOfMemory(error),
+            CertFault::Form(place) => CheckFontFault::Form(place),
+            CertFault::OutOfMemory(error) => CheckFontFault::OutOfMemory(error),
+            CertFault::Read | CertFault::Write => CheckFontFault::Read,
         }
     }
 }

@@ -4,14 +4,14 @@ ghost use Rattle.std.specs.Prelude.{◌≡◌, ◌↔◌, IfErr, IsTrue};
 ghost use Rattle.tt_cert.specs.Answers.{CountsRead, StopsAtEnd};
 ghost use Rattle.tt_cert.specs.Reading.{section_at};
 ghost use Rattle.tt_stream.specs.Reads.{ConsumesBeginning};
-ghost use Rattle.hintcheck_fonts.specs.CertificateFaults.{Decodes};
+ghost use Rattle.hintcheck_fonts.specs.CertificateFaults.{ComesTo};
 ghost use Rattle.hintcheck_fonts.specs.Certificates.{HasNoSection, IsSectionOf};
 ghost use Rattle.hintcheck_fonts.specs.CheckedFonts.{IsTold};
 ghost use Rattle.hintcheck_fonts.specs.Representation.ReadProgress.{input_from};
 
 use crate::report::Name;
 use std::alloc::Global;
-use tt_cert::{DecodeFault, Decoder, Form};
+use tt_cert::{CertFault, Decoder, Form};
 use tt_family::Certificate;
 use tt_stream::Source;
 
@@ -47,8 +47,8 @@ pub(crate) fn next_section<'d, S: Source>(
     source: &mut S,
     progress: &mut Progress,
     name: Name,
-) -> Result<&'d Certificate, DecodeFault>
-    ensures section { IsTold (S.remaining source.old) → Decodes result
+) -> Result<&'d Certificate, CertFault>
+    ensures section { IsTold (S.remaining source.old) → ComesTo result
         (λ c. IsTold (S.remaining source.new) × IsSectionOf progress.old.form
         (input_from progress.old (S.remaining source.old)) name c.now
         (input_from progress.new (S.remaining source.new)))
@@ -62,7 +62,7 @@ pub(crate) fn next_section<'d, S: Source>(
     let start = progress.place;
     let (named, certificate, after) = decoder.decode(alloc, source, start, progress.form)?;
     if !is_same(named, name) {
-        return Err(DecodeFault::Form(start));
+        return Err(CertFault::Form(start));
     }
     certificate.order_facts();
     progress.place = after;

@@ -8,8 +8,7 @@ use crate::words::{Words, number_of};
 use anyhow::{Result, anyhow, bail, ensure};
 use std::alloc::{AllocError, Global};
 use tt_cert::{
-    DecodeFault, EncodeFault, Form, NEWEST_FORM, Name, Source, decode, encode, read_end,
-    read_header, write_header,
+    CertFault, Form, NEWEST_FORM, Name, Source, decode, encode, read_end, read_header, write_header,
 };
 use tt_family::Certificate;
 use tt_stream::{Buffered, Bytes, Counted, read_all};
@@ -44,13 +43,13 @@ fn section_length<S: Source>(
     source: &mut S,
     start: u64,
     form: Form,
-) -> Result<u64, DecodeFault> {
+) -> Result<u64, CertFault> {
     let (_, _, after) = decode(alloc, source, start, form.number())?;
     Ok(after.wrapping_sub(start))
 }
 
 /// Reads a file, its header, its sections and its end, and returns how many bytes it has.
-fn file_length<S: Source>(alloc: Global, source: &mut S) -> Result<u64, DecodeFault> {
+fn file_length<S: Source>(alloc: Global, source: &mut S) -> Result<u64, CertFault> {
     let (form, sections) = read_header(source)?;
     let mut place = 10;
     for _ in 0..sections {
@@ -67,7 +66,7 @@ fn told_of(
     reading: Reading,
     steps: Steps<'_>,
     start: u64,
-) -> Result<String, DecodeFault> {
+) -> Result<String, CertFault> {
     let mut source = Counted::new(steps);
     let told = match reading {
         Reading::Section(form) => {
@@ -77,7 +76,7 @@ fn told_of(
         Reading::Ahead(form) => {
             let mut source = Buffered::new(alloc, source)?;
             let length = section_length(alloc, &mut source, start, form)?;
-            let rest = read_all(alloc, &mut source).map_err(|_| DecodeFault::Read)?;
+            let rest = read_all(alloc, &mut source).map_err(|_| CertFault::Read)?;
             end_text(alloc, length, rest.len())
         }
         Reading::File => end_text(alloc, file_length(alloc, &mut source)?, 0),
@@ -106,9 +105,10 @@ fn told_by(
     };
     match told_of(alloc, reading, steps, start) {
         Ok(told) => Ok(told),
-        Err(DecodeFault::Form(place)) => format!(in alloc; "43 at {}", place.wrapping_sub(start)),
-        Err(DecodeFault::Read) => String::from_str(alloc, FAILED),
-        Err(DecodeFault::OutOfMemory(_)) => String::from_str(alloc, "9"),
+        Err(CertFault::Form(place)) => format!(in alloc; "43 at {}", place.wrapping_sub(start)),
+        Err(CertFault::Read) => String::from_str(alloc, FAILED),
+        Err(CertFault::Write) => String::from_str(alloc, "45"),
+        Err(CertFault::OutOfMemory(_)) => String::from_str(alloc, "9"),
     }
 }
 
@@ -331,7 +331,7 @@ fn written_to(
     alloc: Global,
     writing: Writing<'_>,
     taker: Taker,
-) -> (Result<(), EncodeFault>, Vec<u8>) {
+) -> (Result<(), CertFault>, Vec<u8>) {
     let mut sink = Counted::new(taker);
     let told = match writing {
         Writing::Section(name, family) => encode(alloc, name, family, &mut sink),
@@ -354,7 +354,7 @@ fn is_failure_told(
         ..Taker::new(alloc, 1, calls)
     };
     let (told, taken) = written_to(alloc, writing, taker);
-    matches!(told, Err(EncodeFault::Write)) && want.get(..calls) == Some(taken.as_slice())
+    matches!(told, Err(CertFault::Write)) && want.get(..calls) == Some(taken.as_slice())
 }
 
 /// Returns how many calls of a writer are made before one fails, untold, where these bytes are

@@ -5,8 +5,8 @@ use Rattle.std.specs.Io.{StartsWith}
 use Rattle.std.specs.Io.KnownBytes.{Consumes}
 use Rattle.std.proofs.lemmas.List.{drop-append-le, drop_at, length-append, length-take}
 use Rattle.tt_abs.specs.declared.cells.Cell.{Cell}
-use Rattle.tt_cert.specs.declared.fault.DecodeFault.{DecodeFault}
-use Rattle.tt_cert.specs.declared.fault.DecodeFault.TheVariants as fault
+use Rattle.tt_cert.specs.declared.fault.CertFault.{CertFault}
+use Rattle.tt_cert.specs.declared.fault.CertFault.TheVariants as fault
 use Rattle.tt_cert.specs.Answers.{Fails, Gives, input_at}
 use Rattle.tt_cert.specs.Representation.Blocks.{AreSomeCellsTaken, AreSpelled, AreTaken, IsTaking, ReadsBlock, ReadsCells, ReadsMoreCells, Takes, TakesSomeCells, cells_at, input_of}
 use Rattle.tt_cert.specs.Readers.{Answer, list_at, place_after}
@@ -21,9 +21,10 @@ ahead_parts bytes ahead n starts =
     sym (take-append-drop (length ahead) bytes) ∙ ap (λ (l : List ℕ). l ++ tail) (starts ∙ sym (take-append-drop n ahead)) ∙ append_assoc (take n ahead) (drop n ahead) tail
 
 -- a function that is read ahead is refused
-pub ahead_refused : (e : DecodeFault) (known : Option (List ℕ)) (ahead : List ℕ) (before now : List (ℕ × ℕ)) (place count : ℕ)
+pub ahead_refused : (e : CertFault) (known : Option (List ℕ)) (ahead : List ℕ) (before now : List (ℕ × ℕ)) (place count : ℕ)
     → IfSome known (λ bytes. StartsWith bytes ahead) → Takes (Err e) before now place (take (6 * count) ahead) → ReadsBlock (Err e) known known before now place count
 ahead_refused fault.Read known ahead before now place count starts breaks = absurd breaks
+ahead_refused fault.Write known ahead before now place count starts breaks = absurd breaks
 ahead_refused (fault.OutOfMemory error) known ahead before now place count starts breaks = λ e n. tt
 ahead_refused (fault.Form broken) None ahead before now place count starts breaks = λ e n. absurd cc
 ahead_refused (fault.Form broken) (Some bytes) ahead before now place count starts breaks = λ e n.
@@ -72,10 +73,11 @@ one_cell old new before now place after count x lt gives pushed =
     )
 
 -- the next cell isn't read
-pub cell_fails : (e : DecodeFault) (old new : Option (List ℕ)) (before now : List Cell) (place count : ℕ) → length before < count
+pub cell_fails : (e : CertFault) (old new : Option (List ℕ)) (before now : List Cell) (place count : ℕ) → length before < count
     → (is_some old ≡ true → Fails e (cell_at (input_at place old))) → ReadsCells (Err e) old new before now place count
 unfolding list_at
 cell_fails fault.Read old new before now place count lt fails = λ e. tt
+cell_fails fault.Write old new before now place count lt fails = fails
 cell_fails (fault.OutOfMemory error) old new before now place count lt fails = λ e. tt
 cell_fails (fault.Form p) old new before now place count lt fails = λ e.
     let left : count - length before ≡ suc (count - (length before + 1)) = omega arith in
@@ -86,9 +88,10 @@ ahead_first : (bytes ahead : List ℕ) → StartsWith bytes ahead → bytes ≡ 
 ahead_first bytes ahead starts = sym (take-append-drop (length ahead) bytes) ∙ ap (λ (l : List ℕ). l ++ drop (length ahead) bytes) starts
 
 -- a cell that is read ahead is refused
-pub ahead_cell_refused : (e : DecodeFault) (known : Option (List ℕ)) (ahead : List ℕ) (before now : List Cell) (place count : ℕ)
+pub ahead_cell_refused : (e : CertFault) (known : Option (List ℕ)) (ahead : List ℕ) (before now : List Cell) (place count : ℕ)
     → IfSome known (λ bytes. StartsWith bytes ahead) → TakesSomeCells (Err e) before now place ahead count → ReadsMoreCells (Err e) known known before now place count
 ahead_cell_refused fault.Read known ahead before now place count starts breaks = absurd breaks
+ahead_cell_refused fault.Write known ahead before now place count starts breaks = absurd breaks
 ahead_cell_refused (fault.OutOfMemory error) known ahead before now place count starts breaks = λ e. tt
 ahead_cell_refused (fault.Form broken) None ahead before now place count starts breaks = λ e. absurd cc
 ahead_cell_refused (fault.Form broken) (Some bytes) ahead before now place count starts breaks = λ e.
@@ -134,7 +137,7 @@ pub more_some : (old new : Option (List ℕ)) (before now : List Cell) (place at
 more_some old new before now place at count more some = (some, more.1, more.2)
 
 -- other cells are read after those that are read ahead
-pub more_then : (r : Result ℕ DecodeFault) (old mid new : Option (List ℕ)) (before now next : List Cell) (place at count : ℕ) → ReadsMoreCells (Ok at) old mid before now place count
+pub more_then : (r : Result ℕ CertFault) (old mid new : Option (List ℕ)) (before now next : List Cell) (place at count : ℕ) → ReadsMoreCells (Ok at) old mid before now place count
     → ReadsCells r mid new now next at count → ReadsCells r old new before next place count
 more_then (Ok after) old mid new before now next place at count one more = (
   omega (arith, one.0, more.0),
@@ -165,7 +168,7 @@ listed_all old new now place after count reads e =
     (is.0, ap (λ (k : ℕ). list_at function_at [] k (input_at place old)) all ∙ is.1 0)
 
 -- one of its functions is refused
-pub listed_fails : (e : DecodeFault) (known new : Option (List ℕ)) (now : List (ℕ × ℕ)) (place count : ℕ) → ReadsBlock (Err e) known new [] now place count
+pub listed_fails : (e : CertFault) (known new : Option (List ℕ)) (now : List (ℕ × ℕ)) (place count : ℕ) → ReadsBlock (Err e) known new [] now place count
     → is_some known ≡ true → Fails e (list_at function_at [] count (input_at place known))
 listed_fails e known new now place count reads told =
     let all : count + 0 ≡ count = omega arith in

@@ -7,8 +7,8 @@ use Rattle.std.specs.Io.KnownBytes.{Consumes, IsAtEnd, Keeps}
 use Rattle.std.proofs.KnownBytes.{Consumes-kept, Consumes-trans}
 use Rattle.tt_stream.specs.Reads.{ConsumesBeginning}
 use Rattle.tt_stream.proofs.Beginnings.{consumes_then}
-use Rattle.tt_cert.specs.declared.fault.DecodeFault.{DecodeFault}
-use Rattle.tt_cert.specs.declared.fault.DecodeFault.TheVariants as fault
+use Rattle.tt_cert.specs.declared.fault.CertFault.{CertFault}
+use Rattle.tt_cert.specs.declared.fault.CertFault.TheVariants as fault
 use Rattle.tt_cert.specs.Answers.{Fails, StopsAtEnd, input_at}
 use Rattle.tt_cert.specs.Representation.Blocks.{AreTaken, BreaksAt, FillsOn, IsTaking, ReadsBlock, Takes, input_held, input_of}
 use Rattle.tt_cert.specs.Readers.{Answer, Input, list_at, place_after, unit}
@@ -281,10 +281,11 @@ fill_end old now next before xs place count filled taken more after was buf f g 
         rw (count_is, nothing) (cut_short xs m (place_after place taken) held (omega (arith, long, inv.short)) ∙ ap (λ (p : ℕ). Err p) there)
 
 -- a function of the block is refused
-pub fill_refused : (e : DecodeFault) (old now next : Option (List ℕ)) (before xs ys : List (ℕ × ℕ)) (place count filled taken more : ℕ) (was buf : List ℕ) (f g : ℕ)
+pub fill_refused : (e : CertFault) (old now next : Option (List ℕ)) (before xs ys : List (ℕ × ℕ)) (place count filled taken more : ℕ) (was buf : List ℕ) (f g : ℕ)
     → IsBlock old now before xs place count filled taken was f g → FillsOn now next filled (6 * count) more was buf
     → Takes (Err e) xs ys (place_after place taken) (held_in taken (filled + more) buf) → ReadsBlock (Err e) old next before ys place count
 fill_refused fault.Read old now next before xs ys place count filled taken more was buf f g inv fills breaks = absurd breaks
+fill_refused fault.Write old now next before xs ys place count filled taken more was buf f g inv fills breaks = absurd breaks
 fill_refused (fault.OutOfMemory error) old now next before xs ys place count filled taken more was buf f g inv fills breaks = λ known n. tt
 fill_refused (fault.Form broken) old now next before xs ys place count filled taken more was buf f g inv fills breaks =
     λ e n.
@@ -328,9 +329,10 @@ fill_stops old now next before xs place count filled taken buf f g inv lt few ke
     }
 
 -- no read fails where functions are taken
-pub takes_stops : {Y : Type 0} (e : DecodeFault) (xs ys : List (ℕ × ℕ)) (at : ℕ) (bytes : List ℕ) (place : ℕ) (old new : Option (List ℕ)) (read : Input → Answer Y) → Takes (Err e) xs ys at bytes
+pub takes_stops : {Y : Type 0} (e : CertFault) (xs ys : List (ℕ × ℕ)) (at : ℕ) (bytes : List ℕ) (place : ℕ) (old new : Option (List ℕ)) (read : Input → Answer Y) → Takes (Err e) xs ys at bytes
     → StopsAtEnd place old new read e
 takes_stops fault.Read xs ys at bytes place old new read takes = absurd takes
+takes_stops fault.Write xs ys at bytes place old new read takes = absurd takes
 takes_stops (fault.Form p) xs ys at bytes place old new read takes = tt
 takes_stops (fault.OutOfMemory error) xs ys at bytes place old new read takes = tt
 
@@ -360,7 +362,7 @@ blocks_on old now next start count xs ys left fewer place after block f g h inv 
   failures_are = same ∙ inv.failures_are;
 }
 
-pub blocks_fail : (old now next : Option (List ℕ)) (start count : ℕ) (xs ys : List (ℕ × ℕ)) (left place block f g : ℕ) (e : DecodeFault)
+pub blocks_fail : (old now next : Option (List ℕ)) (start count : ℕ) (xs ys : List (ℕ × ℕ)) (left place block f g : ℕ) (e : CertFault)
     → IsReadingBlocks old now start count xs left place f g → block ≤ left → ReadsBlock (Err e) now next xs ys place block
     → is_some old ≡ true → Fails e (list_at function_at [] count (input_at start old))
 blocks_fail old now next start count xs ys left place block f g e inv le reads known =
@@ -372,7 +374,7 @@ blocks_fail old now next start count xs ys left place block f g e inv le reads k
     subst (λ (r : Answer (List (ℕ × ℕ))). Fails e r) so_far (reads r.told (left - block))
 
 -- a read failed in the next block
-pub blocks_stop : (old now next : Option (List ℕ)) (start count : ℕ) (xs : List (ℕ × ℕ)) (left place block f g : ℕ) (e : DecodeFault)
+pub blocks_stop : (old now next : Option (List ℕ)) (start count : ℕ) (xs : List (ℕ × ℕ)) (left place block f g : ℕ) (e : CertFault)
     → IsReadingBlocks old now start count xs left place f g → block ≤ left → StopsAtEnd place now next (list_at function_at xs block) e
     → StopsAtEnd start old next (list_at function_at [] count) e
 blocks_stop old now next start count xs left place block f g e inv le stops =

@@ -11,8 +11,8 @@ use Rattle.tt_abs.specs.declared.cells.Cell.{Cell}
 use Rattle.tt_abs.specs.declared.cells.Cell.TheVariants.{Known, Unknown}
 use Rattle.tt_stream.specs.Reads.{ConsumesBeginning, ConsumesFewer}
 use Rattle.tt_stream.proofs.Beginnings.{consumes_then}
-use Rattle.tt_cert.specs.declared.fault.DecodeFault.{DecodeFault}
-use Rattle.tt_cert.specs.declared.fault.DecodeFault.TheVariants as fault
+use Rattle.tt_cert.specs.declared.fault.CertFault.{CertFault}
+use Rattle.tt_cert.specs.declared.fault.CertFault.TheVariants as fault
 use Rattle.tt_cert.specs.Answers.{Fails, IsReadFault, StopsAtEnd, input_at}
 use Rattle.tt_cert.specs.Representation.Blocks.{AreCellsTaken, FillsOn, FillsRest, IsBegun, IsTakingCells, ReadsCells, ReadsFurther, ReadsMoreCells, ReadsRest, TakesCells, cells_at, input_begun, input_held, input_of}
 use Rattle.tt_cert.specs.Readers.{Answer, Input, list_at, place_after}
@@ -324,10 +324,11 @@ block_end old now next before xs place count wanted filled taken more after was 
         rw (count_is, nothing) (cells_cut xs m (place_after place taken) held (λ lt. inv.begun (omega (arith, long, lt))) ∙ ap (λ (p : ℕ). Err p) there)
 
 -- a cell of the block is refused
-pub block_refused : (e : DecodeFault) (old now next : Option (List ℕ)) (before xs ys : List Cell) (place count wanted filled taken more : ℕ) (was buf : List ℕ) (f g : ℕ)
+pub block_refused : (e : CertFault) (old now next : Option (List ℕ)) (before xs ys : List Cell) (place count wanted filled taken more : ℕ) (was buf : List ℕ) (f g : ℕ)
     → IsCellBlock old now before xs place count wanted filled taken was f g → IsWanted before count wanted → FillsOn now next filled wanted more was buf
     → TakesCells (Err e) xs ys (place_after place taken) (held_in taken (filled + more) buf) → ReadsCells (Err e) old next before ys place count
 block_refused fault.Read old now next before xs ys place count wanted filled taken more was buf f g inv fit fills breaks = absurd breaks
+block_refused fault.Write old now next before xs ys place count wanted filled taken more was buf f g inv fit fills breaks = absurd breaks
 block_refused (fault.OutOfMemory error) old now next before xs ys place count wanted filled taken more was buf f g inv fit fills breaks = λ known. tt
 block_refused (fault.Form broken) old now next before xs ys place count wanted filled taken more was buf f g inv fit fills breaks =
     λ e.
@@ -367,7 +368,7 @@ held_begun taken filled buf number b some number_is =
     b.left_is ∙ ap (λ (l : List ℕ). 1 ∷ l) begun_is
 
 -- a block, and what reading the rest of its last cell comes to
-pub block_rest : (r : Result ℕ DecodeFault) (old now next : Option (List ℕ)) (before xs ys : List Cell) (place count wanted filled taken at : ℕ) (buf number : List ℕ) (f g : ℕ)
+pub block_rest : (r : Result ℕ CertFault) (old now next : Option (List ℕ)) (before xs ys : List Cell) (place count wanted filled taken at : ℕ) (buf number : List ℕ) (f g : ℕ)
     → IsCellBlock old now before xs place count wanted filled taken buf f g → IsWanted before count wanted → taken < filled → at ≡ place_after place taken
     → number ≡ take (filled - (taken + 1)) (drop (taken + 1) buf) → ReadsRest r now next number xs ys at → ReadsCells r old next before ys place count
 block_rest r old now next before xs ys place count wanted filled taken at buf number f g inv fit some at_is number_is rest = from r rest
@@ -381,7 +382,7 @@ block_rest r old now next before xs ys place count wanted filled taken at buf nu
         let was = block_known old now before xs place count wanted filled taken buf f g inv e in
         (was.0, λ n. was.1 n ∙ rw (held_is, at_is) refl)
 
-    from : (r : Result ℕ DecodeFault) → ReadsRest r now next number xs ys at → ReadsCells r old next before ys place count
+    from : (r : Result ℕ CertFault) → ReadsRest r now next number xs ys at → ReadsCells r old next before ys place count
     from (Ok after) rest = (
       omega (arith, rest.0, inv.least),
       omega (arith, rest.0, inv.few, some, inv.within, fit.0, fit.1),
@@ -436,12 +437,13 @@ block_stops old now next before xs place count wanted filled taken buf f g inv f
     (rw (append-nil held) (λ some. inv.begun (omega (arith, long, some))))
 
 -- a read of the rest of a cell failed
-pub rest_stops : (e : DecodeFault) (old now next : Option (List ℕ)) (before xs : List Cell) (place count wanted filled taken : ℕ) (buf number : List ℕ) (f g : ℕ)
+pub rest_stops : (e : CertFault) (old now next : Option (List ℕ)) (before xs : List Cell) (place count wanted filled taken : ℕ) (buf number : List ℕ) (f g : ℕ)
     → IsCellBlock old now before xs place count wanted filled taken buf f g → IsWanted before count wanted → taken < filled
     → number ≡ take (filled - (taken + 1)) (drop (taken + 1) buf) → (IsReadFault e → ConsumesFewer (4 - length number) now next)
     → StopsAtEnd place old next (cells_at before (count - length before)) e
 rest_stops (fault.Form p) old now next before xs place count wanted filled taken buf number f g inv fit some number_is fewer = tt
 rest_stops (fault.OutOfMemory error) old now next before xs place count wanted filled taken buf number f g inv fit some number_is fewer = tt
+rest_stops fault.Write old now next before xs place count wanted filled taken buf number f g inv fit some number_is fewer = tt
 rest_stops fault.Read old now next before xs place count wanted filled taken buf number f g inv fit some number_is fewer =
     let part = fewer tt in
     let held_is = held_begun taken filled buf number (inv.begun some) some number_is in
@@ -453,7 +455,7 @@ rest_stops fault.Read old now next before xs place count wanted filled taken buf
     })
 
 -- the same of what reading the rest of a cell returns
-pub rest_stopped : (r : Result ℕ DecodeFault) (old now next : Option (List ℕ)) (before xs : List Cell) (place count wanted filled taken : ℕ) (buf number : List ℕ) (f g : ℕ)
+pub rest_stopped : (r : Result ℕ CertFault) (old now next : Option (List ℕ)) (before xs : List Cell) (place count wanted filled taken : ℕ) (buf number : List ℕ) (f g : ℕ)
     → IsCellBlock old now before xs place count wanted filled taken buf f g → IsWanted before count wanted → taken < filled
     → number ≡ take (filled - (taken + 1)) (drop (taken + 1) buf) → IfErr r (λ e. IsReadFault e → ConsumesFewer (4 - length number) now next)
     → IfErr r (StopsAtEnd place old next (cells_at before (count - length before)))
@@ -462,9 +464,10 @@ rest_stopped (Err e) old now next before xs place count wanted filled taken buf 
     rest_stops e old now next before xs place count wanted filled taken buf number f g inv fit some number_is fewer
 
 -- no read fails where cells are taken
-pub cells_stops : {Y : Type 0} (e : DecodeFault) (xs ys : List Cell) (at : ℕ) (bytes : List ℕ) (place : ℕ) (old new : Option (List ℕ)) (read : Input → Answer Y) → TakesCells (Err e) xs ys at bytes
+pub cells_stops : {Y : Type 0} (e : CertFault) (xs ys : List Cell) (at : ℕ) (bytes : List ℕ) (place : ℕ) (old new : Option (List ℕ)) (read : Input → Answer Y) → TakesCells (Err e) xs ys at bytes
     → StopsAtEnd place old new read e
 cells_stops fault.Read xs ys at bytes place old new read takes = absurd takes
+cells_stops fault.Write xs ys at bytes place old new read takes = absurd takes
 cells_stops (fault.Form p) xs ys at bytes place old new read takes = tt
 cells_stops (fault.OutOfMemory error) xs ys at bytes place old new read takes = tt
 
@@ -492,7 +495,7 @@ further_reached xs ys count place after old now least few further known =
     (reached_part (λ _. cell_at) xs ys (count - length xs) more place after old now (λ _. cell_steady) (omega (arith, least, few)) known (is.0, whole))
 
 -- a read failed after more of the cells
-pub more_stops : (r : Result ℕ DecodeFault) (old mid new : Option (List ℕ)) (before now : List Cell) (place at count : ℕ) → ReadsMoreCells (Ok at) old mid before now place count
+pub more_stops : (r : Result ℕ CertFault) (old mid new : Option (List ℕ)) (before now : List Cell) (place at count : ℕ) → ReadsMoreCells (Ok at) old mid before now place count
     → IfErr r (StopsAtEnd at mid new (cells_at now (count - length now))) → IfErr r (StopsAtEnd place old new (cells_at before (count - length before)))
 more_stops (Ok after) old mid new before now place at count more stops = tt
 more_stops (Err e) old mid new before now place at count more stops =
@@ -525,14 +528,14 @@ cells_on old now next start xs ys count place after f g h inv reads some same = 
   failures_are = same ∙ inv.failures_are;
 }
 
-pub cells_fail : (e : DecodeFault) (old now next : Option (List ℕ)) (start : ℕ) (xs ys : List Cell) (count place f g : ℕ)
+pub cells_fail : (e : CertFault) (old now next : Option (List ℕ)) (start : ℕ) (xs ys : List Cell) (count place f g : ℕ)
     → IsReadingCells old now start xs count place f g → ReadsCells (Err e) now next xs ys place count → is_some old ≡ true → Fails e (cells_at [] count (input_at start old))
 cells_fail e old now next start xs ys count place f g inv reads known =
     let r = inv.reached known in
     subst (λ (x : Answer (List Cell)). Fails e x) (sym (reached_known start place old now (cells_at [] count) (cells_at xs (count - length xs)) r known)) (reads r.told)
 
 -- a read failed in the next block
-pub cells_stop : (e : DecodeFault) (old now next : Option (List ℕ)) (start : ℕ) (xs : List Cell) (count place f g : ℕ)
+pub cells_stop : (e : CertFault) (old now next : Option (List ℕ)) (start : ℕ) (xs : List Cell) (count place f g : ℕ)
     → IsReadingCells old now start xs count place f g → StopsAtEnd place now next (cells_at xs (count - length xs)) e → StopsAtEnd start old next (cells_at [] count) e
 cells_stop e old now next start xs count place f g inv stops =
     stops_there start place old now next (cells_at [] count) (cells_at xs (count - length xs)) e inv.reached stops

@@ -2,8 +2,8 @@
 use Rattle.std.proofs.Common.{◌≡◌, ℕ, ◌^◌, ◌<◌, true, List, ◌++◌, Option, Some, None, is_some, Result, Ok, Err, refl, sym, ap, subst, ◌∙◌, arith, length}
 use Rattle.std.specs.Prelude.{IfOk, MatchResult}
 use Rattle.tt_family.specs.Contents.{Contents}
-use Rattle.tt_cert.specs.declared.fault.DecodeFault.{DecodeFault}
-use Rattle.tt_cert.specs.declared.fault.DecodeFault.TheVariants as fault
+use Rattle.tt_cert.specs.declared.fault.CertFault.{CertFault}
+use Rattle.tt_cert.specs.declared.fault.CertFault.TheVariants as fault
 use Rattle.tt_cert.specs.declared.form.Form.{Form}
 use Rattle.tt_cert.specs.declared.name.Name.{Name}
 use Rattle.tt_cert.specs.Answers.{AreBytes, Fails, GivesSection, IsFormFault, ReadsSection, input_at}
@@ -16,7 +16,7 @@ use Rattle.tt_cert.proofs.Codecs.{here, ok_is}
 use Rattle.tt_cert.proofs.Spelled.{section_codec}
 
 abbrev Decoded : Type 0
-Decoded = Result (Name × Contents × ℕ) DecodeFault
+Decoded = Result (Name × Contents × ℕ) CertFault
 
 some_left : (new : Option (List ℕ)) (place : ℕ) → is_some new ≡ true → new ≡ Some (input_at place new).bytes
 some_left None place e = absurd cc
@@ -40,9 +40,10 @@ same_section : (a b : Section) (i j : Input) → read_as a i ≡ read_as b j →
 unfolding read_as
 same_section a b i j e = ap (λ (p : Section × Input). p.0) (ok_is (a, i) (b, j) e)
 
-no_form : (s : Section) (j : Input) (e : DecodeFault) → Fails e (read_as s j) → ¬ IsFormFault e
+no_form : (s : Section) (j : Input) (e : CertFault) → Fails e (read_as s j) → ¬ IsFormFault e
 unfolding read_as
 no_form s j fault.Read h = λ x. x
+no_form s j fault.Write h = λ x. x
 no_form s j (fault.OutOfMemory error) h = λ x. x
 no_form s j (fault.Form p) h = λ x. absurd cc
 

@@ -4,7 +4,7 @@ use Rattle.std.specs.Prelude.{IfOk, MatchResult}
 use Rattle.tt_family.specs.Ascending.{IsFinished}
 use Rattle.tt_family.specs.Contents.{Contents}
 use Rattle.tt_family.specs.Contexts.{frames_of}
-use Rattle.tt_cert.specs.declared.fault.DecodeFault.{DecodeFault}
+use Rattle.tt_cert.specs.declared.fault.CertFault.{CertFault}
 use Rattle.tt_cert.specs.declared.form.Form.{Form}
 use Rattle.tt_cert.specs.declared.name.Name.{Name}
 use Rattle.tt_cert.specs.Answers.{IsFormFault}
@@ -28,7 +28,7 @@ one_family_of_a_text form n m c d a b p q e =
     (names, families, left)
 
 abbrev Decoded : Type 0
-Decoded = Result (Name × Contents × ℕ) DecodeFault
+Decoded = Result (Name × Contents × ℕ) CertFault
 
 -- what reads the section of a family reads the family
 pub is_same : (r : Decoded) (name : Name) (family : Contents) → IfOk r (λ r. IsFinished r.1) → IsFinished family → MatchResult r (λ r. section_of r.0 r.1 ≡ section_of name family) (λ e. ¬ IsFormFault e)

@@ -1,8 +1,8 @@
 -- What the reading of a header tells of its text.
 use Rattle.std.proofs.Common.{◌≡◌, ℕ, zero, suc, ◌^◌, ◌<◌, true, List, ◌++◌, Option, Some, None, is_some, Result, Ok, Err, refl, sym, ap, subst, ◌∙◌, arith}
 use Rattle.std.specs.Prelude.{IfOk, MatchResult}
-use Rattle.tt_cert.specs.declared.fault.DecodeFault.{DecodeFault}
-use Rattle.tt_cert.specs.declared.fault.DecodeFault.TheVariants as fault
+use Rattle.tt_cert.specs.declared.fault.CertFault.{CertFault}
+use Rattle.tt_cert.specs.declared.fault.CertFault.TheVariants as fault
 use Rattle.tt_cert.specs.declared.form.Form.{Form}
 use Rattle.tt_cert.specs.Answers.{AreBytes, Fails, GivesHeader, IsFormFault, ReadsHeader, input_at}
 use Rattle.tt_cert.specs.Forms.{IsFormNumber, form_number, form_numbered}
@@ -13,7 +13,7 @@ use Rattle.tt_cert.proofs.Codecs.{ok_is}
 use Rattle.tt_cert.proofs.Spelled.{header_codec}
 
 abbrev Read : Type 0
-Read = Result (Form × ℕ) DecodeFault
+Read = Result (Form × ℕ) CertFault
 
 pub numbers_read : (i j : Input) (x : Form × ℕ) → header_at i ≡ Ok (x, j) → header_numbers_at i ≡ Ok (in_numbers x, j)
 unfolding header_numbers_at
@@ -23,9 +23,10 @@ numbers_refused : (i : Input) (place : ℕ) → header_at i ≡ Err place → he
 unfolding header_numbers_at
 numbers_refused i place e = rw e refl
 
-pub numbers_fail : (i : Input) (e : DecodeFault) → Fails e (header_at i) → Fails e (header_numbers_at i)
+pub numbers_fail : (i : Input) (e : CertFault) → Fails e (header_at i) → Fails e (header_numbers_at i)
 numbers_fail i (fault.Form place) h = numbers_refused i place h
 numbers_fail i fault.Read h = tt
+numbers_fail i fault.Write h = h
 numbers_fail i (fault.OutOfMemory error) h = tt
 
 some_left : (new : Option (List ℕ)) (place : ℕ) → is_some new ≡ true → new ≡ Some (input_at place new).bytes
@@ -46,9 +47,10 @@ header_found old new (Ok x) gives = λ input known bytes.
 read_as : Form × ℕ → Input → Answer (Form × ℕ)
 read_as x j = Ok (x, j)
 
-no_form : (x : Form × ℕ) (j : Input) (e : DecodeFault) → Fails e (read_as x j) → ¬ IsFormFault e
+no_form : (x : Form × ℕ) (j : Input) (e : CertFault) → Fails e (read_as x j) → ¬ IsFormFault e
 unfolding read_as
 no_form x j fault.Read h = λ x. x
+no_form x j fault.Write h = λ x. x
 no_form x j (fault.OutOfMemory error) h = λ x. x
 no_form x j (fault.Form p) h = λ x. absurd cc
 
@@ -101,7 +103,7 @@ module _ (old new : Option (List ℕ)) (n : ℕ) (x : Form × ℕ) (is : n ≡ f
       let same : x ≡ (form_numbered form, sections) = header_read old new (Ok x) gives (form_numbered form) sections rest few (known ∙ ap Some (named_by_number form sections rest known_form)) in
       sym in_numbers_is ∙ ap in_numbers same ∙ ap (λ (k : ℕ). (k, sections)) (number_back form known_form)
 
-pub no_header : (old new : Option (List ℕ)) (e : DecodeFault) → GivesHeader {F = Form} old new (Err e) (header_at (input_at 0 old))
+pub no_header : (old new : Option (List ℕ)) (e : CertFault) → GivesHeader {F = Form} old new (Err e) (header_at (input_at 0 old))
     → (form sections : ℕ) (rest : List ℕ) → IsFormNumber form → sections < 2 ^ 32 → old ≡ Some (header_of form sections ++ rest) → ¬ IsFormFault e
 no_header old new e gives form sections rest known_form few known =
     header_read old new (Err e) gives (form_numbered form) sections rest few (known ∙ ap Some (named_by_number form sections rest known_form))

@@ -7,8 +7,8 @@ use Rattle.tt_code.specs.declared.machine.Frame.{Frame}
 use Rattle.tt_family.specs.Contents.{Contents, IsFamily, frames_at}
 use Rattle.tt_family.specs.Contexts.{frames_of, length-grow}
 use Rattle.tt_family.specs.Puts.{number_at}
-use Rattle.tt_cert.specs.declared.fault.DecodeFault.{DecodeFault}
-use Rattle.tt_cert.specs.declared.fault.DecodeFault.TheVariants as fault
+use Rattle.tt_cert.specs.declared.fault.CertFault.{CertFault}
+use Rattle.tt_cert.specs.declared.fault.CertFault.TheVariants as fault
 use Rattle.tt_cert.specs.declared.form.Form.{Form}
 use Rattle.tt_cert.specs.declared.name.Name.{Name}
 use Rattle.tt_cert.specs.Answers.{Fails}
@@ -77,10 +77,11 @@ states_refused : (form : Form) (i : Input) (name : Name) (i1 : Input) (contexts 
 unfolding section_at
 states_refused form i name i1 contexts i2 m place e1 e2 e3 e4 = rw (e1, e2, ← e3, e4) refl
 
-pub section_fails : (form : Form) (i : Input) (name : Name) (i1 : Input) (contexts : List Context) (i2 : Input) (m : ℕ) (e : DecodeFault)
+pub section_fails : (form : Form) (i : Input) (name : Name) (i1 : Input) (contexts : List Context) (i2 : Input) (m : ℕ) (e : CertFault)
     → name_at i ≡ Ok (name, i1) → contexts_at form i1 ≡ Ok (contexts, i2) → m ≡ length contexts + 1 → Fails e (states_at form m i2) → Fails e (section_at form i)
 section_fails form i name i1 contexts i2 m (fault.Form place) e1 e2 e3 h = states_refused form i name i1 contexts i2 m place e1 e2 e3 h
 section_fails form i name i1 contexts i2 m fault.Read e1 e2 e3 h = tt
+section_fails form i name i1 contexts i2 m fault.Write e1 e2 e3 h = h
 section_fails form i name i1 contexts i2 m (fault.OutOfMemory error) e1 e2 e3 h = tt
 
 -- how many contexts a builder of these has

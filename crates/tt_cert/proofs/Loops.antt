@@ -3,8 +3,8 @@ use Rattle.std.proofs.Common.{◌≡◌, ℕ, suc, ◌-◌, ◌+◌, ◌≤◌, 
 use Rattle.std.proofs.KnownBytes.{Consumes-nil}
 use Rattle.tt_stream.specs.Reads.{ConsumesBeginning}
 use Rattle.tt_stream.proofs.Beginnings.{consumes_then}
-use Rattle.tt_cert.specs.declared.fault.DecodeFault.{DecodeFault}
-use Rattle.tt_cert.specs.declared.fault.DecodeFault.TheVariants as fault
+use Rattle.tt_cert.specs.declared.fault.CertFault.{CertFault}
+use Rattle.tt_cert.specs.declared.fault.CertFault.TheVariants as fault
 use Rattle.tt_cert.specs.Answers.{Fails, Gives, StopsAtEnd, input_at}
 use Rattle.tt_cert.specs.Readers.{Answer, Input, list_at}
 use Rattle.tt_cert.proofs.Steady.{IsSteady}
@@ -50,17 +50,18 @@ reads_on {A = A} one old now next start xs ys count k place after f g h x steady
   failures_are = same ∙ inv.failures_are;
 }
 
-pub reads_fail : {A : Type 0} (one : List A → Input → Answer A) (old now : Option (List ℕ)) (start : ℕ) (xs : List A) (count k place f g : ℕ) (e : DecodeFault)
+pub reads_fail : {A : Type 0} (one : List A → Input → Answer A) (old now : Option (List ℕ)) (start : ℕ) (xs : List A) (count k place f g : ℕ) (e : CertFault)
     → IsReading one old now start xs count k place f g → k < count
     → (is_some now ≡ true → Fails e (one xs (input_at place now))) → is_some old ≡ true → Fails e (list_at one [] count (input_at start old))
 reads_fail {A = A} one old now start xs count k place f g fault.Read inv lt fails known = tt
+reads_fail {A = A} one old now start xs count k place f g fault.Write inv lt fails known = fails (inv.reached known).told
 reads_fail {A = A} one old now start xs count k place f g (fault.OutOfMemory error) inv lt fails known = tt
 reads_fail {A = A} one old now start xs count k place f g (fault.Form p) inv lt fails known =
     let r = inv.reached known in
     reached_known start place old now (list_at one [] count) (list_at one xs (count - k)) r known ∙ stops one xs count k (input_at place now) p lt (fails r.told)
 
 -- a read failed in the next value
-pub reads_stop : {A : Type 0} (one : List A → Input → Answer A) (old now next : Option (List ℕ)) (start : ℕ) (xs : List A) (count k place f g : ℕ) (e : DecodeFault)
+pub reads_stop : {A : Type 0} (one : List A → Input → Answer A) (old now next : Option (List ℕ)) (start : ℕ) (xs : List A) (count k place f g : ℕ) (e : CertFault)
     → IsReading one old now start xs count k place f g → k < count → StopsAtEnd place now next (one xs) e → StopsAtEnd start old next (list_at one [] count) e
 reads_stop {A = A} one old now next start xs count k place f g e inv lt stop =
     stops_there start place old now next (list_at one [] count) (list_at one xs (count - k)) e inv.reached

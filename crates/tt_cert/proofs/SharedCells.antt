@@ -12,8 +12,8 @@ use Rattle.tt_abs.specs.Transfers.{cells_on}
 use Rattle.tt_abs.proofs.CodedCells.{cells_on_reversed}
 use Rattle.tt_abs.proofs.Reversed.{reverse-drop}
 use Rattle.tt_abs.proofs.StackOrders.{StackInRange-reverse}
-use Rattle.tt_cert.specs.declared.fault.DecodeFault.{DecodeFault}
-use Rattle.tt_cert.specs.declared.fault.DecodeFault.TheVariants as fault
+use Rattle.tt_cert.specs.declared.fault.CertFault.{CertFault}
+use Rattle.tt_cert.specs.declared.fault.CertFault.TheVariants as fault
 use Rattle.tt_cert.specs.declared.form.Form.{Form}
 use Rattle.tt_cert.specs.Answers.{Fails, StopsAtEnd, input_at}
 use Rattle.tt_cert.specs.Representation.Blocks.{ReadsCells, ReadsFurther, ReadsMoreCells, cells_at, cells_up_to}
@@ -146,9 +146,10 @@ further_onto old new front cells place after further = λ known.
           ap (λ (k : ℕ). cells_at front k i) all ∙ cells_from front ((length cells - 0) + n) i ∙ ap (onto front) (is.1 n) ∙ sym (cells_onto front cells n (input_at after new)),
     )
 
-fails_onto : (e : DecodeFault) (front : List Cell) (r : Answer (List Cell)) → Fails e r → Fails e (onto front r)
+fails_onto : (e : CertFault) (front : List Cell) (r : Answer (List Cell)) → Fails e r → Fails e (onto front r)
 fails_onto (fault.Form p) front r fails = ap (onto front) fails
 fails_onto fault.Read front r fails = tt
+fails_onto fault.Write front r fails = fails
 fails_onto (fault.OutOfMemory error) front r fails = tt
 
 -- the cells that were read are pushed onto the lowest ones
@@ -172,7 +173,7 @@ missing_in : (below : List Cell) (count missing : ℕ) → missing ≡ count - l
 missing_in below count missing missing_is = omega (arith, missing_is, length-reverse below)
 
 -- one of the cells after the lowest ones is refused
-pub missing_fails : (e : DecodeFault) (old : Option (List ℕ)) (below : List Cell) (place count missing : ℕ) → missing ≡ count - length below
+pub missing_fails : (e : CertFault) (old : Option (List ℕ)) (below : List Cell) (place count missing : ℕ) → missing ≡ count - length below
     → (is_some old ≡ true → Fails e (cells_up_to [] missing (input_at place old))) → is_some old ≡ true → Fails e (cells_up_to (reverse below) count (input_at place old))
 missing_fails e old below place count missing missing_is fails known =
     let front = reverse below in
@@ -181,15 +182,16 @@ missing_fails e old below place count missing missing_is fails known =
     (sym (cells_from front (missing - 0) i) ∙ ap (λ (k : ℕ). cells_at front k i) (missing_in below count missing missing_is))
     (fails_onto e front (cells_at [] (missing - 0) i) (fails known))
 
-onto_stops : (e : DecodeFault) (mid new : Option (List ℕ)) (front : List Cell) (at n : ℕ) → StopsAtEnd at mid new (cells_at [] n) e → StopsAtEnd at mid new (cells_at front n) e
+onto_stops : (e : CertFault) (mid new : Option (List ℕ)) (front : List Cell) (at n : ℕ) → StopsAtEnd at mid new (cells_at [] n) e → StopsAtEnd at mid new (cells_at front n) e
 onto_stops (fault.Form p) mid new front at n stops = tt
 onto_stops (fault.OutOfMemory error) mid new front at n stops = tt
+onto_stops fault.Write mid new front at n stops = tt
 onto_stops fault.Read mid new front at n stops = λ known.
     let s = stops known in
     record { front = s.front; consumed = s.consumed; refused = cells_from front n (input_at at (Some s.front)) ∙ ap (onto front) s.refused }
 
 -- a read of the cells after the lowest ones failed
-pub missing_stops : (e : DecodeFault) (old new : Option (List ℕ)) (below : List Cell) (place count missing : ℕ) → missing ≡ count - length below
+pub missing_stops : (e : CertFault) (old new : Option (List ℕ)) (below : List Cell) (place count missing : ℕ) → missing ≡ count - length below
     → StopsAtEnd place old new (cells_up_to [] missing) e → StopsAtEnd place old new (cells_up_to (reverse below) count) e
 missing_stops e old new below place count missing missing_is stops =
     subst (λ (k : ℕ). StopsAtEnd place old new (cells_at (reverse below) k) e) (missing_in below count missing missing_is)

@@ -7,7 +7,7 @@ use Rattle.tt_abs.specs.declared.cells.Cell.TheVariants.{Known, Unknown}
 use Rattle.tt_abs.specs.declared.cells.ZoneCell.{ZoneCell}
 use Rattle.tt_cert.specs.declared.form.Form.{Form}
 use Rattle.tt_cert.specs.declared.form.Form.TheVariants.{One, Two, Three, Four}
-use Rattle.tt_cert.specs.declared.fault.DecodeFault.{DecodeFault}
+use Rattle.tt_cert.specs.declared.fault.CertFault.{CertFault}
 use Rattle.tt_cert.specs.Answers.{StopsAtEnd}
 use Rattle.tt_cert.specs.Forms.{form_of, most_contexts}
 use Rattle.tt_cert.specs.Readers.{Answer, Input, and_then, given, list_at, made_of, unit}
@@ -56,7 +56,7 @@ unfolding cell_at
 cell_steady = step_steady (unit 1) after_tag (unit_steady 1) (λ p tag. tag_steady (eqb (slice_index tag 0) 0) (eqb (slice_index tag 0) 1) p)
 
 -- a read failed in the number of a known cell
-pub stops_in_number : (place at : ℕ) (old new : Option (List ℕ)) (tag : List ℕ) (e : DecodeFault) → slice_index tag 0 ≡ 1
+pub stops_in_number : (place at : ℕ) (old new : Option (List ℕ)) (tag : List ℕ) (e : CertFault) → slice_index tag 0 ≡ 1
     → StopsAtEnd at old new (unit 4) e → StopsAtEnd at old new (after_tag place tag) e
 stops_in_number place at old new tag e is stops =
     let F : ℕ → Type 0 = λ t. StopsAtEnd at old new (λ j. cond (eqb t 0) (Ok (Unknown, j)) (cond (eqb t 1) (number_at j) (Err place))) e in

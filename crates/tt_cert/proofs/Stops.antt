@@ -4,8 +4,8 @@ use Rattle.std.specs.Prelude.{IfErr}
 use Rattle.std.proofs.lemmas.List.{length-append}
 use Rattle.std.specs.Io.KnownBytes.{Consumes}
 use Rattle.std.proofs.KnownBytes.{Consumes-nil, Consumes-trans}
-use Rattle.tt_cert.specs.declared.fault.DecodeFault.{DecodeFault}
-use Rattle.tt_cert.specs.declared.fault.DecodeFault.TheVariants as fault
+use Rattle.tt_cert.specs.declared.fault.CertFault.{CertFault}
+use Rattle.tt_cert.specs.declared.fault.CertFault.TheVariants as fault
 use Rattle.tt_cert.specs.Answers.{StopsAtEnd, input_at}
 use Rattle.tt_cert.specs.Readers.{Answer, Input, and_then, list_at, made_of, place_after, ruled, ◌>>=◌}
 use Rattle.tt_cert.proofs.Codecs.{here}
@@ -74,10 +74,11 @@ reached_step first next place at old now x steady known was =
     }
 
 -- a read failed after that
-pub stops_there : {Y : Type 0} (place at : ℕ) (old now next : Option (List ℕ)) (whole left : Input → Answer Y) (e : DecodeFault)
+pub stops_there : {Y : Type 0} (place at : ℕ) (old now next : Option (List ℕ)) (whole left : Input → Answer Y) (e : CertFault)
     → (is_some old ≡ true → Reached place at old now whole left) → StopsAtEnd at now next left e → StopsAtEnd place old next whole e
 stops_there place at old now next whole left (fault.Form p) reached stops = tt
 stops_there place at old now next whole left (fault.OutOfMemory error) reached stops = tt
+stops_there place at old now next whole left fault.Write reached stops = tt
 stops_there place at old now next whole left fault.Read reached stops = λ known.
     let r = reached known in
     let a = r.read in
@@ -91,45 +92,46 @@ stops_there place at old now next whole left fault.Read reached stops = λ known
     }
 
 -- a read failed in the first step
-pub stops_in : {A B : Type 0} (first : Input → Answer A) (next : ℕ → A → Input → Answer B) (place : ℕ) (old new : Option (List ℕ)) (e : DecodeFault)
+pub stops_in : {A B : Type 0} (first : Input → Answer A) (next : ℕ → A → Input → Answer B) (place : ℕ) (old new : Option (List ℕ)) (e : CertFault)
     → StopsAtEnd place old new first e → StopsAtEnd place old new (step first next) e
 stops_in first next place old new (fault.Form p) stops = tt
 stops_in first next place old new (fault.OutOfMemory error) stops = tt
+stops_in first next place old new fault.Write stops = tt
 stops_in first next place old new fault.Read stops = λ known.
     let s = stops known in
     record { front = s.front; consumed = s.consumed; refused = rw s.refused refl }
 
 -- a read failed in a step after the first
-pub stops_after : {A B : Type 0} (first : Input → Answer A) (next : ℕ → A → Input → Answer B) (place at : ℕ) (old now new : Option (List ℕ)) (x : A) (e : DecodeFault) → IsSteady first
+pub stops_after : {A B : Type 0} (first : Input → Answer A) (next : ℕ → A → Input → Answer B) (place at : ℕ) (old now new : Option (List ℕ)) (x : A) (e : CertFault) → IsSteady first
     → (is_some old ≡ true → (is_some now ≡ true) × (first (input_at place old) ≡ Ok (x, input_at at now)))
     → StopsAtEnd at now new (next place x) e → StopsAtEnd place old new (step first next) e
 stops_after first next place at old now new x e steady was stops =
     stops_there place at old now new (step first next) (next place x) e (λ known. reached_step first next place at old now x steady known (was known)) stops
 
 -- the same of what a last call returns
-pub stops_last : {X A B : Type 0} (r : Result X DecodeFault) (first : Input → Answer A) (next : ℕ → A → Input → Answer B) (place at : ℕ) (old now new : Option (List ℕ)) (x : A) → IsSteady first
+pub stops_last : {X A B : Type 0} (r : Result X CertFault) (first : Input → Answer A) (next : ℕ → A → Input → Answer B) (place at : ℕ) (old now new : Option (List ℕ)) (x : A) → IsSteady first
     → (is_some old ≡ true → (is_some now ≡ true) × (first (input_at place old) ≡ Ok (x, input_at at now)))
     → IfErr r (StopsAtEnd at now new (next place x)) → IfErr r (StopsAtEnd place old new (step first next))
 stops_last (Ok y) first next place at old now new x steady was stops = tt
 stops_last (Err e) first next place at old now new x steady was stops = stops_after first next place at old now new x e steady was stops
 
 -- a read failed in the first of two values
-pub stops_first : {A B : Type 0} (first : Input → Answer A) (second : A → Input → Answer B) (place : ℕ) (old new : Option (List ℕ)) (e : DecodeFault)
+pub stops_first : {A B : Type 0} (first : Input → Answer A) (second : A → Input → Answer B) (place : ℕ) (old new : Option (List ℕ)) (e : CertFault)
     → StopsAtEnd place old new first e → StopsAtEnd place old new (and_then first second) e
 stops_first {A} {B} first second place old new e stops = stops_in first (λ _ x. step (second x) (λ _ y j. Ok ((x, y), j))) place old new e stops
 
 -- a read failed in the second of two values
-pub stops_second : {A B : Type 0} (first : Input → Answer A) (second : A → Input → Answer B) (place at : ℕ) (old now new : Option (List ℕ)) (x : A) (e : DecodeFault) → IsSteady first
+pub stops_second : {A B : Type 0} (first : Input → Answer A) (second : A → Input → Answer B) (place at : ℕ) (old now new : Option (List ℕ)) (x : A) (e : CertFault) → IsSteady first
     → (is_some old ≡ true → (is_some now ≡ true) × (first (input_at place old) ≡ Ok (x, input_at at now)))
     → StopsAtEnd at now new (second x) e → StopsAtEnd place old new (and_then first second) e
 stops_second {A} {B} first second place at old now new x e steady was stops =
     stops_after first (λ _ x. step (second x) (λ _ y j. Ok ((x, y), j))) place at old now new x e steady was (stops_in (second x) (λ _ y j. Ok ((x, y), j)) at now new e stops)
 
-pub stops_made : {A B : Type 0} (make : A → B) (read : Input → Answer A) (place : ℕ) (old new : Option (List ℕ)) (e : DecodeFault)
+pub stops_made : {A B : Type 0} (make : A → B) (read : Input → Answer A) (place : ℕ) (old new : Option (List ℕ)) (e : CertFault)
     → StopsAtEnd place old new read e → StopsAtEnd place old new (made_of make read) e
 stops_made make read place old new e stops = stops_in read (λ _ x j. Ok (make x, j)) place old new e stops
 
-pub stops_ruled : {A : Type 0} (rule : A → Bool) (read : Input → Answer A) (place : ℕ) (old new : Option (List ℕ)) (e : DecodeFault)
+pub stops_ruled : {A : Type 0} (rule : A → Bool) (read : Input → Answer A) (place : ℕ) (old new : Option (List ℕ)) (e : CertFault)
     → StopsAtEnd place old new read e → StopsAtEnd place old new (ruled rule read) e
 stops_ruled rule read place old new e stops = stops_in read (λ p x j. cond (rule x) (Ok (x, j)) (Err p)) place old new e stops
 
@@ -143,7 +145,7 @@ reached_more {A = A} one xs ys n m place at old now x steady known was n_is push
     rw (n_is, pushed) r
 
 -- a read failed in the next value of a list
-pub stops_next : {A : Type 0} (one : List A → Input → Answer A) (xs : List A) (n m place : ℕ) (old new : Option (List ℕ)) (e : DecodeFault) → n ≡ suc m
+pub stops_next : {A : Type 0} (one : List A → Input → Answer A) (xs : List A) (n m place : ℕ) (old new : Option (List ℕ)) (e : CertFault) → n ≡ suc m
     → StopsAtEnd place old new (one xs) e → StopsAtEnd place old new (list_at one xs n) e
 unfolding list_at
 stops_next {A = A} one xs n m place old new e n_is stops =
@@ -170,16 +172,17 @@ first_part one xs n a le i =
     let all : a + (n - a) ≡ n = omega arith in
     sym (list_split one a (n - a) xs i) ∙ ap (λ (k : ℕ). list_at one xs k i) all
 
-stops_same : {Y : Type 0} (place : ℕ) (old new : Option (List ℕ)) (whole other : Input → Answer Y) (e : DecodeFault) → ((i : Input) → whole i ≡ other i)
+stops_same : {Y : Type 0} (place : ℕ) (old new : Option (List ℕ)) (whole other : Input → Answer Y) (e : CertFault) → ((i : Input) → whole i ≡ other i)
     → StopsAtEnd place old new whole e → StopsAtEnd place old new other e
 stops_same place old new whole other (fault.Form p) same stops = tt
 stops_same place old new whole other (fault.OutOfMemory error) same stops = tt
+stops_same place old new whole other fault.Write same stops = tt
 stops_same place old new whole other fault.Read same stops = λ known.
     let s = stops known in
     record { front = s.front; consumed = s.consumed; refused = sym (same (input_at place (Some s.front))) ∙ s.refused }
 
 -- a read failed in the first part of a list
-pub stops_part : {A : Type 0} (one : List A → Input → Answer A) (xs : List A) (n a place : ℕ) (old new : Option (List ℕ)) (e : DecodeFault) → a ≤ n
+pub stops_part : {A : Type 0} (one : List A → Input → Answer A) (xs : List A) (n a place : ℕ) (old new : Option (List ℕ)) (e : CertFault) → a ≤ n
     → StopsAtEnd place old new (list_at one xs a) e → StopsAtEnd place old new (list_at one xs n) e
 stops_part one xs n a place old new e le stops =
     stops_same place old new (step (list_at one xs a) (λ _ ys. list_at one ys (n - a))) (list_at one xs n) e (first_part one xs n a le)

@@ -2,10 +2,8 @@
 use Rattle.std.specs.Prelude.{◌≡◌, ℕ, ◌+◌, ◌<◌, true, List, [], ◌++◌, length, get_or, Option, Some, is_some, unwrap_or, IfSome, Result, Ok, Err}
 use Rattle.std.specs.Borrow.{Bor}
 use Rattle.std.specs.Io.KnownBytes.{Consumes}
-use Rattle.tt_cert.specs.declared.fault.DecodeFault.{DecodeFault}
-use Rattle.tt_cert.specs.declared.fault.DecodeFault.TheVariants as fault
-use Rattle.tt_cert.specs.declared.fault.EncodeFault.{EncodeFault}
-use Rattle.tt_cert.specs.declared.fault.EncodeFault.TheVariants as encode
+use Rattle.tt_cert.specs.declared.fault.CertFault.{CertFault}
+use Rattle.tt_cert.specs.declared.fault.CertFault.TheVariants as fault
 use Rattle.tt_cert.specs.declared.form.Form.{Form}
 use Rattle.tt_cert.specs.Readers.{Answer, Input, place_after}
 use Rattle.tt_cert.specs.Rules.{Fits}
@@ -19,37 +17,38 @@ abbrev pub input_at : ℕ → Option (List ℕ) → Input
 input_at place known = record { place = place; bytes = unwrap_or known [] }
 
 -- a fault of form names the place that reading refuses; a failed read and out of memory are
--- unspecified
-abbrev pub Fails : {Y : Type 0} → DecodeFault → Result Y ℕ → Type 0
+-- unspecified, and no write fails
+abbrev pub Fails : {Y : Type 0} → CertFault → Result Y ℕ → Type 0
 Fails (fault.Form place) read = read ≡ Err place
 Fails fault.Read read = Unit {0}
+Fails fault.Write read = ⊥
 Fails (fault.OutOfMemory error) read = Unit {0}
 
 -- Where the source tells its bytes, the answer, seen by a view, is what reading gives, except for
 -- failed reads and out of memory.
 abbrev pub Gives : {X Y : Type 0} → (X → Y) → Option (List ℕ) → Option (List ℕ)
-    → Result (X × ℕ) DecodeFault → Answer Y → Type 0
+    → Result (X × ℕ) CertFault → Answer Y → Type 0
 Gives view old new (Ok x) read = is_some old ≡ true
     → (is_some new ≡ true) × (read ≡ Ok (view x.0, input_at x.1 new))
 Gives view old new (Err e) read = is_some old ≡ true → Fails e read
 
 -- the same of a section's name, family and the place after it
 abbrev pub GivesSection : Option (List ℕ) → Option (List ℕ)
-    → Result (Name × Contents × ℕ) DecodeFault → Answer Section → Type 0
+    → Result (Name × Contents × ℕ) CertFault → Answer Section → Type 0
 GivesSection old new (Ok x) read = is_some old ≡ true
     → (is_some new ≡ true) × (read ≡ Ok (section_of x.0 x.1, input_at x.2 new))
 GivesSection old new (Err e) read = is_some old ≡ true → Fails e read
 
 -- the same where the family is lent
 abbrev pub LendsSection : Option (List ℕ) → Option (List ℕ)
-    → Result (Name × Bor Contents × ℕ) DecodeFault → Answer Section → Type 0
+    → Result (Name × Bor Contents × ℕ) CertFault → Answer Section → Type 0
 LendsSection old new (Ok x) read = is_some old ≡ true
     → (is_some new ≡ true) × (read ≡ Ok (section_of x.0 x.1.now, input_at x.2 new))
 LendsSection old new (Err e) read = is_some old ≡ true → Fails e read
 
 -- the same of a header, with some place after it
 abbrev pub GivesHeader : {F : Type 0} → Option (List ℕ) → Option (List ℕ)
-    → Result (F × ℕ) DecodeFault → Answer (F × ℕ) → Type 0
+    → Result (F × ℕ) CertFault → Answer (F × ℕ) → Type 0
 GivesHeader old new (Ok x) read = is_some old ≡ true
     → (is_some new ≡ true) × ((place : ℕ) × (read ≡ Ok (x, input_at place new)))
 GivesHeader old new (Err e) read = is_some old ≡ true → Fails e read
@@ -63,23 +62,27 @@ pub record IsCutShort {Y : Type 0} (place : ℕ) (old new : Option (List ℕ))
 
 -- Where a read failed, and the source tells its bytes, no unit that was read whole breaks a rule.
 abbrev pub StopsAtEnd : {Y : Type 0} → ℕ → Option (List ℕ) → Option (List ℕ)
-    → (Input → Answer Y) → DecodeFault → Type 0
+    → (Input → Answer Y) → CertFault → Type 0
 StopsAtEnd place old new read fault.Read = is_some old ≡ true → IsCutShort place old new read
 StopsAtEnd place old new read (fault.Form at) = Unit {0}
+StopsAtEnd place old new read fault.Write = Unit {0}
 StopsAtEnd place old new read (fault.OutOfMemory error) = Unit {0}
 
--- the count of failed reads goes up by one exactly at a failed read
-abbrev pub CountsRead : {T : Type 0} → Result T DecodeFault → ℕ → ℕ → Type 0
+-- the count of failed reads goes up by one exactly at a failed read, and no write fails
+abbrev pub CountsRead : {T : Type 0} → Result T CertFault → ℕ → ℕ → Type 0
 CountsRead (Ok x) old new = new ≡ old
 CountsRead (Err fault.Read) old new = new ≡ old + 1
 CountsRead (Err (fault.OutOfMemory error)) old new = new ≡ old
 CountsRead (Err (fault.Form place)) old new = new ≡ old
+CountsRead (Err fault.Write) old new = ⊥
 
--- the count of failed writes goes up by one exactly at a failed write
-abbrev pub CountsWrite : {T : Type 0} → Result T EncodeFault → ℕ → ℕ → Type 0
+-- the count of failed writes goes up by one exactly at a failed write, and nothing is read
+abbrev pub CountsWrite : {T : Type 0} → Result T CertFault → ℕ → ℕ → Type 0
 CountsWrite (Ok x) old new = new ≡ old
-CountsWrite (Err encode.Write) old new = new ≡ old + 1
-CountsWrite (Err (encode.OutOfMemory error)) old new = new ≡ old
+CountsWrite (Err fault.Write) old new = new ≡ old + 1
+CountsWrite (Err (fault.OutOfMemory error)) old new = new ≡ old
+CountsWrite (Err (fault.Form place)) old new = ⊥
+CountsWrite (Err fault.Read) old new = ⊥
 
 -- bytes are left, where they are known
 abbrev pub IsMore : Option (List ℕ) → Type 0
@@ -105,19 +108,22 @@ pub record ReadsHeader (input : List ℕ) (header : ℕ × ℕ) (new : Option (L
   pub spelled : input ≡ header_of header.0 header.1 ++ rest
 
 -- the bytes are at fault
-abbrev pub IsFormFault : DecodeFault → Type 0
+abbrev pub IsFormFault : CertFault → Type 0
 IsFormFault (fault.Form place) = Unit {0}
 IsFormFault fault.Read = ⊥
+IsFormFault fault.Write = ⊥
 IsFormFault (fault.OutOfMemory error) = ⊥
 
 -- a read failed
-abbrev pub IsReadFault : DecodeFault → Type 0
+abbrev pub IsReadFault : CertFault → Type 0
 IsReadFault (fault.Form place) = ⊥
 IsReadFault fault.Read = Unit {0}
+IsReadFault fault.Write = ⊥
 IsReadFault (fault.OutOfMemory error) = ⊥
 
 -- memory ran out
-abbrev pub IsOutOfMemory : DecodeFault → Type 0
+abbrev pub IsOutOfMemory : CertFault → Type 0
 IsOutOfMemory (fault.Form place) = ⊥
 IsOutOfMemory fault.Read = ⊥
+IsOutOfMemory fault.Write = ⊥
 IsOutOfMemory (fault.OutOfMemory error) = Unit {0}

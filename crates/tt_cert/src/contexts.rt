@@ -16,7 +16,7 @@ ghost use Rattle.tt_cert.specs.Rules.{AreContexts, HaveParents, NumbersFit, is_a
 ghost use Rattle.tt_cert.specs.Sections.{Context};
 ghost use Rattle.tt_cert.specs.Text.{context_text};
 
-use crate::fault::DecodeFault;
+use crate::fault::CertFault;
 use crate::form::Form;
 use crate::units::{read_long, read_word, take_long, take_word};
 use std::alloc::{AllocError, Global};
@@ -92,7 +92,7 @@ fn read_numbers<S: Source>(
     source: &mut S,
     place: u64,
     before: &[(u32, Frame)],
-) -> Result<((u32, Frame), u64), DecodeFault>
+) -> Result<((u32, Frame), u64), CertFault>
     requires { HaveParents before.now }
     ensures reads { ReadsBy (context_at before.now) place result
         (S.remaining source.old) (S.remaining source.new) }
@@ -116,7 +116,7 @@ fn read_numbers<S: Source>(
     };
     let context = (u32::from(parent), frame);
     if !may_follow(before, &context) {
-        return Err(DecodeFault::Form(place));
+        return Err(CertFault::Form(place));
     }
     Ok((context, at))
 }
@@ -149,7 +149,7 @@ fn read_context<S: Source>(
     source: &mut S,
     place: u64,
     contexts: &mut Vec<(u32, Frame)>,
-) -> Result<u64, DecodeFault>
+) -> Result<u64, CertFault>
     requires parents { HaveParents contexts.old.items }
     requires room { vec_len contexts.old < vec_capacity contexts.old }
     ensures reads { ReadsOneMore context_at contexts.old.items contexts.new.items place result
@@ -180,7 +180,7 @@ fn read_context<S: Source>(
 ///
 /// # Errors
 /// As `read_word`, and `Form` with the number's place if it is too great for the form.
-fn read_count<S: Source>(source: &mut S, place: u64, form: Form) -> Result<(u16, u64), DecodeFault>
+fn read_count<S: Source>(source: &mut S, place: u64, form: Form) -> Result<(u16, u64), CertFault>
     ensures reads { ReadsBy (context_count_at form) place result
         (S.remaining source.old) (S.remaining source.new) }
     ensures few { IfOk result (λ r. r.0 ≤ most_contexts form) }
@@ -192,7 +192,7 @@ fn read_count<S: Source>(source: &mut S, place: u64, form: Form) -> Result<(u16,
 {
     let (count, at) = read_word(source, place)?;
     if count > form.most_contexts() {
-        return Err(DecodeFault::Form(place));
+        return Err(CertFault::Form(place));
     }
     Ok((count, at))
 }
@@ -206,7 +206,7 @@ fn read_context_list<S: Source>(
     source: &mut S,
     place: u64,
     count: u16,
-) -> Result<(Vec<(u32, Frame)>, u64), DecodeFault>
+) -> Result<(Vec<(u32, Frame)>, u64), CertFault>
     ensures reads { ReadsAs (λ v. v.items) (list_at context_at [] count) place result
         (S.remaining source.old) (S.remaining source.new) }
     ensures few { IfOk result (λ r. length r.0.items ≤ count) }
@@ -235,7 +235,7 @@ pub(crate) fn read_contexts<S: Source>(
     source: &mut S,
     place: u64,
     form: Form,
-) -> Result<(Vec<(u32, Frame)>, u64), DecodeFault>
+) -> Result<(Vec<(u32, Frame)>, u64), CertFault>
     ensures reads { ReadsAs (λ v. v.items) (contexts_at form) place result
         (S.remaining source.old) (S.remaining source.new) }
     ensures few { IfOk result (λ r. length r.0.items ≤ most_contexts form) }

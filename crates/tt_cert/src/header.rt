@@ -10,7 +10,7 @@ ghost use Rattle.tt_cert.specs.Forms.{IsFormNumber};
 ghost use Rattle.tt_cert.specs.Reading.{form_at, header_at, header_numbers_at, magic_at};
 ghost use Rattle.tt_cert.specs.Text.{header_of};
 
-use crate::fault::{DecodeFault, EncodeFault};
+use crate::fault::CertFault;
 use crate::form::Form;
 use crate::units::{read_long, read_word};
 use tt_stream::{Sink, Source, read_full, write_all};
@@ -23,7 +23,7 @@ const MAGIC: u32 = 0x4843_5254;
 /// # Errors
 /// As `read_header`.
 #[tactic(auto, unfolding(crate::specs::Reading::magic_at))]
-fn read_magic<S: Source>(source: &mut S, place: u64) -> Result<(u32, u64), DecodeFault>
+fn read_magic<S: Source>(source: &mut S, place: u64) -> Result<(u32, u64), CertFault>
     ensures reads { ReadsBy magic_at place result
         (S.remaining source.old) (S.remaining source.new) }
     ensures beginning { ConsumesBeginning (S.remaining source.old) (S.remaining source.new) }
@@ -34,7 +34,7 @@ fn read_magic<S: Source>(source: &mut S, place: u64) -> Result<(u32, u64), Decod
 {
     let (magic, at) = read_long(source, place)?;
     if magic != MAGIC {
-        return Err(DecodeFault::Form(place));
+        return Err(CertFault::Form(place));
     }
     Ok((magic, at))
 }
@@ -44,7 +44,7 @@ fn read_magic<S: Source>(source: &mut S, place: u64) -> Result<(u32, u64), Decod
 /// # Errors
 /// As `read_header`.
 #[tactic(auto, unfolding(crate::specs::Reading::form_at))]
-fn read_form_at<S: Source>(source: &mut S, place: u64) -> Result<(Form, u64), DecodeFault>
+fn read_form_at<S: Source>(source: &mut S, place: u64) -> Result<(Form, u64), CertFault>
     ensures reads { ReadsBy form_at place result (S.remaining source.old) (S.remaining source.new) }
     ensures beginning { ConsumesBeginning (S.remaining source.old) (S.remaining source.new) }
     ensures stopped { StopsWhole form_at place result
@@ -55,7 +55,7 @@ fn read_form_at<S: Source>(source: &mut S, place: u64) -> Result<(Form, u64), De
     let (number, at) = read_word(source, place)?;
     match Form::with_number(number) {
         Some(form) => Ok((form, at)),
-        None => Err(DecodeFault::Form(place)),
+        None => Err(CertFault::Form(place)),
     }
 }
 
@@ -64,7 +64,7 @@ fn read_form_at<S: Source>(source: &mut S, place: u64) -> Result<(Form, u64), De
 /// # Errors
 /// As `read_header`.
 #[tactic(auto, unfolding(crate::specs::Reading::header_at))]
-fn read_header_at<S: Source>(source: &mut S, place: u64) -> Result<((Form, u32), u64), DecodeFault>
+fn read_header_at<S: Source>(source: &mut S, place: u64) -> Result<((Form, u32), u64), CertFault>
     ensures reads { ReadsBy header_at place result
         (S.remaining source.old) (S.remaining source.new) }
     ensures beginning { ConsumesBeginning (S.remaining source.old) (S.remaining source.new) }
@@ -83,7 +83,7 @@ fn read_header_at<S: Source>(source: &mut S, place: u64) -> Result<((Form, u32),
 ///
 /// # Errors
 /// As `read_header`.
-pub fn read_form<S: Source>(source: &mut S) -> Result<(Form, u32), DecodeFault>
+pub fn read_form<S: Source>(source: &mut S) -> Result<(Form, u32), CertFault>
     ensures exact { GivesHeader (S.remaining source.old) (S.remaining source.new) result
         (header_at (input_at 0 (S.remaining source.old))) }
     ensures beginning { ConsumesBeginning (S.remaining source.old) (S.remaining source.new) }
@@ -104,7 +104,7 @@ pub fn read_form<S: Source>(source: &mut S) -> Result<(Form, u32), DecodeFault>
 /// `Form` with the place of the field that is wrong, or of the input's end where that comes too
 /// early; `Read` exactly where a read failed. Then some beginning of what is left was read, and at
 /// `Read` no field of it that is whole is wrong.
-pub fn read_header<S: Source>(source: &mut S) -> Result<(u16, u32), DecodeFault>
+pub fn read_header<S: Source>(source: &mut S) -> Result<(u16, u32), CertFault>
     ensures form { IfOk result (λ header. IsFormNumber header.0) }
     // What is read was at the beginning of the input, of which no more is read.
     ensures found { IfOk result (λ header. (input : List ℕ)
@@ -134,12 +134,12 @@ pub fn read_header<S: Source>(source: &mut S) -> Result<(u16, u32), DecodeFault>
 /// # Errors
 /// `Form` with the place of the first byte that follows; `Read` exactly where a read failed, and
 /// then nothing was read.
-pub fn read_end<S: Source>(source: &mut S, place: u64) -> Result<(), DecodeFault>
+pub fn read_end<S: Source>(source: &mut S, place: u64) -> Result<(), CertFault>
     ensures ended { OnOk result
         (IsAtEnd (S.remaining source.old) × IsAtEnd (S.remaining source.new)) }
-    ensures followed { IfErr result (λ fault. (p : ℕ) → fault ≡ DecodeFault.Form p
+    ensures followed { IfErr result (λ fault. (p : ℕ) → fault ≡ CertFault.Form p
         → (p ≡ place) × IsMore (S.remaining source.old)) }
-    ensures unread { IfErr result (λ fault. fault ≡ DecodeFault.Read
+    ensures unread { IfErr result (λ fault. fault ≡ CertFault.Read
         → Keeps (S.remaining source.old) (S.remaining source.new)) }
     ensures beginning { ConsumesBeginning (S.remaining source.old) (S.remaining source.new) }
     ensures failures { CountsRead result (S.failures source.old) (S.failures source.new) }
@@ -147,7 +147,7 @@ pub fn read_end<S: Source>(source: &mut S, place: u64) -> Result<(), DecodeFault
 {
     let mut byte = [0u8; 1];
     if read_full(source, &mut byte)? > 0 {
-        return Err(DecodeFault::Form(place));
+        return Err(CertFault::Form(place));
     }
     Ok(())
 }
@@ -157,14 +157,14 @@ pub fn read_end<S: Source>(source: &mut S, place: u64) -> Result<(), DecodeFault
 /// # Errors
 /// `Write` exactly where a write failed; then a beginning of the header was written, perhaps an
 /// empty one.
-pub fn write_header<W: Sink>(form: u16, sections: u32, sink: &mut W) -> Result<(), EncodeFault>
+pub fn write_header<W: Sink>(form: u16, sections: u32, sink: &mut W) -> Result<(), CertFault>
     requires newest { form ≡ 4 }
     ensures written { OnOk result
         (Appends (W.contents sink.old) (W.contents sink.new) (header_of form sections)) }
     ensures beginning { OnErr result
         (AppendsBeginning (W.contents sink.old) (W.contents sink.new) (header_of form sections)) }
     ensures failures { CountsWrite result (W.failures sink.old) (W.failures sink.new) }
-    ensures memory { IfErr result (λ fault. fault ≡ EncodeFault.Write) }
+    ensures memory { IfErr result (λ fault. fault ≡ CertFault.Write) }
 {
     let [m3, m2, m1, m0] = MAGIC.to_be_bytes();
     let [f1, f0] = form.to_be_bytes();

@@ -15,7 +15,7 @@ mod states;
 mod units;
 mod writing;
 
-pub use fault::{DecodeFault, EncodeFault};
+pub use fault::CertFault;
 pub use form::{Form, NEWEST_FORM};
 pub use header::{read_end, read_form, read_header, write_header};
 pub use laws::{no_section_begins_another, one_family_of_a_text, one_text_of_a_family};

@@ -14,7 +14,7 @@ ghost use Rattle.tt_cert.specs.Readers.{list_at};
 ghost use Rattle.tt_cert.specs.Reading.{function_at, functions_at, storage_at, stored_at};
 ghost use Rattle.tt_cert.specs.Rules.{is_above, last_of};
 
-use crate::fault::DecodeFault;
+use crate::fault::CertFault;
 use crate::form::Form;
 use crate::stack_text::StackText;
 use crate::units::{pair_of, read_cell, read_pair, read_word};
@@ -64,7 +64,7 @@ fn read_rest<S: Source>(source: &mut S, buf: &mut [u8], held: usize) -> Result<u
 
 /// Takes the cells that are whole in these bytes, after those before them, and returns how many
 /// bytes are left of one more.
-fn take_cells(cells: &mut Vec<Cell>, place: u64, bytes: &[u8]) -> Result<usize, DecodeFault>
+fn take_cells(cells: &mut Vec<Cell>, place: u64, bytes: &[u8]) -> Result<usize, CertFault>
     ensures { TakesCells result cells.old.items cells.new.items place bytes.now }
 {
     let mut left = bytes;
@@ -84,7 +84,7 @@ fn take_cells(cells: &mut Vec<Cell>, place: u64, bytes: &[u8]) -> Result<usize, 
                 at = at.saturating_add(5);
                 left = after;
             }
-            _ => return Err(DecodeFault::Form(at)),
+            _ => return Err(CertFault::Form(at)),
         }
     }
     Ok(0)
@@ -100,7 +100,7 @@ fn cut_cells(
     place: u64,
     bytes: &[u8],
     count: usize,
-) -> Result<(usize, usize), DecodeFault>
+) -> Result<(usize, usize), CertFault>
     requires room { start + length bytes.now < 2 ^ 64 }
     ensures few { IfOk result (λ r. r.0 ≤ 64) }
     ensures used { IfOk result (λ r. r.1 ≤ length bytes.now) }
@@ -134,7 +134,7 @@ fn cut_cells(
             }
             _ => {
                 let broken = bytes.len() - left.len();
-                return Err(DecodeFault::Form(place.saturating_add(broken as u64)));
+                return Err(CertFault::Form(place.saturating_add(broken as u64)));
             }
         }
         taken += 1;
@@ -151,7 +151,7 @@ pub(crate) fn take_ahead_cells<S: Source>(
     count: usize,
     cells: &mut [Cell; BLOCK],
     text: &mut StackText,
-) -> Result<(usize, u64), DecodeFault>
+) -> Result<(usize, u64), CertFault>
     ensures few { IfOk result (λ r. r.0 ≤ 64) }
     ensures reads { IfOk result (λ r. ReadsMoreCells (Ok r.1)
         (S.remaining source.old) (S.remaining source.new) [] (take r.0 cells.new) place count) }
@@ -179,7 +179,7 @@ fn read_rest_of_cell<S: Source>(
     place: u64,
     begun: &[u8],
     cells: &mut Vec<Cell>,
-) -> Result<u64, DecodeFault>
+) -> Result<u64, CertFault>
     requires { length begun.now ≤ 4 }
     ensures reads { ReadsRest result (S.remaining source.old) (S.remaining source.new)
         begun.now cells.old.items cells.new.items place }
@@ -194,7 +194,7 @@ fn read_rest_of_cell<S: Source>(
     let more = read_rest(source, &mut number, held)?;
     let after = place.saturating_add(1 + held as u64 + more as u64);
     if held + more < 4 {
-        return Err(DecodeFault::Form(after));
+        return Err(CertFault::Form(after));
     }
     cells.push(Cell::Known(i32::from_be_bytes(number)))?;
     Ok(after)
@@ -206,7 +206,7 @@ fn read_one_cell<S: Source>(
     place: u64,
     count: usize,
     cells: &mut Vec<Cell>,
-) -> Result<u64, DecodeFault>
+) -> Result<u64, CertFault>
     requires { length cells.old.items < count }
     ensures reads { ReadsCells result (S.remaining source.old) (S.remaining source.new)
         cells.old.items cells.new.items place count }
@@ -229,7 +229,7 @@ fn fetch_cell_block<S: Source>(
     place: u64,
     count: usize,
     cells: &mut Vec<Cell>,
-) -> Result<u64, DecodeFault>
+) -> Result<u64, CertFault>
     requires { length cells.old.items < count }
     ensures reads { ReadsCells result (S.remaining source.old) (S.remaining source.new)
         cells.old.items cells.new.items place count }
@@ -247,7 +247,7 @@ fn fetch_cell_block<S: Source>(
         filled += more;
         let at = place.saturating_add(taken as u64);
         if more == 0 {
-            return Err(DecodeFault::Form(place.saturating_add(filled as u64)));
+            return Err(CertFault::Form(place.saturating_add(filled as u64)));
         }
         let over = take_cells(cells, at, &bytes[taken..filled])?;
         taken = filled - over;
@@ -266,7 +266,7 @@ pub(crate) fn read_cell_block<S: Source>(
     place: u64,
     count: usize,
     cells: &mut Vec<Cell>,
-) -> Result<u64, DecodeFault>
+) -> Result<u64, CertFault>
     requires { length cells.old.items < count }
     ensures reads { ReadsCells result (S.remaining source.old) (S.remaining source.new)
         cells.old.items cells.new.items place count }
@@ -297,7 +297,7 @@ fn take_functions(
     functions: &mut Vec<(u16, u32)>,
     place: u64,
     bytes: &[u8],
-) -> Result<usize, DecodeFault>
+) -> Result<usize, CertFault>
     ensures takes { Takes result functions.old.items functions.new.items place bytes.now }
     ensures ascends { Ascends functions.old.items → OnOk result (Ascends functions.new.items) }
 {
@@ -307,7 +307,7 @@ fn take_functions(
     'functions: while let Some((unit, rest)) = left.split_first_chunk::<FUNCTION>() {
         let function = pair_of(*unit);
         if !is_next(functions, function) {
-            return Err(DecodeFault::Form(at));
+            return Err(CertFault::Form(at));
         }
         functions.push(function)?;
         at = at.saturating_add(FUNCTION as u64);
@@ -323,7 +323,7 @@ fn fetch_function_block<S: Source>(
     place: u64,
     count: usize,
     functions: &mut Vec<(u16, u32)>,
-) -> Result<u64, DecodeFault>
+) -> Result<u64, CertFault>
     requires { count ≤ 64 }
     ensures reads { ReadsBlock result (S.remaining source.old) (S.remaining source.new)
         functions.old.items functions.new.items place count }
@@ -342,7 +342,7 @@ fn fetch_function_block<S: Source>(
         filled += more;
         let at = place.saturating_add(taken as u64);
         if more == 0 {
-            return Err(DecodeFault::Form(place.saturating_add(filled as u64)));
+            return Err(CertFault::Form(place.saturating_add(filled as u64)));
         }
         let over = take_functions(functions, at, &bytes[taken..filled])?;
         taken = filled - over;
@@ -357,7 +357,7 @@ fn read_function_block<S: Source>(
     place: u64,
     count: usize,
     functions: &mut Vec<(u16, u32)>,
-) -> Result<u64, DecodeFault>
+) -> Result<u64, CertFault>
     requires { count ≤ 64 }
     ensures reads { ReadsBlock result (S.remaining source.old) (S.remaining source.new)
         functions.old.items functions.new.items place count }
@@ -383,7 +383,7 @@ fn read_function_list<S: Source>(
     place: u64,
     count: u16,
     functions: &mut Vec<(u16, u32)>,
-) -> Result<u64, DecodeFault>
+) -> Result<u64, CertFault>
     ensures reads { ReadsInto functions.new.items (list_at function_at [] count) place result
         (S.remaining source.old) (S.remaining source.new) }
     ensures ascends { OnOk result (Ascends functions.new.items) }
@@ -461,7 +461,7 @@ fn read_others<S: Source>(
     place: u64,
     count: u16,
     functions: &mut Functions,
-) -> Result<u64, DecodeFault>
+) -> Result<u64, CertFault>
     ensures reads { ReadsInto functions.new.list.items (list_at function_at [] count) place result
         (S.remaining source.old) (S.remaining source.new) }
     ensures kept { OnOk result (AreKept functions.new.text.items functions.new.list.items) }
@@ -492,7 +492,7 @@ fn read_listed<S: Source>(
     place: u64,
     count: u16,
     functions: &mut Functions,
-) -> Result<u64, DecodeFault>
+) -> Result<u64, CertFault>
     requires { AreKept functions.old.text.items functions.old.list.items }
     ensures reads { ReadsInto functions.new.list.items (list_at function_at [] count) place result
         (S.remaining source.old) (S.remaining source.new) }
@@ -520,7 +520,7 @@ pub(crate) fn read_functions<S: Source>(
     source: &mut S,
     place: u64,
     functions: &mut Functions,
-) -> Result<u64, DecodeFault>
+) -> Result<u64, CertFault>
     requires { AreKept functions.old.text.items functions.old.list.items }
     ensures reads { ReadsInto functions.new.list.items functions_at place result
         (S.remaining source.old) (S.remaining source.new) }
@@ -542,7 +542,7 @@ fn read_stored<S: Source>(
     source: &mut S,
     place: u64,
     before: &[(u16, i32)],
-) -> Result<((u16, i32), u64), DecodeFault>
+) -> Result<((u16, i32), u64), CertFault>
     ensures reads { ReadsBy (stored_at before.now) place result
         (S.remaining source.old) (S.remaining source.new) }
     ensures above { IfOk result (λ r. is_above (last_of before.now) r.0 ≡ true) }
@@ -556,7 +556,7 @@ fn read_stored<S: Source>(
     if let Some(last) = before.last()
         && index <= last.0
     {
-        return Err(DecodeFault::Form(place));
+        return Err(CertFault::Form(place));
     }
     Ok(((index, number.cast_signed()), after))
 }
@@ -567,7 +567,7 @@ fn read_storage_list<S: Source>(
     place: u64,
     count: u16,
     cells: &mut Vec<(u16, i32)>,
-) -> Result<u64, DecodeFault>
+) -> Result<u64, CertFault>
     ensures reads { ReadsInto cells.new.items (list_at stored_at [] count) place result
         (S.remaining source.old) (S.remaining source.new) }
     ensures ascends { OnOk result (Ascends cells.new.items) }
@@ -594,7 +594,7 @@ pub(crate) fn read_storage<S: Source>(
     place: u64,
     form: Form,
     cells: &mut Vec<(u16, i32)>,
-) -> Result<u64, DecodeFault>
+) -> Result<u64, CertFault>
     ensures reads { ReadsInto cells.new.items (storage_at form) place result
         (S.remaining source.old) (S.remaining source.new) }
     ensures ascends { OnOk result (Ascends cells.new.items) }

@@ -16,7 +16,7 @@ ghost use Rattle.tt_cert.specs.Text.{section_text};
 ghost use Rattle.tt_cert.specs.declared.name.Name.{Name as ProgramName};
 
 use crate::contexts::{builder_of, read_contexts};
-use crate::fault::DecodeFault;
+use crate::fault::CertFault;
 use crate::form::Form;
 use crate::name::Name;
 use crate::states::{LastState, read_states};
@@ -39,7 +39,7 @@ fn read_section<S: Source>(
     form: Form,
     spare: Builder,
     state: &mut LastState,
-) -> Result<((Name, Certificate), u64), DecodeFault>
+) -> Result<((Name, Certificate), u64), CertFault>
     requires spare { IsEmptyBuilder spare }
     requires before { IsLast state.old }
     ensures reads { ReadsAs (λ x. section_of x.0 x.1) (section_at form) place result
@@ -148,7 +148,7 @@ impl Decoder {
         source: &mut S,
         start: u64,
         form: Form,
-    ) -> Result<(Name, Certificate, u64), DecodeFault>
+    ) -> Result<(Name, Certificate, u64), CertFault>
         // What is read was at the beginning of the input, of which no more is read.
         ensures found { IfOk result (λ r. (input : List ℕ)
             → S.remaining source.old ≡ Some input → AreBytes input
@@ -195,7 +195,7 @@ impl Decoder {
         source: &mut S,
         start: u64,
         form: Form,
-    ) -> Result<(Name, &Certificate, u64), DecodeFault>
+    ) -> Result<(Name, &Certificate, u64), CertFault>
         // What is read was at the beginning of the input, of which no more is read.
         ensures found { IfOk result (λ r. (input : List ℕ)
             → S.remaining source.old ≡ Some input → AreBytes input
@@ -245,7 +245,7 @@ pub fn decode<S: Source>(
     source: &mut S,
     start: u64,
     form: u16,
-) -> Result<(Name, Certificate, u64), DecodeFault>
+) -> Result<(Name, Certificate, u64), CertFault>
     requires { IsFormNumber form }
     // What is read was at the beginning of the input, of which no more is read.
     ensures found { IfOk result (λ r. (input : List ℕ)

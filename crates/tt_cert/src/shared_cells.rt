@@ -12,7 +12,7 @@ ghost use Rattle.tt_cert.specs.Representation.Clauses.{ReadsInto, StopsWhole};
 ghost use Rattle.tt_cert.specs.Representation.KeptTexts.{AreWithin, IsStackText};
 ghost use Rattle.tt_cert.specs.Representation.SharedCells.{AreAhead, IsStackKept};
 
-use crate::fault::DecodeFault;
+use crate::fault::CertFault;
 use crate::lists::{BLOCK, read_cell_block, take_ahead_cells};
 use crate::stack_text::StackText;
 use crate::units::read_word;
@@ -128,7 +128,7 @@ fn take_new<S: Source>(
     count: usize,
     state: &mut State,
     text: &mut StackText,
-) -> Result<u64, DecodeFault>
+) -> Result<u64, CertFault>
     requires kept { IsStackKept text.old state.old }
     requires few { length state.old.stack ≤ count }
     requires room { count ≤ 65535 }
@@ -157,7 +157,7 @@ fn fetch_new<S: Source>(
     count: usize,
     state: &mut State,
     last: &mut LastStack,
-) -> Result<u64, DecodeFault>
+) -> Result<u64, CertFault>
     requires kept { IsStackKept last.old.text state.old }
     requires some { length state.old.stack < count }
     requires room { count ≤ 65535 }
@@ -186,7 +186,7 @@ fn read_new<S: Source>(
     count: usize,
     state: &mut State,
     last: &mut LastStack,
-) -> Result<u64, DecodeFault>
+) -> Result<u64, CertFault>
     requires kept { IsStackKept last.old.text state.old }
     requires some { length state.old.stack < count }
     requires room { count ≤ 65535 }
@@ -215,7 +215,7 @@ fn read_stack_cells<S: Source>(
     count: u16,
     state: &mut State,
     last: &mut LastStack,
-) -> Result<u64, DecodeFault>
+) -> Result<u64, CertFault>
     requires { IsStackKept last.old.text state.old }
     ensures reads { ReadsInto (reverse state.new.stack) (cells_at [] count) place result
         (S.remaining source.old) (S.remaining source.new) }
@@ -242,7 +242,7 @@ pub(crate) fn read_stack<S: Source>(
     place: u64,
     state: &mut State,
     last: &mut LastStack,
-) -> Result<u64, DecodeFault>
+) -> Result<u64, CertFault>
     requires { IsStackKept last.old.text state.old }
     ensures reads { ReadsInto (reverse state.new.stack) stack_at place result
         (S.remaining source.old) (S.remaining source.new) }

@@ -10,7 +10,7 @@ ghost use Rattle.tt_cert.specs.Rules.{is_next_point as is_next_point_after, last
 ghost use Rattle.tt_cert.specs.Representation.Clauses.{ReadsAs, ReadsBy, ReadsInto, StopsWhole, entries_at};
 ghost use Rattle.tt_cert.specs.Representation.SharedCells.{IsLast};
 
-use crate::fault::DecodeFault;
+use crate::fault::CertFault;
 use crate::form::Form;
 use crate::lists::{Functions, read_functions, read_storage};
 use crate::shared_cells::{LastStack, read_stack};
@@ -150,7 +150,7 @@ fn read_state<S: Source>(
     place: u64,
     form: Form,
     last: &mut LastState,
-) -> Result<u64, DecodeFault>
+) -> Result<u64, CertFault>
     requires { IsLast last.old }
     ensures reads { ReadsInto last.new.state (state_at form) place result
         (S.remaining source.old) (S.remaining source.new) }
@@ -189,7 +189,7 @@ fn read_point<S: Source>(
     place: u64,
     contexts: u32,
     last: Option<(u32, u32)>,
-) -> Result<((u32, u32), u64), DecodeFault>
+) -> Result<((u32, u32), u64), CertFault>
     ensures reads { ReadsBy (point_at contexts last) place result
         (S.remaining source.old) (S.remaining source.new) }
     ensures follows { IfOk result (λ r. is_next_point_after contexts last r.0 ≡ true) }
@@ -202,7 +202,7 @@ fn read_point<S: Source>(
     let ((context, offset), after) = read_pair(source, place)?;
     let point = (u32::from(context), offset);
     if !is_next_point(contexts, last, point) {
-        return Err(DecodeFault::Form(place));
+        return Err(CertFault::Form(place));
     }
     Ok((point, after))
 }
@@ -219,7 +219,7 @@ fn read_entry<S: Source>(
     contexts: u32,
     last: Option<(u32, u32)>,
     state: &mut LastState,
-) -> Result<((u32, u32), u64), DecodeFault>
+) -> Result<((u32, u32), u64), CertFault>
     requires { IsLast state.old }
     ensures reads { ReadsAs (λ point. (point, state.new.state)) (entry_after form contexts last)
         place result (S.remaining source.old) (S.remaining source.new) }
@@ -273,7 +273,7 @@ fn read_state_list<S: Source>(
     form: Form,
     count: u32,
     state: &mut LastState,
-) -> Result<(Builder, u64), DecodeFault>
+) -> Result<(Builder, u64), CertFault>
     requires empty { builder.states ≡ [] }
     requires before { IsLast state.old }
     ensures reads { ReadsAs (λ x. x.states) (entries_at form (length builder.contexts) count)
@@ -310,7 +310,7 @@ pub(crate) fn read_states<S: Source>(
     place: u64,
     form: Form,
     state: &mut LastState,
-) -> Result<(Builder, u64), DecodeFault>
+) -> Result<(Builder, u64), CertFault>
     requires empty { builder.states ≡ [] }
     requires before { IsLast state.old }
     ensures reads { ReadsAs (λ x. x.states) (states_at form (length builder.contexts))

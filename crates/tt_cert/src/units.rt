@@ -9,7 +9,7 @@ ghost use Rattle.tt_cert.specs.Rules.{CellFits, GraphicsFits};
 ghost use Rattle.tt_cert.specs.Text.{cell_text, graphics_text, long, word, zone_text};
 ghost use Rattle.tt_cert.specs.Reading.{cell_at, graphics_at, long_at, name_at, pair_at, pair_from, word_at, zone_at};
 
-use crate::fault::DecodeFault;
+use crate::fault::CertFault;
 use crate::name::Name;
 use tt_abs::{Cell, ZoneCell};
 use tt_code::Graphics;
@@ -24,7 +24,7 @@ use tt_stream::{Source, read_full};
 fn fetch_unit<S: Source, const N: usize>(
     source: &mut S,
     place: u64,
-) -> Result<([u8; N], u64), DecodeFault>
+) -> Result<([u8; N], u64), CertFault>
     ensures reads { ReadsBy (unit N) place result
         (S.remaining source.old) (S.remaining source.new) }
     ensures beginning { ConsumesBeginning (S.remaining source.old) (S.remaining source.new) }
@@ -37,7 +37,7 @@ fn fetch_unit<S: Source, const N: usize>(
     let count = read_full(source, &mut bytes)?;
     let after = place.saturating_add(count as u64);
     if count < N {
-        return Err(DecodeFault::Form(after));
+        return Err(CertFault::Form(after));
     }
     Ok((bytes, after))
 }
@@ -50,7 +50,7 @@ fn fetch_unit<S: Source, const N: usize>(
 fn read_unit<S: Source, const N: usize>(
     source: &mut S,
     place: u64,
-) -> Result<([u8; N], u64), DecodeFault>
+) -> Result<([u8; N], u64), CertFault>
     ensures reads { ReadsBy (unit N) place result
         (S.remaining source.old) (S.remaining source.new) }
     ensures beginning { ConsumesBeginning (S.remaining source.old) (S.remaining source.new) }
@@ -72,7 +72,7 @@ fn read_unit<S: Source, const N: usize>(
 /// # Errors
 /// As `read_unit`.
 #[tactic(auto, unfolding(crate::specs::Reading::word_at))]
-pub(crate) fn read_word<S: Source>(source: &mut S, place: u64) -> Result<(u16, u64), DecodeFault>
+pub(crate) fn read_word<S: Source>(source: &mut S, place: u64) -> Result<(u16, u64), CertFault>
     ensures reads { ReadsBy word_at place result (S.remaining source.old) (S.remaining source.new) }
     ensures beginning { ConsumesBeginning (S.remaining source.old) (S.remaining source.new) }
     ensures stopped { StopsWhole word_at place result
@@ -89,7 +89,7 @@ pub(crate) fn read_word<S: Source>(source: &mut S, place: u64) -> Result<(u16, u
 /// # Errors
 /// As `read_unit`.
 #[tactic(auto, unfolding(crate::specs::Reading::long_at))]
-pub(crate) fn read_long<S: Source>(source: &mut S, place: u64) -> Result<(u32, u64), DecodeFault>
+pub(crate) fn read_long<S: Source>(source: &mut S, place: u64) -> Result<(u32, u64), CertFault>
     ensures reads { ReadsBy long_at place result (S.remaining source.old) (S.remaining source.new) }
     ensures beginning { ConsumesBeginning (S.remaining source.old) (S.remaining source.new) }
     ensures stopped { StopsWhole long_at place result
@@ -119,7 +119,7 @@ pub(crate) fn pair_of(unit: [u8; 6]) -> (u16, u32)
 pub(crate) fn read_pair<S: Source>(
     source: &mut S,
     place: u64,
-) -> Result<((u16, u32), u64), DecodeFault>
+) -> Result<((u16, u32), u64), CertFault>
     ensures reads { ReadsBy pair_at place result (S.remaining source.old) (S.remaining source.new) }
     ensures beginning { ConsumesBeginning (S.remaining source.old) (S.remaining source.new) }
     ensures stopped { StopsWhole pair_at place result
@@ -136,7 +136,7 @@ pub(crate) fn read_pair<S: Source>(
 /// # Errors
 /// As `read_unit`, and `Form` with the unit's place if it is no name.
 #[tactic(auto, unfolding(crate::specs::Reading::name_at))]
-pub(crate) fn read_name<S: Source>(source: &mut S, place: u64) -> Result<(Name, u64), DecodeFault>
+pub(crate) fn read_name<S: Source>(source: &mut S, place: u64) -> Result<(Name, u64), CertFault>
     ensures reads { ReadsBy name_at place result (S.remaining source.old) (S.remaining source.new) }
     ensures beginning { ConsumesBeginning (S.remaining source.old) (S.remaining source.new) }
     ensures stopped { StopsWhole name_at place result
@@ -151,7 +151,7 @@ pub(crate) fn read_name<S: Source>(source: &mut S, place: u64) -> Result<(Name, 
         (2, id) => Ok((Name::Glyph(id), after)),
         (0, 0) => Ok((Name::Font, after)),
         (1, 0) => Ok((Name::Cvt, after)),
-        _ => Err(DecodeFault::Form(place)),
+        _ => Err(CertFault::Form(place)),
     }
 }
 
@@ -161,7 +161,7 @@ pub(crate) fn read_name<S: Source>(source: &mut S, place: u64) -> Result<(Name, 
 /// As `read_unit`, and `Form` with the tag's place if it is neither 0 nor 1.
 #[inline]
 #[tactic(auto, unfolding(crate::specs::Reading::cell_at))]
-pub(crate) fn read_cell<S: Source>(source: &mut S, place: u64) -> Result<(Cell, u64), DecodeFault>
+pub(crate) fn read_cell<S: Source>(source: &mut S, place: u64) -> Result<(Cell, u64), CertFault>
     ensures reads { ReadsBy cell_at place result (S.remaining source.old) (S.remaining source.new) }
     ensures beginning { ConsumesBeginning (S.remaining source.old) (S.remaining source.new) }
     ensures stopped { StopsWhole cell_at place result
@@ -177,7 +177,7 @@ pub(crate) fn read_cell<S: Source>(source: &mut S, place: u64) -> Result<(Cell, 
             let (number, after) = read_unit::<S, 4>(source, after)?;
             Ok((Cell::Known(i32::from_be_bytes(number)), after))
         }
-        _ => Err(DecodeFault::Form(place)),
+        _ => Err(CertFault::Form(place)),
     }
 }
 
@@ -187,7 +187,7 @@ pub(crate) fn read_cell<S: Source>(source: &mut S, place: u64) -> Result<(Cell, 
 /// As `read_unit`, and `Form` with the unit's place if it is above 2.
 #[inline]
 #[tactic(auto, unfolding(crate::specs::Reading::zone_at))]
-fn read_zone<S: Source>(source: &mut S, place: u64) -> Result<(ZoneCell, u64), DecodeFault>
+fn read_zone<S: Source>(source: &mut S, place: u64) -> Result<(ZoneCell, u64), CertFault>
     ensures reads { ReadsBy zone_at place result (S.remaining source.old) (S.remaining source.new) }
     ensures beginning { ConsumesBeginning (S.remaining source.old) (S.remaining source.new) }
     ensures stopped { StopsWhole zone_at place result
@@ -201,7 +201,7 @@ fn read_zone<S: Source>(source: &mut S, place: u64) -> Result<(ZoneCell, u64), D
         0 => Ok((ZoneCell::Zero, after)),
         1 => Ok((ZoneCell::One, after)),
         2 => Ok((ZoneCell::Either, after)),
-        _ => Err(DecodeFault::Form(place)),
+        _ => Err(CertFault::Form(place)),
     }
 }
 
@@ -215,7 +215,7 @@ fn read_zone<S: Source>(source: &mut S, place: u64) -> Result<(ZoneCell, u64), D
 fn read_registers<S: Source>(
     source: &mut S,
     place: u64,
-) -> Result<(Graphics<Cell, ZoneCell>, u64), DecodeFault>
+) -> Result<(Graphics<Cell, ZoneCell>, u64), CertFault>
     ensures reads { ReadsBy graphics_at place result
         (S.remaining source.old) (S.remaining source.new) }
     ensures beginning { ConsumesBeginning (S.remaining source.old) (S.remaining source.new) }
@@ -320,7 +320,7 @@ fn take_graphics(bytes: &[u8]) -> Option<(Graphics<Cell, ZoneCell>, &[u8])>
 pub(crate) fn read_graphics<S: Source>(
     source: &mut S,
     place: u64,
-) -> Result<(Graphics<Cell, ZoneCell>, u64), DecodeFault>
+) -> Result<(Graphics<Cell, ZoneCell>, u64), CertFault>
     ensures reads { ReadsBy graphics_at place result
         (S.remaining source.old) (S.remaining source.new) }
     ensures beginning { ConsumesBeginning (S.remaining source.old) (S.remaining source.new) }

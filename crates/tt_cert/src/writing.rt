@@ -18,7 +18,7 @@ ghost use Rattle.tt_cert.specs.Rules.{AreCallsInTurn, CallFits, Fits, HasRoom, I
 ghost use Rattle.tt_cert.specs.Sections.{contexts_in, section_of};
 ghost use Rattle.tt_cert.specs.Text.{cell_text, context_text, counted, graphics_text, long, name_text, pair_text, section_text, state_text, stored_text, word, zone_text};
 
-use crate::fault::EncodeFault;
+use crate::fault::CertFault;
 use crate::form::Form;
 use crate::lists::BLOCK;
 use crate::name::Name;
@@ -446,7 +446,7 @@ impl Encoder {
         name: Name,
         certificate: &Certificate,
         sink: &mut W,
-    ) -> Result<(), EncodeFault>
+    ) -> Result<(), CertFault>
         ensures written { OnOk result (Appends (W.contents sink.old) (W.contents sink.new)
             (family_text Form.Four name certificate.now)) }
         // The section keeps the rules by which it is read, if in each context each call is in one
@@ -479,7 +479,7 @@ pub fn encode<W: Sink>(
     name: Name,
     certificate: &Certificate,
     sink: &mut W,
-) -> Result<(), EncodeFault>
+) -> Result<(), CertFault>
     ensures written { OnOk result (Appends (W.contents sink.old) (W.contents sink.new)
         (family_text Form.Four name certificate.now)) }
     // The section keeps the rules by which it is read, if in each context each call is in one of

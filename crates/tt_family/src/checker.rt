@@ -25,7 +25,7 @@ use crate::listing::{Listing, added_after};
 use crate::meeting::{Coverage, check_covered, check_successors};
 use crate::states::States;
 use std::alloc::Global;
-use tt_abs::{Failed, Kind, Point, Refusal, Setting, Spot, StepFault, step_at};
+use tt_abs::{Failed, Kind, Point, Refusal, Setting, StepFault, step_at};
 use tt_code::Reason;
 
 /// Whether the indexes of these storage cells are below the limit.
@@ -210,11 +210,10 @@ fn check_listed(
 {
     certificate.order_facts();
     if !is_short(setting) {
-        return Err(Refusal::Refused {
-            spot: Spot::Main,
-            offset: u32::from(setting.limits.program_size),
-            failed: Failed::Only(Reason::ProgramTooLong),
-        });
+        return Err(Refusal::in_main(
+            u32::from(setting.limits.program_size),
+            Reason::ProgramTooLong,
+        ));
     }
     let mut states = certificate.states();
     let mut walk = Cursor::start(alloc, setting.start, states.take_first())?;
@@ -222,11 +221,7 @@ fn check_listed(
         return Err(fault);
     }
     if !ends_well(setting, certificate.builder()) {
-        return Err(Refusal::Refused {
-            spot: Spot::Main,
-            offset: setting.main.len(),
-            failed: Failed::Only(Reason::MissingPoint),
-        });
+        return Err(Refusal::in_main(setting.main.len(), Reason::MissingPoint));
     }
     check_points(setting, listing, certificate, &mut walk, states, budget)
 }

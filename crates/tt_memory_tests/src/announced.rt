@@ -2,7 +2,7 @@
 
 use std::process::Abort;
 use std::test::Fail;
-use tt_cert::{DecodeFault, NEWEST_FORM, decode};
+use tt_cert::{CertFault, NEWEST_FORM, decode};
 use tt_stream::Bytes;
 use tt_test_fixtures::heap::Heap;
 
@@ -54,7 +54,7 @@ fn announced_numbers(rt: HostRuntime) -> Result<(), Fail> {
         heap.take_room();
         let read = decode(heap.alloc, &mut Bytes::new(&bytes), 0, NEWEST_FORM);
         heap.give_back();
-        let is_end = matches!(read, Err(DecodeFault::Form(place)) if place == *end);
+        let is_end = matches!(read, Err(CertFault::Form(place)) if place == *end);
         assert!(rt; is_end, "{parts:?}");
     }
     Ok(())

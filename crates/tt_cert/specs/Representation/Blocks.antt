@@ -1,8 +1,8 @@
 -- Functions and cells that are read many at a time. Only private contracts of reading need it.
 use Rattle.std.specs.Prelude.{◌≡◌, ℕ, ◌+◌, ◌-◌, ◌*◌, ◌^◌, ◌<◌, ◌≤◌, true, List, [], ◌∷◌, ◌++◌, length, take, drop, Option, is_some, unwrap_or, Result, Ok, Err}
 use Rattle.std.specs.Io.KnownBytes.{Consumes, IsAtEnd}
-use Rattle.tt_cert.specs.declared.fault.DecodeFault.{DecodeFault}
-use Rattle.tt_cert.specs.declared.fault.DecodeFault.TheVariants as fault
+use Rattle.tt_cert.specs.declared.fault.CertFault.{CertFault}
+use Rattle.tt_cert.specs.declared.fault.CertFault.TheVariants as fault
 use Rattle.tt_cert.specs.Answers.{Fails, input_at}
 use Rattle.tt_abs.specs.declared.cells.Cell.{Cell}
 use Rattle.tt_abs.specs.Entries.{Ascends}
@@ -40,12 +40,13 @@ abbrev pub BreaksAt : List (ℕ × ℕ) → ℕ → List ℕ → ℕ → Type 0
 BreaksAt old place bytes broken = (n : ℕ) (rest : List ℕ) → length bytes ≤ 6 * n
     → list_at function_at old n (input_of place bytes rest) ≡ Err broken
 
--- what comes of taking the functions of these bytes; out of memory is unspecified, and no read
--- fails
-abbrev pub Takes : Result ℕ DecodeFault → List (ℕ × ℕ) → List (ℕ × ℕ) → ℕ → List ℕ → Type 0
+-- what comes of taking the functions of these bytes; out of memory is unspecified, and no read or
+-- write fails
+abbrev pub Takes : Result ℕ CertFault → List (ℕ × ℕ) → List (ℕ × ℕ) → ℕ → List ℕ → Type 0
 Takes (Ok over) old new place bytes = AreTaken over old new place bytes
 Takes (Err (fault.Form broken)) old new place bytes = BreaksAt old place bytes broken
 Takes (Err fault.Read) old new place bytes = ⊥
+Takes (Err fault.Write) old new place bytes = ⊥
 Takes (Err (fault.OutOfMemory error)) old new place bytes = Unit {0}
 
 -- This many more of the wanted bytes were read into the buffer, after those that it holds; none
@@ -65,7 +66,7 @@ input_held place held known = input_of place held (unwrap_or known [])
 
 -- This many functions of a list were read after those before them; the rest of the list is read
 -- from there on.
-abbrev pub ReadsBlock : Result ℕ DecodeFault → Option (List ℕ) → Option (List ℕ)
+abbrev pub ReadsBlock : Result ℕ CertFault → Option (List ℕ) → Option (List ℕ)
     → List (ℕ × ℕ) → List (ℕ × ℕ) → ℕ → ℕ → Type 0
 ReadsBlock (Ok after) old new before now place count = is_some old ≡ true → (is_some new ≡ true)
     × ((n : ℕ) → list_at function_at before (count + n) (input_at place old)
@@ -117,13 +118,15 @@ pub record AreCellsTaken (over : ℕ) (old new : List Cell) (place : ℕ)
   pub begun : 0 < over → IsBegun left
   pub taking : IsTakingCells old new place at bytes left
 
--- what comes of taking the cells of these bytes; out of memory is unspecified, and no read fails
-abbrev pub TakesCells : Result ℕ DecodeFault → List Cell → List Cell → ℕ → List ℕ → Type 0
+-- what comes of taking the cells of these bytes; out of memory is unspecified, and no read or write
+-- fails
+abbrev pub TakesCells : Result ℕ CertFault → List Cell → List Cell → ℕ → List ℕ → Type 0
 TakesCells (Ok over) old new place bytes = AreCellsTaken over old new place bytes
 TakesCells (Err (fault.Form broken)) old new place bytes =
     (n : ℕ) (rest : List ℕ) → length bytes ≤ n
     → cells_at old n (input_of place bytes rest) ≡ Err broken
 TakesCells (Err fault.Read) old new place bytes = ⊥
+TakesCells (Err fault.Write) old new place bytes = ⊥
 TakesCells (Err (fault.OutOfMemory error)) old new place bytes = Unit {0}
 
 -- the input from a known cell on, whose tag and these bytes of its number were read
@@ -135,7 +138,7 @@ input_begun place number known = record {
 
 -- One more cell was read, whose tag and first bytes were read before; the rest of the list is read
 -- from there on.
-abbrev pub ReadsRest : Result ℕ DecodeFault → Option (List ℕ) → Option (List ℕ) → List ℕ
+abbrev pub ReadsRest : Result ℕ CertFault → Option (List ℕ) → Option (List ℕ) → List ℕ
     → List Cell → List Cell → ℕ → Type 0
 ReadsRest (Ok after) old new number before now place = (length now ≡ length before + 1)
     × (is_some old ≡ true → (is_some new ≡ true)
@@ -153,7 +156,7 @@ ReadsFurther after old new before now place = is_some old ≡ true → (is_some 
 
 -- Cells, at least one, were read after those before them, so that there are at most `count` in all;
 -- the rest of the list is read from there on.
-abbrev pub ReadsCells : Result ℕ DecodeFault → Option (List ℕ) → Option (List ℕ)
+abbrev pub ReadsCells : Result ℕ CertFault → Option (List ℕ) → Option (List ℕ)
     → List Cell → List Cell → ℕ → ℕ → Type 0
 ReadsCells (Ok after) old new before now place count = (length before < length now)
     × (length now ≤ count) × ReadsFurther after old new before now place
@@ -171,18 +174,20 @@ pub record AreSomeCellsTaken (used : ℕ) (old new : List Cell) (place : ℕ) (b
   pub few : length new ≤ count
   pub taking : IsTakingCells old new place at bytes left
 
--- what comes of taking some of these bytes' cells; out of memory is unspecified, and no read fails
-abbrev pub TakesSomeCells : Result ℕ DecodeFault → List Cell → List Cell → ℕ → List ℕ → ℕ → Type 0
+-- what comes of taking some of these bytes' cells; out of memory is unspecified, and no read or
+-- write fails
+abbrev pub TakesSomeCells : Result ℕ CertFault → List Cell → List Cell → ℕ → List ℕ → ℕ → Type 0
 TakesSomeCells (Ok used) old new place bytes count =
     AreSomeCellsTaken used old new place bytes count
 TakesSomeCells (Err (fault.Form broken)) old new place bytes count =
     (rest : List ℕ) → cells_up_to old count (input_of place bytes rest) ≡ Err broken
 TakesSomeCells (Err fault.Read) old new place bytes count = ⊥
+TakesSomeCells (Err fault.Write) old new place bytes count = ⊥
 TakesSomeCells (Err (fault.OutOfMemory error)) old new place bytes count = Unit {0}
 
 -- Cells, perhaps none, were read after those before them, so that there are at most `count` in all;
 -- the rest of the list is read from there on.
-abbrev pub ReadsMoreCells : Result ℕ DecodeFault → Option (List ℕ) → Option (List ℕ)
+abbrev pub ReadsMoreCells : Result ℕ CertFault → Option (List ℕ) → Option (List ℕ)
     → List Cell → List Cell → ℕ → ℕ → Type 0
 ReadsMoreCells (Ok after) old new before now place count = (length before ≤ length now)
     × (length now ≤ count) × ReadsFurther after old new before now place

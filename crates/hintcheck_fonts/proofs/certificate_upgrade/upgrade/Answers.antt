@@ -158,7 +158,7 @@ returns-in_err-form-clause-whole_units g c =
 pub returns-in_err-write_header-clause-whole_units : goal.returns-in_err-write_header-clause-whole_units
 returns-in_err-write_header-clause-whole_units g c =
     let p = err_from_is_err_and c.from_residual-in_err-write_header.result c.from_residual-in_err-write_header.ensures.1 in
-    rw (p.1, p.2) (encode_no_read _ _ _ c.in_err-write_header.field-0.0)
+    rw (p.1, p.2) (encode_no_read _ _ _ c.in_err-write_header.field-0.0 _ _ c.in_err-write_header.ensures.failures)
 
 pub returns-in_err-upgrade_sections-clause-whole_units : goal.returns-in_err-upgrade_sections-clause-whole_units
 returns-in_err-upgrade_sections-clause-whole_units g c =

@@ -1,13 +1,13 @@
 use Rattle.std.proofs.lemmas.Result.{err_from_is_err_and}
 use Rattle.tt_cert.specs.Answers.{input_at}
-use Rattle.hintcheck_fonts.proofs.UpgradeSteps.{comes_old, none_begun, one_begun, one_upgraded}
+use Rattle.hintcheck_fonts.proofs.UpgradeSteps.{comes_on, none_begun, one_begun, one_upgraded}
 use Rattle.hintcheck_fonts.proofs.UpgradeReads.{encode_no_read, old_section_cut_short}
 use Rattle.hintcheck_fonts.proofs.certificate_upgrade.upgrade_section.Goals as goal
 
 pub returns-in_err-certificate-clause-section : goal.returns-in_err-certificate-clause-section
 returns-in_err-certificate-clause-section g c = λ told.
     let p = err_from_is_err_and c.from_residual.result c.from_residual.ensures.1 in
-    rw (p.1, p.2) (comes_old _ _ _ _ c.in_err-certificate.field-0.0 (c.in_err-certificate.ensures.section told) (λ place absent. rw (← c.name_of-name.ensures) absent))
+    rw (p.1, p.2) (comes_on _ _ _ _ c.in_err-certificate.field-0.0 (c.in_err-certificate.ensures.section told) (λ place absent. rw (← c.name_of-name.ensures) absent))
 
 pub returns-in_err-certificate-clause-begun : goal.returns-in_err-certificate-clause-begun
 returns-in_err-certificate-clause-begun g c = λ told.
@@ -44,4 +44,4 @@ returns-in_err-certificate-clause-stopped g c =
 pub returns-in_err-encode-clause-stopped : goal.returns-in_err-encode-clause-stopped
 returns-in_err-encode-clause-stopped g c =
     let p = err_from_is_err_and c.from_residual-in_err-encode.result c.from_residual-in_err-encode.ensures.1 in
-    rw (p.1, p.2) (encode_no_read _ _ _ c.in_err-encode.field-0.0)
+    rw (p.1, p.2) (encode_no_read _ _ _ c.in_err-encode.field-0.0 _ _ c.in_err-encode.ensures.failures)

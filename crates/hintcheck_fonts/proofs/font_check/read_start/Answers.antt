@@ -21,4 +21,5 @@ returns-then-sections-from-clause-header g c = λ told.
 pub returns-in_err-form-clause-stopped : goal.returns-in_err-form-clause-stopped
 returns-in_err-form-clause-stopped g c =
     let p = err_from_is_err_and c.from_residual.result c.from_residual.ensures.1 in
-    rw (p.1, p.2) (header_cut_short (g.S.Source.remaining c.args.source.now) (g.S.Source.remaining c.read_form.new.source) c.in_err-form.field-0.0 c.in_err-form.ensures.whole_fields)
+    rw (p.1, p.2) (header_cut_short (g.S.Source.remaining c.args.source.now) (g.S.Source.remaining c.read_form.new.source) c.in_err-form.field-0.0 _ _ c.in_err-form.ensures.failures
+    c.in_err-form.ensures.whole_fields)

@@ -23,7 +23,8 @@ returns-in_err-read_end-clause-stopped g c =
     let d = c.args.programs.now.font.now in
     let stage = stage_of c.args.programs.now in
     let last = is_last d stage (c.next.ensures.none c.in_default.is) c.requires.good in
-    rw (p.1, p.2) (end_not_read d c.args.progress.now.form stage c.args.progress.now.place _ _ c.in_err-read_end.field-0.0 last c.in_err-read_end.ensures.unread)
+    rw (p.1, p.2) (end_not_read d c.args.progress.now.form stage c.args.progress.now.place _ _ c.in_err-read_end.field-0.0 _ _ c.in_err-read_end.ensures.failures last
+    c.in_err-read_end.ensures.unread)
 
 pub returns-in_default-clause-sound : goal.returns-in_default-clause-sound
 returns-in_default-clause-sound g c =
@@ -57,7 +58,7 @@ returns-in_err-certificate-clause-stopped g c =
     let d = c.args.programs.now.font.now in
     let stage = stage_of c.args.programs.now in
     let progress = c.args.progress.now in
-    rw (p.1, p.2) (section_cut_short d progress.form stage c.in-Some.next.name progress.place _ _ c.in_err-certificate.field-0.0
+    rw (p.1, p.2) (section_cut_short d progress.form stage c.in-Some.next.name progress.place _ _ c.in_err-certificate.field-0.0 _ _ c.in_err-certificate.ensures.failures
     (λ i at none. no_section_next d progress.form stage c.in-Some.next i at c.in-Some.ensures.some none) c.in_err-certificate.ensures.stopped)
 
 pub returns-clause-sound : goal.returns-clause-sound

@@ -33,7 +33,7 @@ first setting listing v = IsFirstBreakOnTheWay (setting_of setting) (MayLeaveOut
 pub returns-then-not-is_short-clause-first : goal.returns-then-not-is_short-clause-first
 returns-then-not-is_short-clause-first c =
     let f : c.is_short.result ≡ false = search rules in
-    (([], c.args.setting.now.limits.program_size), refl, omega arith, too_long (λ h. not_both c.is_short.result f (c.is_short.ensures.1 h)))
+    rw c.in_main.ensures (([], c.args.setting.now.limits.program_size), refl, omega arith, too_long (λ h. not_both c.is_short.result f (c.is_short.ensures.1 h)))
 
 pub check_start-requires-clause-not_next : goal.check_start-requires-clause-not_next
 check_start-requires-clause-not_next c = c.in_ok-walk.ensures.not_next
@@ -49,7 +49,8 @@ pub returns-then-not-ends_well-clause-first : goal.returns-then-not-ends_well-cl
 returns-then-not-ends_well-clause-first c =
     let start = subst (covers c.args.certificate.now) c.in_ok-walk.ensures.made c.in_default.ensures.covered in
     let t : c.is_short.result ≡ true = search rules in
-    let f : c.ends_well.result ≡ false = search rules in (
+    let f : c.ends_well.result ≡ false = search rules in
+    rw c.in_main-then-not-ends_well.ensures (
       ([], size c.args.setting.now.main.now),
       refl,
       omega arith,
