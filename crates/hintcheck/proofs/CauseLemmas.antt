@@ -192,9 +192,6 @@ no_programs (r ∷ rs) cause any none = elim (settled (is_same_cause cause r)) [
 some_programs : (rs : List Refused) (i : ℕ) (d : Refused) → i < length rs → programs_of rs (get_or rs i d) ≡ [] → ⊥
 some_programs rs i d within none = no_programs rs (get_or rs i d) (any_at rs i d within) none
 
-true_not_false : true ≡ false → ⊥
-true_not_false e = cc
-
 some_not_none : {X : Type 0} {x : X} → Some x ≡ None → ⊥
 some_not_none e = cc
 

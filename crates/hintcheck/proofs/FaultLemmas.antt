@@ -1,11 +1,11 @@
 -- Answers that are unspecified, and texts that aren't printed.
-use Rattle.std.proofs.Common.{◌≡◌, ◌⊎◌, ℕ, List, IfErr, IsErrAnd, OnOk, Option, Result, Ok, Err, inl, inr, true}
+use Rattle.std.proofs.Common.{◌≡◌, ℕ, List, IfErr, IsErrAnd, OnOk, Result, Ok, Err, true}
 use Rattle.tt_stream.specs.declared.text.PrintFailed.{PrintFailed}
 use Rattle.tt_stream.specs.declared.text.PrintFailed.TheVariants as failed
 use Rattle.hintcheck_words.specs.Requests.{is_taken}
 use Rattle.hintcheck.specs.declared.commands.faults.CommandFault.{CommandFault}
 use Rattle.hintcheck.specs.Commands.{fault_of_print}
-use Rattle.hintcheck.specs.CommandFaults.{IsFaultOfFontCauses, IsFaultOfFontFile, IsFaultOfPrinting, IsFaultOfWords, IsWithin, not_taken}
+use Rattle.hintcheck.specs.CommandFaults.{IsFaultOfWords, not_taken}
 
 -- an answer is left unspecified
 pub nothing_said : {T E : Type 0} (r : Result T E) → OnOk r (Unit {0})
@@ -18,7 +18,3 @@ pub unprinted : {T : Type 0} (words : List (List ℕ)) (e : PrintFailed) (r : Re
 unprinted words e (Ok x) refuses is = tt
 unprinted words failed.Write (Err told) refuses is = not_taken told refuses (rw is tt)
 unprinted words failed.Format (Err told) refuses is = not_taken told refuses (rw is tt)
-
--- why causes aren't told, for what is asked for
-pub fault_of_causes : (budget : Option ℕ) (f : CommandFault) → IsFaultOfFontCauses f × IsWithin budget f → (IsFaultOfFontFile f × IsWithin budget f) ⊎ (Unit {0} × IsFaultOfPrinting f)
-fault_of_causes budget f is = elim is.0 [ inl font ↦ inl (font, is.1) | inr printing ↦ inr (tt, printing) ]

@@ -97,9 +97,6 @@ pub not_empty : (xs : List ℕ) (b : Bool) → b ≡ (length xs == 0) → b ≡ 
 not_empty [] b is none = absurd cc
 not_empty (x ∷ xs) b is none = omega arith
 
-pub read_none : (held : List ℕ) (set : List ℕ → Bool) → ((line : List ℕ) → set line ≡ false) → HasRead held held 0 set
-read_none held set none = record { lines = []; cut = inl refl; whole = All-nil IsOneLine; form = All-nil NamesRefusal; number_is = refl; few = omega arith; known = none }
-
 pub read_more : (held rest line after : List ℕ) (number : ℕ) (set more : List ℕ → Bool) → 0 < length rest → HasRead held rest number set → IsCut rest line after → IsOneLine line → NamesRefusal line
     → ((l : List ℕ) → more l ≡ cond (bytes_eq line l) true (set l)) → HasRead held after (number + 1) more
 read_more held rest line after number set more some read cut whole named known =

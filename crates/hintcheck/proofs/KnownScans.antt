@@ -1,5 +1,5 @@
 -- What a scan with a file of known refusals tells, by what its refused programs are compared with.
-use Rattle.std.proofs.Common.{◌≡◌, ◌≢◌, ℕ, ◌+◌, ◌<◌, ◌≤◌, List, [], ◌∷◌, ◌++◌, length, Bool, true, false, cond, get_or, map, max, take, Option, None, Some, IfSome, ap, refl, sym, subst, append_assoc, append-nil, arith, inl, inr, ◌∙◌}
+use Rattle.std.proofs.Common.{◌≡◌, ℕ, ◌+◌, ◌<◌, ◌≤◌, List, [], ◌∷◌, ◌++◌, length, Bool, true, false, cond, get_or, map, max, take, Option, None, Some, IfSome, ap, refl, sym, subst, append_assoc, append-nil, arith, inl, inr, ◌∙◌}
 use Rattle.std.specs.Prelude.{All, Contains, filter, not, ◌||◌, nat_le, slice_index_or}
 use Rattle.std.specs.List.{list_any}
 use Rattle.std.specs.Str.{bytes_eq}
@@ -21,8 +21,6 @@ use Rattle.hintcheck.specs.RefusalClasses.{number_failing}
 use Rattle.hintcheck.specs.Representation.Expectations.{Begins, Expected, NotesScan, by_file, expected, known, lines_of_answer, missing, noted, nothing, scanned_lines, settled, status_with, unwritten, without}
 use Rattle.hintcheck.specs.Scans.{Answer, IsAnswer, Scanned, greatest_status, judged, status_of_answer, status_of_failing, unread}
 use Rattle.hintcheck_report.specs.declared.refused.Refused.{Refused}
-use Rattle.hintcheck.specs.declared.commands.expectation.Expectation.{Expectation}
-use Rattle.hintcheck.specs.declared.commands.expectation.Expectation.TheVariants as variant
 use Rattle.hintcheck.specs.declared.commands.faults.CommandFault.{CommandFault}
 use Rattle.hintcheck.specs.declared.commands.faults.CommandFault.TheVariants as fault
 use Rattle.tt_font.specs.declared.fault.FontFault.{FontFault}
@@ -81,11 +79,6 @@ all_more P text xs i x name within is called so_far one =
 -- a file that isn't there, of which nothing is to be written yet
 pub begins_unwritten : (file text : List ℕ) → text ≡ [] → Begins (Some file) (missing text)
 begins_unwritten file text none = subst (λ t. Begins (Some file) (missing t)) (sym none) (unwritten file)
-
-pub expected_some : (e : Expectation) → (e ≡ variant.Nothing → ⊥) → expected e ≢ nothing
-expected_some variant.Nothing some e = some refl
-expected_some (variant.Known lines has count) some e = cc
-expected_some (variant.Missing file lines count) some e = cc
 
 -- Whether a line is among known ones.
 

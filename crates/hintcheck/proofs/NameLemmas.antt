@@ -2,7 +2,7 @@
 use Rattle.std.specs.Prelude.{◌↔◌, IsTrue, option_map, slice_get}
 use Rattle.std.specs.Fmt.{decimal}
 use Rattle.std.specs.Str.Parse.{AllDigits, ParsesUnsigned, digits_value}
-use Rattle.std.proofs.Common.{◌≡◌, ◌≢◌, ◌≤◌, ℕ, zero, suc, ◌<◌, ◌^◌, List, Bool, true, false, Option, None, Some, Result, Ok, Err, IfSome, IfNone, length, get_or, refl, ap, sym, subst, arith, rules, ◌∙◌}
+use Rattle.std.proofs.Common.{◌≡◌, ◌≢◌, ◌≤◌, ℕ, zero, suc, ◌<◌, ◌^◌, List, Bool, true, false, Option, None, Some, Result, Ok, Err, IfSome, length, get_or, refl, sym, subst, arith, rules, ◌∙◌}
 use Rattle.std.proofs.lemmas.Fmt.{decimal_digit, first_decimal, digits_decimal, decimal-digits_value, decimal_nonempty}
 use Rattle.std.proofs.lemmas.Str.Parse.{IsNumeralModel, numerals_by_value, tells_digits, not_in_digits, parse_plain}
 use Rattle.std.specs.Result.{OkIff, result_ok}
@@ -10,8 +10,8 @@ use Rattle.std.proofs.lemmas.Option.{slice_get_within}
 use Rattle.tt_font.specs.Reading.{FontData, GlyphData}
 use Rattle.hintcheck_fonts.specs.FontPrograms.{IsFontInRange}
 use Rattle.hintcheck.specs.Listing.{Calls, IsNameOf, IsNoName, IsOf16Bits, IsPlain, Names, program_in}
-use Rattle.hintcheck.specs.Listing.{by_name, by_glyph_name}
-use Rattle.tt_names.specs.Names.{IsFirstNamed, NamesNone}
+use Rattle.hintcheck.specs.Listing.{by_glyph_name}
+use Rattle.tt_names.specs.Names.{IsFirstNamed}
 use Rattle.tt_names.specs.Post.{post_of}
 use Rattle.tt_cert.specs.declared.name.Name.{Name}
 use Rattle.tt_cert.specs.declared.name.Name.TheVariants as name
@@ -68,29 +68,8 @@ IsReadAs word read = (called : Name) → IsOf16Bits called → IsNameOf word cal
 abbrev pub IsMeant : List ℕ → List ℕ → Option Name → Type 0
 IsMeant bytes word meant = (called : Name) → IsOf16Bits called → Calls bytes word called → meant ≡ Some called
 
--- a word that is a program's name means that program
-pub name_is_meant : (bytes word : List ℕ) (read : Option Name) (called : Name) → IsReadAs word read → read ≡ Some called → IsOf16Bits called → IsNameOf word called
-    → IsMeant bytes word (Some called)
-name_is_meant bytes word read called is found bits text other small (by_name e) = let same : read ≡ Some other = is other small e in cc
-name_is_meant bytes word read called is found bits text other small (by_glyph_name id is_glyph nameless first) = absurd (nameless called bits text)
-
--- there is one first glyph with a name
-one_first : (post word : List ℕ) (a b : ℕ) → IsFirstNamed post word a → IsFirstNamed post word b → a ≡ b
-one_first post word a b first other =
-    let above : a < b → ⊥ = λ lt. other.first a lt first.named in
-    let below : b < a → ⊥ = λ lt. first.first b lt other.named in
-    omega arith
-
 no_such_name : (word : List ℕ) (read : Option Name) → IsReadAs word read → read ≡ None → IsNoName word
 no_such_name word read is none = λ called small e. let some : read ≡ Some called = is called small e in cc
-
--- another word means the first glyph that has it as its name
-pub glyph_is_meant : (bytes word : List ℕ) (read : Option Name) (found : Option ℕ) → IsReadAs word read → read ≡ None
-    → IfNone found (NamesNone (post_of bytes) word) → IfSome found (IsFirstNamed (post_of bytes) word) → IsMeant bytes word (option_map name.Glyph found)
-glyph_is_meant bytes word read found is none unnamed first other small (by_name e) = let some : read ≡ Some other = is other small e in cc
-glyph_is_meant bytes word read (Some glyph) is none unnamed first other small (by_glyph_name id is_glyph nameless one) =
-    ap (λ k. Some (name.Glyph k)) (one_first (post_of bytes) word glyph id first one) ∙ ap Some (sym is_glyph)
-glyph_is_meant bytes word read None is none unnamed first other small (by_glyph_name id is_glyph nameless one) = absurd (unnamed id one.named)
 
 pub glyph_called : (bytes word : List ℕ) (read : Option Name) (found : Option ℕ) → IsReadAs word read → read ≡ None
     → IfSome found (IsFirstNamed (post_of bytes) word) → IfSome (option_map name.Glyph found) (Calls bytes word)

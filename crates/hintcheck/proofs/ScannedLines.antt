@@ -1,5 +1,5 @@
 -- What is printed of font files that are scanned one after the other.
-use Rattle.std.proofs.Common.{◌≡◌, ◌≤◌, ◌<◌, ◌+◌, ℕ, ap, append_assoc, append-nil, get_or, length, map, subst, suc, sym, take, zero, List, [], ◌∷◌, ◌++◌, max, Option, Some, None, arith, refl, ◌∙◌}
+use Rattle.std.proofs.Common.{◌≡◌, ◌≤◌, ◌<◌, ◌+◌, ℕ, ap, append_assoc, append-nil, get_or, length, map, subst, sym, take, List, [], ◌∷◌, ◌++◌, max, Option, Some, None, arith, refl, ◌∙◌}
 use Rattle.std.proofs.lemmas.List.{map-append, take_all, take_more}
 use Rattle.std.proofs.lemmas.List.Elements.{All-append, All-cons, All-nil}
 use Rattle.std.proofs.lemmas.Grind.{flat_map-append}
@@ -35,11 +35,6 @@ appends_both None mid new a b first second = tt
 appends_both (Some xs) None new a b first second = absurd first
 appends_both (Some xs) (Some ys) None a b first second = absurd second
 appends_both (Some xs) (Some ys) (Some zs) a b first second = second ∙ ap (λ t. t ++ b) first ∙ append_assoc xs a b
-
--- where some programs do what is left out, how many is told
-pub some_left_out : (n : ℕ) → (n ≡ 0 → ⊥) → codes ", " ++ (decimal n ++ codes " left out") ≡ left_out_text n
-some_left_out zero some = absurd (some refl)
-some_left_out (suc n) some = refl
 
 greatest-append : (f : FailOn) (xs ys : List Scanned) → greatest_status f (xs ++ ys) ≡ max (greatest_status f xs) (greatest_status f ys)
 greatest-append f [] ys = omega arith

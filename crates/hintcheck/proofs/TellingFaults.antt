@@ -7,11 +7,6 @@ use Rattle.hintcheck.specs.CommandFaults.{IsFaultOfLines, IsFaultOfPrinting, IsF
 use Rattle.hintcheck.specs.declared.commands.faults.CommandFault.{CommandFault}
 use Rattle.hintcheck.specs.declared.commands.faults.CommandFault.TheVariants as fault
 
--- a text isn't printed
-pub printing_told : (options : ScanOptions) (f : CommandFault) → IsFaultOfPrinting f → IsFaultOfTelling options f
-printing_told options fault.OutOfMemory is = absurd is
-printing_told options _ is = is
-
 -- nor is an object, or the causes
 pub lines_told : (options : ScanOptions) (f : CommandFault) → options.format ≢ Lines → IsFaultOfLines f → IsFaultOfTelling options f
 lines_told options fault.OutOfMemory other is = other

@@ -165,18 +165,6 @@ prints_accepted profile bytes v old mid new given tells none line = record {
     no_lines [] are = refl
     no_lines (c ∷ cs) are = absurd (some_refused_for [] (c ∷ cs) c cs are refl refl)
 
--- some are refused
-pub prints_explained : (profile : Profile) (bytes : List ℕ) (v : Judgement) (explanation : List ℕ) (old mid new : Option (List ℕ)) → IsVerdictBy profile bytes v → TellsCauses (post_of bytes) v.refused old mid → v.refused ≢ [] → Appends mid new (codes "\n" ++ explanation)
-    → PrintsCausesOf profile bytes 1 old new
-prints_explained profile bytes v explanation old mid new given tells some text = record {
-  judgement = v;
-  given = given;
-  accepted = λ zero. absurd (omega arith);
-  told = λ zero. absurd (omega arith);
-  refused = λ one. some;
-  explained = λ one. record { causes = tells.causes; are = tells.are; explanation = explanation; written = appends_both old mid new _ _ tells.written text };
-}
-
 -- what isn't there
 pub none_of : {T : Type 0} (o : Option T) → ((x : T) → o ≡ Some x → ⊥) → o ≡ None
 none_of None not_some = refl

@@ -3,7 +3,7 @@
 use Rattle.std.proofs.Common.{◌≡◌, ◌≢◌, ◌↔◌, ℕ, suc, ◌+◌, ◌<◌, ◌≤◌, List, [], ◌∷◌, Bool, true, false, None, length, replicate, refl, sym, ◌∙◌, ap, subst, arith, inl, inr, get_or, ◌++◌, take, drop}
 use Rattle.std.specs.Prelude.{◌⊎◌, slice_index, if◌then◌else◌}
 use Rattle.std.proofs.lemmas.Bool.{cases_eq, cases_lt}
-use Rattle.std.proofs.lemmas.List.{get_or-replicate, get_or_past, length-replicate}
+use Rattle.std.proofs.lemmas.List.{get_or_past}
 use Rattle.std.proofs.Math.Seq.{take-append_seam}
 use Rattle.tt_cert.specs.declared.name.Name.{Name}
 use Rattle.tt_cert.specs.declared.name.Name.TheVariants as name
@@ -27,20 +27,6 @@ pub record IsLeft (count : ℕ) (refused : List Refused) (n : ℕ) (set : List B
   pub inside : (id : ℕ) → is_in set id ≡ true → id < count
   pub others : (id : ℕ) → is_in set id ≡ true → AreOthersBelow refused id n
   pub stays : (id : ℕ) → id < count → AreOthersBelow refused id n → is_in set id ≡ true
-
-pub all_left : (count : ℕ) (refused : List Refused) (set : List Bool) → set ≡ replicate count true → IsLeft count refused 0 set
-all_left count refused set e =
-    let L : List Bool → Type 0 = IsLeft count refused 0 in
-    let len : length (replicate count true) ≡ count = length-replicate count true in
-    subst L (sym e) (record {
-      len = len;
-      inside = λ id is. elim (cases_lt id count) [
-        | inl lt ↦ lt
-        | inr le ↦ (let no : is_in (replicate count true) id ≡ false = get_or_past (replicate count true) id false (omega arith) in absurd (cc))
-      ];
-      others = λ id is i d lt. absurd (omega arith);
-      stays = λ id lt others. get_or-replicate count id true false lt;
-    })
 
 -- one glyph more is taken out
 pub one_taken : (count : ℕ) (refused : List Refused) (n glyph : ℕ) (before after : List Bool) (x : Refused) → ((d : Refused) → get_or refused n d ≡ x) → x.program ≡ name.Glyph glyph

@@ -175,15 +175,3 @@ glyphs_are_safe_symbolic bytes d v entries id reads (symbolic.none_ended f p pro
       let is = subst I zero_more (is_among (font_of d f p) programs 0 d.glyphs rs glyphs other g at (subst A (sym zero_more) fine)) in
       (is.setting, is.there, is.is_setting);
 }
-
--- ---- how many programs there are
-
-pub strict_count : (bytes : List ℕ) (d : FontData) (v : Judgement) → Reads bytes d → IsVerdict d v → v.programs ≡ font_glyph_count bytes + 2
-strict_count bytes d v reads (font_refused r is) = let len = reads.glyphs.len in omega arith
-strict_count bytes d v reads (cvt_refused f functions r ends is) = let len = reads.glyphs.len in omega arith
-strict_count bytes d v reads (none_ended f p functions known rs font cvt glyphs) = let len = reads.glyphs.len in omega arith
-
-pub symbolic_count : (bytes : List ℕ) (d : FontData) (v : Judgement) → Reads bytes d → IsSymbolicVerdict d v → v.programs ≡ font_glyph_count bytes + 2
-symbolic_count bytes d v reads (symbolic.font_refused r is) = let len = reads.glyphs.len in omega arith
-symbolic_count bytes d v reads (symbolic.cvt_refused f r cut safe is) = let len = reads.glyphs.len in omega arith
-symbolic_count bytes d v reads (symbolic.none_ended f p programs rs font cvt glyphs safe) = let len = reads.glyphs.len in omega arith

@@ -1,5 +1,5 @@
 -- A section that is read, and the glyph programs that are checked by theirs.
-use Rattle.std.proofs.Common.{◌≡◌, ◌≢◌, ℕ, zero, suc, ◌+◌, ◌<◌, List, [], ◌∷◌, ◌++◌, length, drop, Option, Some, Ok, Err, refl, sym, ◌∙◌, ap, subst, arith, append_assoc}
+use Rattle.std.proofs.Common.{◌≡◌, ◌≢◌, ℕ, zero, suc, ◌+◌, List, [], ◌∷◌, ◌++◌, length, drop, Option, Some, Ok, Err, refl, sym, ◌∙◌, ap, subst, arith, append_assoc}
 use Rattle.std.specs.Prelude.{slice_get}
 use Rattle.std.proofs.lemmas.List.{drop_all}
 use Rattle.tt_family.specs.Contents.{Contents}
@@ -52,12 +52,6 @@ dropped (x ∷ xs) (suc id) g at =
 pub one_more : (rs : List Refused) (r : Refused) (finding : Finding) → all_refused rs (refused_before r finding) ≡ all_refused (rs ++ r ∷ []) finding
 one_more rs r (Ok others) = ap Ok (sym (append_assoc rs (r ∷ []) others))
 one_more rs r (Err place) = refl
-
--- a number below that of the glyphs has its glyph
-pub slice_there : (glyphs : List GlyphData) (id : ℕ) → id < length glyphs → (g : GlyphData) × (slice_get glyphs id ≡ Some g)
-slice_there [] id lt = absurd (omega arith)
-slice_there (x ∷ xs) zero lt = (x, refl)
-slice_there (x ∷ xs) (suc id) lt = slice_there xs id (omega arith)
 
 pub all_dropped : (glyphs : List GlyphData) → drop (length glyphs) glyphs ≡ []
 all_dropped glyphs = drop_all (length glyphs) glyphs (omega arith)

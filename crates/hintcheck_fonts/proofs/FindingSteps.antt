@@ -78,15 +78,6 @@ good_of_known d over kept = tt
 pub nothing_left : (d : FontData) (s t : Stage) → KeepsKnown d s → (next_program d s ≡ None) × (t ≡ over) → IsFoundAnswer d s None t
 nothing_left d s t kept is = (is_last d s is.0 (good_of_known d s kept), is.1)
 
--- a session that is over keeps nothing, whatever it has read
-pub nothing_kept : (d : FontData) (read : Option (Form × ℕ)) (s : Stage) → s ≡ over → KeepsFound read d s
-nothing_kept d None s is = let K : Stage → Type 0 = λ x. KeepsKnown d x in subst K (sym is) tt
-nothing_kept d (Some r) s is = tt
-
 -- a session that has read no certificate
 pub kept_unread : (d : FontData) (read : Option (Form × ℕ)) (s : Stage) → read ≡ None → KeepsFound read d s → KeepsKnown d s
 kept_unread d read s is kept = let K : Option (Form × ℕ) → Type 0 = λ r. KeepsFound r d s in subst K is kept
-
-pub keeps_unread : (d : FontData) (read : Option (Form × ℕ)) (s : Stage) → KeepsKnown d s → KeepsFound read d s
-keeps_unread d None s kept = kept
-keeps_unread d (Some r) s kept = tt

@@ -280,14 +280,6 @@ glyph_without_good x is s fs points contours (fault.Refused spot offset failed) 
     glyph_no_good x is points contours (ap (λ (t : Setting). t.kind) es ∙ k) c (of_subject HasFlow x is s fs es ef h) p r
     (of_subject (λ t f. IsJustified t f p r) x is s fs es ef justified) (of_subject (λ t f. IsNoFamily t f r) x is s fs es ef (no_family_at s fs spot offset failed unfound))
 
--- a program is that of the setting which it has with its instructions
-pub is_subject : (x : Subject) (s : AnySetting) (is : List Instruction) → IsCutInto x is → s.main.now ≡ is → setting_of s ≡ x.setting is → s.start.now ≡ x.functions → IsSubjectOf x s
-is_subject x s is cut main setting start = record {
-  cut = subst (IsCutInto x) (sym main) cut;
-  setting = ap x.setting main ∙ sym setting;
-  functions = sym start;
-}
-
 -- the calls of each context that was found are in their turns, and no body runs twice in them
 pub calls_in_turn : (v : Contents) → IsFinished v → ((frames : List Frame) → HasContext v.contexts frames → FramesFit frames) → AreCallsInTurn v.contexts
 calls_in_turn v finished calls number lt =

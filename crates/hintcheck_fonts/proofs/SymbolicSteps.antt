@@ -20,7 +20,7 @@ use Rattle.tt_symbolic_font.specs.declared.ends.Ends.{Ends}
 use Rattle.tt_symbolic_font.specs.declared.glyph_starts.GlyphStarts.{GlyphStarts}
 use Rattle.hintcheck_fonts.specs.FontPrograms.{font_of, glyph_subject, judgement_on}
 use Rattle.hintcheck_fonts.specs.ProgramVerdicts.{IfRefused}
-use Rattle.hintcheck_fonts.specs.Representation.ProgramOrder.{CanGoOn, IsUncut, cvt_done, cvt_stops, font_done, font_stops, glyph_done, glyph_stops, next_program, no_cut, no_structure, skipped_to}
+use Rattle.hintcheck_fonts.specs.Representation.ProgramOrder.{CanGoOn, cvt_done, cvt_stops, font_done, font_stops, glyph_done, glyph_stops, next_program, skipped_to}
 use Rattle.hintcheck_fonts.specs.Representation.SessionStages.{ListsOutcome}
 use Rattle.hintcheck_fonts.specs.Representation.SymbolicChecks.{AnswersBySymbols, AreCheckedInTurn, AreEnded, AreUnchecked, AreUncheckedTill, IsAfterCvt, IsAfterFont, IsCheckedBy, IsEnded, TellsRefused, accepted, no_glyph_left, refused}
 use Rattle.hintcheck_fonts.specs.Sessions.{Stage, after_font, at_glyph, at_start, over}
@@ -38,10 +38,6 @@ use Rattle.hintcheck_fonts.proofs.VerdictSteps.{listed_first, none_dropped}
 pub of_program : (called : Name) (f : Refusal) → IfRefused called f (λ r. r.program ≡ called)
 of_program called (fault.Refused spot offset failed) = refl
 of_program called (fault.Exhausted e) = tt
-
-pub uncut_program : (called : Name) (bytes : List ℕ) (r : Refused) → IsUncut called bytes r → r.program ≡ called
-uncut_program called bytes r (no_cut offset cannot) = refl
-uncut_program called bytes r (no_structure is offset cut fault) = refl
 
 -- the font program
 

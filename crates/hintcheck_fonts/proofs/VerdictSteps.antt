@@ -9,7 +9,7 @@ use Rattle.hintcheck_fonts.specs.Programs.{EndsWith, IsRefusal}
 use Rattle.hintcheck_fonts.specs.Representation.FontVerdicts.{AreAllRefused}
 use Rattle.hintcheck_fonts.specs.Representation.Judges.{AnswersFinding, AreWithin, IsOutcomeOf}
 use Rattle.hintcheck_fonts.specs.Representation.ProgramOrder.{CanGoOn, cvt_done, cvt_stops, font_done, font_stops, glyph_done, glyph_stops, next_program}
-use Rattle.hintcheck_fonts.specs.Representation.SessionStages.{KeepsGood, KeepsKnown, ListsOutcome}
+use Rattle.hintcheck_fonts.specs.Representation.SessionStages.{KeepsKnown, ListsOutcome}
 use Rattle.hintcheck_fonts.specs.Sessions.{Stage, after_font, at_glyph, at_start, over}
 use Rattle.hintcheck_fonts.specs.declared.finding.Finding.{Finding}
 use Rattle.hintcheck_report.specs.declared.refused.Refused.{Refused}
@@ -23,12 +23,6 @@ known_can_go_on d at_start kept = (tt, λ n body e. absurd cc)
 known_can_go_on d (after_font f functions) kept = (kept.ascends, kept.fits)
 known_can_go_on d (at_glyph f p known id) kept = let ((functions, font, cvt), le) = kept in (cvt.ascends, cvt.fits)
 known_can_go_on d over kept = tt
-
-pub good_can_go_on : (d : FontData) (s : Stage) → KeepsGood d s → CanGoOn (λ fs. Ascends fs) s
-good_can_go_on d at_start kept = tt
-good_can_go_on d (after_font f functions) kept = kept.ascends
-good_can_go_on d (at_glyph f p known id) kept = let ((functions, font, cvt), le) = kept in cvt.ascends
-good_can_go_on d over kept = tt
 
 -- These are the refused ones of the programs from a stage on.
 abbrev pub AreRefusedFrom : FontData → Stage → List Refused → Type 0

@@ -1,7 +1,7 @@
 -- Any instruction: the outcome on cells is refused exactly if some covered machine faults, comes to run a body twice, or covered
 -- machines come to more lists of frames than a program may have; else it gives the smallest covers of what they become. So the
 -- machine's steps are covered, and what is covered by more is refused wherever less is.
-use Rattle.std.specs.Prelude.{◌≢◌, ◌↔◌, slice_get, ◌<◌, ◌≤◌, ◌^◌, Option}
+use Rattle.std.specs.Prelude.{◌≢◌, slice_get, ◌<◌, ◌≤◌, ◌^◌, Option}
 use Rattle.std.proofs.Common.{◌≡◌, ℕ, suc, ◌+◌, List, [], ◌∷◌, Ok, Err, Some, None, refl, sym, ◌∙◌, ap, subst, inl, inr, arith, length, true}
 use Rattle.std.proofs.lemmas.Option.{slice_get_within}
 use Rattle.tt_code.specs.Refusals.{Tested, ◌>>=◌}
@@ -155,14 +155,6 @@ outcome_monotone s fs at a b os small fits_a fits_b once wider e =
     less : (r : Tested (List Next)) → StandsFor a fs at (outcome s) r → Gives b fs at (outcome s) os → (ns : List Next) × (r ≡ Ok ns) × AreBelow ns os
     less (Err q) h k = absurd (more_is_refused a b fs at (outcome s) os wider h k)
     less (Ok ns) h k = monotone_ways a b fs at (outcome s) (Ok ns) os wider (h.none_faults, h.covers) (k.none_faults, k.covers)
-
--- The outcome on cells is refused exactly where some covered machine faults or comes to run a body twice, or they come to too many
--- lists of frames.
-pub refused_exactly : (s : Setting) (fs : List Frame) (at : ℕ) (a : Abstract) → at < 2 ^ 31 → AreInRange a.stack → RunOnce fs → ((r : Reason) × (outcome_on_cells s fs at a ≡ Err r)) ↔ IsRefused a fs at (outcome s)
-refused_exactly s fs at a small fits once = (why, refused (outcome_on_cells s fs at a) (everything_stands s fs at a small fits once))
-  where
-    why : (r : Reason) × (outcome_on_cells s fs at a ≡ Err r) → IsRefused a fs at (outcome s)
-    why h = let R : Tested (List Next) → Type 0 = λ r. StandsFor a fs at (outcome s) r in subst R h.1 (everything_stands s fs at a small fits once)
 
     refused : (t : Tested (List Next)) → StandsFor a fs at (outcome s) t → IsRefused a fs at (outcome s) → (r : Reason) × (t ≡ Err r)
     refused (Err r) h k = (r, refl)

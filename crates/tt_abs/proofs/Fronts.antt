@@ -1,6 +1,6 @@
 -- What is left of a stack when operands were taken.
 use Rattle.std.specs.Prelude.{ℤ, Result, IfOk, IfErr}
-use Rattle.std.proofs.Common.{◌≡◌, ℕ, zero, suc, ◌+◌, ◌-◌, ◌<◌, ◌≤◌, List, [], ◌∷◌, ◌++◌, append_assoc, Some, None, Ok, Err, Bool, true, false, get_or, refl, sym, ◌∙◌, ap, subst, arith, length, drop, add-one}
+use Rattle.std.proofs.Common.{◌≡◌, ℕ, zero, suc, ◌+◌, ◌-◌, ◌<◌, ◌≤◌, List, [], ◌∷◌, ◌++◌, append_assoc, Some, None, Ok, Err, Bool, true, get_or, refl, sym, ◌∙◌, ap, subst, arith, length, drop, add-one}
 use Rattle.tt_code.specs.Refusals.{Tested}
 use Rattle.tt_code.specs.Settings.{Setting}
 use Rattle.tt_code.specs.Operands.{Taking, then_take, take_one, times, pair, pairs}
@@ -30,10 +30,6 @@ left_after (suc n) (y ∷ xs) below x e = ap (λ i. drop i (y ∷ xs)) (moved n)
 pub tested_takes : (passes : ℤ → Bool) (number : Reason) (stack below : List Cell) (taken after : ℕ) (z : ℤ) → drop taken stack ≡ Known z ∷ below → after ≡ taken + 1 → passes z ≡ true
     → TakesTo stack after (tested_cell passes number (drop taken stack))
 tested_takes passes number stack below taken after z e f h = (Known z ∷ [], rw (f, left_after taken stack below (Known z) e, e, h) refl)
-
-pub tested_fails : (passes : ℤ → Bool) (number : Reason) (stack below : List Cell) (taken : ℕ) (z : ℤ) → drop taken stack ≡ Known z ∷ below → passes z ≡ false
-    → tested_cell passes number (drop taken stack) ≡ Err number
-tested_fails passes number stack below taken z e h = rw (e, h) refl
 
 pub first_is : {A : Type 0} (xs : List A) (c d : A) → Some c ≡ first xs → c ≡ d → (below : List A) × (xs ≡ d ∷ below)
 first_is [] c d e f = absurd (cc)
@@ -73,12 +69,6 @@ pub row_step : (s : Setting) (a : Cells) (ops : List Operand) (i : ℕ) (d : Ope
 row_step s a ops i d given below next front h k e =
     let same : drop i ops ≡ get_or ops i d ∷ drop (i + 1) ops = rw (add-one, drop-cons ops i d) refl in
     goes_on_more given below next front (take_cell s a (get_or ops i d)) (take_cells s a (drop (i + 1) ops)) (rw same at k) e
-
-pub row_refused : (s : Setting) (a : Cells) (ops : List Operand) (i : ℕ) (d : Operand) (given : Tested (Taking Cell)) (below : List Cell) (n : Reason) → i < length ops
-    → GoesOn given below (take_cells s a (drop i ops)) → take_cell s a (get_or ops i d) below ≡ Err n → given ≡ Err n
-row_refused s a ops i d given below n h k e =
-    let same : drop i ops ≡ get_or ops i d ∷ drop (i + 1) ops = rw (add-one, drop-cons ops i d) refl in
-    goes_on_refused given below (take_cell s a (get_or ops i d)) (take_cells s a (drop (i + 1) ops)) n (rw same at k) e
 
 pub times_step : (one : List Cell → Tested (Taking Cell)) (count i : ℕ) (given : Tested (Taking Cell)) (below next front : List Cell) → i < count
     → GoesOn given below (times (count - i) one) → one below ≡ Ok (front, next) → GoesOn given next (times (count - (i + 1)) one)

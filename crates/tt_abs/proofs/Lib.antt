@@ -10,8 +10,8 @@ pub mod EntryEdits
 pub mod Choosing
 pub mod Bests
 pub mod Machines
-pub mod Zones
 pub mod Takes
+pub mod RolesTold
 pub mod Rows
 pub mod PlainLemmas
 pub mod TableRows

@@ -1,6 +1,6 @@
 -- A plain line in place: what is counted is what is taken, and indices into the storage area were tested.
 use Rattle.std.specs.Prelude.{ℤ, pos, negsuc, ◌<◌, ◌^◌}
-use Rattle.std.proofs.Common.{◌≡◌, ℕ, zero, suc, List, [], ◌∷◌, ◌++◌, Ok, Err, refl, sym, ◌∙◌, ap, subst, arith, take, drop, Bool, true, false}
+use Rattle.std.proofs.Common.{◌≡◌, ℕ, zero, suc, List, [], ◌∷◌, ◌++◌, Ok, refl, sym, ◌∙◌, ap, subst, arith, take, drop, Bool, true, false}
 use Rattle.std.proofs.lemmas.Bool.{ltb-true, and_parts}
 use Rattle.std.proofs.lemmas.List.{append_cancel_right, take-append-drop}
 use Rattle.tt_code.specs.Refusals.{Tested, ◌>>=◌, holds_or}
@@ -9,7 +9,6 @@ use Rattle.tt_code.specs.Settings.{Setting}
 use Rattle.tt_code.specs.States.{is_below}
 use Rattle.tt_code.specs.Operands.{Taking, take_operands}
 use Rattle.tt_code.specs.Changes.{taken_at, all_updated}
-use Rattle.tt_code.specs.declared.reason.Reason.{Reason}
 use Rattle.tt_code.specs.declared.reason.Reason.TheVariants as reason
 use Rattle.tt_code.specs.declared.kinds.Operand.{Operand}
 use Rattle.tt_code.specs.declared.kinds.Operand.TheVariants as operand
@@ -122,13 +121,6 @@ pushes_counted s a line stack n small tested h =
     subst I (front_is s a line.operands stack h.0 n h.1) (pushes_indexed s a line.operands line.pushes stack (h.0, drop n stack) small reads h.1)
 
 -- The whole line.
-
-pub plain_refused : (s : Setting) (a : Abstract) (line : Lists) (r : Reason) → take_cells s a.registers.graphics line.operands a.stack ≡ Err r → plain_cells s a line ≡ Err r
-plain_refused s a line r e = rw e refl
-
-pub plain_unused : (s : Setting) (a : Abstract) (line : Lists) (n : ℕ) (r : Reason) → TakesTo a.stack n (take_cells s a.registers.graphics line.operands a.stack)
-    → test_cell_uses s a.registers.graphics line.uses ≡ Err r → plain_cells s a line ≡ Err r
-plain_unused s a line n r h u = rw (h.1, u) refl
 
 pub plain_done : (s : Setting) (a : Abstract) (line : Lists) (n : ℕ) → TakesTo a.stack n (take_cells s a.registers.graphics line.operands a.stack)
     → test_cell_uses s a.registers.graphics line.uses ≡ Ok tt

@@ -65,10 +65,6 @@ in_parts : (xs ys : List Cell) → AreInRange (xs ++ ys) → AreInRange xs × Ar
 in_parts [] ys h = (tt, h)
 in_parts (x ∷ xs) ys h = let (p, q) = in_parts xs ys h.1 in ((h.0, p), q)
 
-in_whole : (xs ys : List Cell) → AreInRange xs → AreInRange ys → AreInRange (xs ++ ys)
-in_whole [] ys h k = k
-in_whole (x ∷ xs) ys h k = (h.0, in_whole xs ys h.1 k)
-
 at_in_range : (cs : List Cell) (i : ℕ) → AreInRange cs → IsInRange (taken_at (Known (pos 1)) cs i)
 at_in_range [] i h = one_is_number
 at_in_range (c ∷ cs) zero h = h.0

@@ -3,7 +3,7 @@ use Rattle.std.specs.Prelude.{reverse}
 use Rattle.std.proofs.Common.{◌≡◌, ℕ, ◌-◌, ◌<◌, ◌≤◌, List, length, drop, sym, ◌∙◌, ap, subst, arith, inl, inr}
 use Rattle.std.specs.List.{refill}
 use Rattle.std.proofs.lemmas.Bool.{cases_lt}
-use Rattle.std.proofs.lemmas.List.{ext_get_or, get_or-reverse, get_or_past, length-reverse, reverse-reverse, take_at}
+use Rattle.std.proofs.lemmas.List.{get_or-reverse, get_or_past, length-reverse, reverse-reverse, take_at}
 use Rattle.tt_abs.specs.declared.cells.Cell.{Cell}
 use Rattle.tt_abs.specs.declared.cells.Cell.TheVariants.{Unknown}
 use Rattle.tt_abs.specs.Orders.{IsLeastAbove}
@@ -62,14 +62,6 @@ least-reverse a b c p = record {
     back e d h = let P : List Cell → Type 0 = λ x. StackBelow x (reverse d) in subst P (reverse-reverse e) (StackBelow-reverse (reverse e) d h)
 
 -- stacks of one depth, place by place from the bottom
-
-pub same_from_places : (a b : List Cell) → length a ≡ length b
-    → ((k : ℕ) → k < length a → cell_at (reverse a) k ≡ cell_at (reverse b) k) → a ≡ b
-same_from_places a b long h =
-    let one : length (reverse a) ≡ length a = length-reverse a in
-    sym (reverse-reverse a)
-    ∙ ap reverse (ext_get_or Unknown (reverse a) (reverse b) (length-reverse a ∙ long ∙ sym (length-reverse b)) (λ k lt. h k (omega arith)))
-    ∙ reverse-reverse b
 
 turned_below : (a b : List Cell) → StackBelow (reverse a) (reverse b) → StackBelow a b
 turned_below a b h =

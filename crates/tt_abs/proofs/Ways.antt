@@ -44,14 +44,6 @@ becomes_as a fs at does other same m w = record {
   new_is = w.new_is;
 }
 
-pub transfers_as : (a : Abstract) (fs : List Frame) (at : ℕ) (does other : Machine → Tested Outcome) (r : Tested Abstract) → ((m : Machine) → Stands a fs at m → other m ≡ does m)
-    → Transfers a fs at does r → Transfers a fs at other r
-transfers_as a fs at does other (Err q) same h = let (m, k, st, e) = h in (m, k, st, same m st ∙ e)
-transfers_as a fs at does other (Ok b) same h = (
-  λ m st. let (o, e) = h.0 m st in (o, same m st ∙ e),
-  smallest_same (Becomes a fs at does) (Becomes a fs at other) b (becomes_as a fs at other does (λ m st. sym (same m st))) (becomes_as a fs at does other same) h.1,
-)
-
 pub transfers_to_as : (a : Abstract) (fs : List Frame) (at : ℕ) (does other : Machine → Tested Outcome) (r : Tested (List Next)) → ((m : Machine) → Stands a fs at m → other m ≡ does m)
     → TransfersTo a fs at does r → TransfersTo a fs at other r
 transfers_to_as a fs at does other (Err q) same h = let (m, k, st, e) = h in (m, k, st, same m st ∙ e)

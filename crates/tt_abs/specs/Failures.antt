@@ -1,15 +1,22 @@
 -- Which test of an instruction fails first on cells: the reason that it gives, and what is so of what
 -- it tells. (Own.)
-use Rattle.std.specs.Prelude.{◌≡◌, ◌<◌, ℕ, ℤ, pos, ◌+ℤ◌, List, ◌∷◌, None, Some, Err, false, true, drop, length}
+use Rattle.std.specs.Prelude.{◌≡◌, ◌<◌, ℕ, zero, suc, ◌+◌, ℤ, pos, ◌+ℤ◌, List, ◌∷◌, ◌++◌, Option, None, Some, Ok, Err, false, true, drop, length}
 use Rattle.tt_code.specs.Changes.{natural}
 use Rattle.tt_code.specs.Computing.{element}
 use Rattle.tt_code.specs.Control.{body_named}
 use Rattle.tt_code.specs.Operands.{count_of, is_zone}
 use Rattle.tt_code.specs.Settings.{Setting, contours_in, is_target, zone_size}
 use Rattle.tt_code.specs.States.{is_below, pointer}
+use Rattle.tt_code.specs.Table.{Meaning, Plain, Stack, Controls, effect_of}
+use Rattle.tt_code.specs.declared.kinds.Control.{Control}
+use Rattle.tt_code.specs.declared.kinds.Control.TheVariants.{Jump, JumpIfTrue, JumpIfFalse, Call, LoopCall, FunctionDefinition}
+use Rattle.tt_code.specs.declared.kinds.Operand.{Operand}
+use Rattle.tt_code.specs.declared.kinds.Operand.TheVariants as operand
 use Rattle.tt_code.specs.declared.kinds.Pointer.{Pointer}
 use Rattle.tt_code.specs.declared.kinds.Reference.{Reference}
 use Rattle.tt_code.specs.declared.kinds.Reference.TheVariants as reference
+use Rattle.tt_code.specs.declared.kinds.StackOp.{StackOp}
+use Rattle.tt_code.specs.declared.kinds.StackOp.TheVariants.{CopyIndexed, MoveIndexed}
 use Rattle.tt_code.specs.declared.kinds.Within.{Within}
 use Rattle.tt_code.specs.declared.kinds.Within.TheVariants.{In, Both, GlyphAnd}
 use Rattle.tt_code.specs.declared.machine.Frame.{Frame}
@@ -23,8 +30,10 @@ use Rattle.tt_abs.specs.declared.failed.Failed.{Failed}
 use Rattle.tt_abs.specs.declared.failed.Failed.TheVariants.{Only, TooFew, NoElement, TooDeep, Unknown, UnknownIn, NoPoint, NoReferencePoint, NoControlValue, NoStorageCell, NoZone, NoContour, NegativeCount, NegativeLoop, LowIndex, NoTarget, NoFunction, Undefined, Running, OtherDepth}
 use Rattle.tt_abs.specs.declared.failed.Register.{Register}
 use Rattle.tt_abs.specs.declared.failed.Register.TheVariants as register
+use Rattle.tt_abs.specs.declared.failed.Role.{Role}
+use Rattle.tt_abs.specs.declared.failed.Role.TheVariants as role
 use Rattle.tt_abs.specs.Cells.{Abstract, Cells}
-use Rattle.tt_abs.specs.Transfers.{is_below_in, is_running}
+use Rattle.tt_abs.specs.Transfers.{instruction_of, is_below_in, is_running, take_cells}
 
 -- the reason for which a program is refused where this test fails
 abbrev pub reason_of : Failed → Reason
@@ -92,50 +101,124 @@ ReadsNoNumber reason.Definition = Unit {0}
 ReadsNoNumber reason.InstructionDefinition = Unit {0}
 ReadsNoNumber _ = ⊥
 
--- What is told of a test that fails is so: of the state before the instruction at the place; and of
--- the depth that the instruction leaves, which is `left`.
-abbrev pub Tells : Setting → List Frame → ℕ → Abstract → ℕ → Failed → Type 0
-Tells s fs at a left (Only r) = ReadsNoNumber r
-Tells s fs at a left (TooFew depth) = depth ≡ length a.stack
-Tells s fs at a left (NoElement index) =
+-- What an instruction takes the stack's elements as, where its tests read them.
+
+-- which element is taken as what: whether the one under so many others is taken as this
+abbrev pub Roles : Type 1
+Roles = Role → ℕ → Type 0
+
+-- every other element is taken as this, the first one included
+abbrev pub every_other : Role → ℕ → Option Role
+every_other r zero = Some r
+every_other r (suc zero) = None
+every_other r (suc (suc n)) = every_other r n
+
+-- the first element is taken as a count, and of the pairs after it the first of each as this
+abbrev pub role_in_pairs : Role → ℕ → Option Role
+role_in_pairs r zero = Some role.Count
+role_in_pairs r (suc n) = every_other r n
+
+-- what an operand takes an element as, by how many it takes before this one
+abbrev pub role_in_operand : Operand → ℕ → Option Role
+role_in_operand (operand.Point within) zero = Some role.Point
+role_in_operand operand.Cvt zero = Some role.ControlValue
+role_in_operand operand.Storage zero = Some role.StorageCell
+role_in_operand operand.Zone zero = Some role.Zone
+role_in_operand operand.Contour zero = Some role.Contour
+role_in_operand (operand.LoopPoints within) n = Some role.Point
+role_in_operand (operand.PointPairs within) n = role_in_pairs role.Point n
+role_in_operand operand.CvtPairs n = role_in_pairs role.ControlValue n
+role_in_operand _ _ = None
+
+-- an operand of a line takes the element as this, after those before it took what is over them
+abbrev pub IsRoleInLine : Setting → Cells → List Cell → List Operand → Roles
+IsRoleInLine s g stack operands r under =
+    (before : List Operand) × (o : Operand) × (after : List Operand)
+    × (operands ≡ before ++ o ∷ after) × (front : List Cell) × (taken : ℕ) × (n : ℕ)
+    × (take_cells s g before stack ≡ Ok (front, drop taken stack))
+    × (under ≡ taken + n) × (role_in_operand o n ≡ Some r)
+
+-- what a stack instruction takes an element as
+abbrev pub role_in_shuffle : StackOp → ℕ → Option Role
+role_in_shuffle CopyIndexed zero = Some role.StackIndex
+role_in_shuffle MoveIndexed zero = Some role.StackIndex
+role_in_shuffle _ _ = None
+
+-- what a control instruction takes an element as
+abbrev pub role_in_control : Control → ℕ → Option Role
+role_in_control Jump zero = Some role.Distance
+role_in_control JumpIfTrue (suc zero) = Some role.Distance
+role_in_control JumpIfFalse (suc zero) = Some role.Distance
+role_in_control Call zero = Some role.Function
+role_in_control LoopCall zero = Some role.Function
+role_in_control LoopCall (suc zero) = Some role.Turns
+role_in_control FunctionDefinition zero = Some role.Function
+role_in_control _ _ = None
+
+-- an instruction of this effect takes the element as this
+abbrev pub IsRoleIn : Setting → Abstract → Meaning → Roles
+IsRoleIn s a (Plain line) r under =
+    IsRoleInLine s a.registers.graphics a.stack line.operands r under
+IsRoleIn s a (Stack operation) r under = role_in_shuffle operation under ≡ Some r
+IsRoleIn s a (Controls operation) r under = role_in_control operation under ≡ Some r
+IsRoleIn s a _ r under = ⊥
+
+-- the instruction at the place takes the element as this
+abbrev pub IsRoleAt : Setting → List Frame → ℕ → Abstract → Roles
+IsRoleAt s fs at a r under =
+    (code : ℕ) × (rest : List ℕ) × (instruction_of s fs at ≡ Some (code ∷ rest))
+    × IsRoleIn s a (effect_of code) r under
+
+-- What is told of a test that fails is so: of the state before the instruction at the place; of
+-- what the instruction takes its elements as; and of the depth that it leaves, which is `left`.
+abbrev pub TellsWith : Roles → Setting → List Frame → ℕ → Abstract → ℕ → Failed → Type 0
+TellsWith takes s fs at a left (Only r) = ReadsNoNumber r
+TellsWith takes s fs at a left (TooFew depth) = depth ≡ length a.stack
+TellsWith takes s fs at a left (NoElement index) =
     (below : List Cell) × (a.stack ≡ cell.Known index ∷ below)
     × (element index below ≡ Err reason.Underflow)
-Tells s fs at a left (TooDeep depth) = (depth ≡ left) × (s.limits.stack < depth)
-Tells s fs at a left (Unknown role under) =
-    (below : List Cell) × (drop under a.stack ≡ cell.Unknown ∷ below)
-Tells s fs at a left (UnknownIn register) = cell_in register a.registers.graphics ≡ cell.Unknown
-Tells s fs at a left (NoPoint z number) =
+TellsWith takes s fs at a left (TooDeep depth) = (depth ≡ left) × (s.limits.stack < depth)
+TellsWith takes s fs at a left (Unknown r under) =
+    (below : List Cell) × (drop under a.stack ≡ cell.Unknown ∷ below) × takes r under
+TellsWith takes s fs at a left (UnknownIn register) =
+    cell_in register a.registers.graphics ≡ cell.Unknown
+TellsWith takes s fs at a left (NoPoint z number) =
     IsOnStack a.stack number × (is_below_in (zone_size s) z number ≡ false)
     × ((within : Within) × (z ≡ zone_within a.registers.graphics within))
-Tells s fs at a left (NoReferencePoint register z number) =
+TellsWith takes s fs at a left (NoReferencePoint register z number) =
     (cell_in register a.registers.graphics ≡ cell.Known number)
     × (is_below_in (zone_size s) z number ≡ false)
     × ((p : Pointer) × (z ≡ pointer p a.registers.graphics))
-Tells s fs at a left (NoControlValue index) =
+TellsWith takes s fs at a left (NoControlValue index) =
     IsOnStack a.stack index × (is_below index s.cvt ≡ false)
-Tells s fs at a left (NoStorageCell index) =
+TellsWith takes s fs at a left (NoStorageCell index) =
     IsOnStack a.stack index × (is_below index s.limits.storage ≡ false)
-Tells s fs at a left (NoZone number) = IsOnStack a.stack number × (is_zone s number ≡ false)
-Tells s fs at a left (NoContour z number) =
+TellsWith takes s fs at a left (NoZone number) =
+    IsOnStack a.stack number × (is_zone s number ≡ false)
+TellsWith takes s fs at a left (NoContour z number) =
     IsOnStack a.stack number × (is_below_in (contours_in s) z number ≡ false)
     × (z ≡ a.registers.graphics.zp2)
-Tells s fs at a left (NegativeCount count) =
+TellsWith takes s fs at a left (NegativeCount count) =
     IsOnStack a.stack count × (count_of count ≡ Err reason.Count)
-Tells s fs at a left (NegativeLoop count) =
+TellsWith takes s fs at a left (NegativeLoop count) =
     (a.registers.graphics.loop_number ≡ cell.Known count) × (count_of count ≡ Err reason.Count)
-Tells s fs at a left (LowIndex index) =
+TellsWith takes s fs at a left (LowIndex index) =
     IsOnTop a.stack index × ((cells : List Cell) → element index cells ≡ Err reason.Count)
-Tells s fs at a left (NoTarget by) =
+TellsWith takes s fs at a left (NoTarget by) =
     IsOnStack a.stack by × (is_target s fs (pos at +ℤ by) ≡ false)
-Tells s fs at a left (NoFunction number) =
+TellsWith takes s fs at a left (NoFunction number) =
     IsOnTop a.stack number × (is_below number s.limits.functions ≡ false)
-Tells s fs at a left (Undefined number) =
+TellsWith takes s fs at a left (Undefined number) =
     IsOnTop a.stack number × (is_below number s.limits.functions ≡ true)
     × (body_named a.functions (natural number) ≡ None)
-Tells s fs at a left (Running number) =
+TellsWith takes s fs at a left (Running number) =
     IsOnTop a.stack number × ((body : ℕ) × (body_named a.functions (natural number) ≡ Some body)
     × (is_running body fs ≡ true))
-Tells s fs at a left (OtherDepth depth) = ⊥
+TellsWith takes s fs at a left (OtherDepth depth) = ⊥
+
+-- the same, by what the instruction at the place takes its elements as
+abbrev pub Tells : Setting → List Frame → ℕ → Abstract → ℕ → Failed → Type 0
+Tells s fs at a left f = TellsWith (IsRoleAt s fs at a) s fs at a left f
 
 -- the same, whatever depth the instruction leaves
 abbrev pub IsTold : Setting → List Frame → ℕ → Abstract → Failed → Type 0

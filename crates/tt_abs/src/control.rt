@@ -7,9 +7,11 @@ ghost use Rattle.tt_code.specs.declared.kinds.Control.TheVariants as control;
 ghost use Rattle.tt_code.specs.declared.reason.Reason.TheVariants as reason;
 ghost use Rattle.tt_abs.specs.declared.cells.Cell.TheVariants.{Known};
 ghost use Rattle.tt_abs.specs.declared.failed.Failed.TheVariants.{Only, TooDeep};
+ghost use Rattle.tt_abs.specs.declared.failed.Role.TheVariants as roles;
 ghost use Rattle.tt_abs.specs.Failures.{reason_of};
-ghost use Rattle.tt_abs.specs.Moves.{ControlsTo, IsControlRefusedFor, IsRefusedFor, LeadsBy, TellsWhatFails};
-ghost use Rattle.tt_abs.specs.Representation.Steps.{JumpsNowhere, JumpsTo, Leads, LeadsNowhere, TellsOfCall, TellsOfEntry, TellsOfJump, called_at, enter_at, if_at, jump_at, jump_if_at, loop_at};
+ghost use Rattle.tt_abs.specs.Moves.{ControlsTo, IsControlRefusedFor, IsRefusedFor, LeadsBy};
+ghost use Rattle.tt_abs.specs.Representation.Steps.{IsRoleOfControl, JumpsNowhere, JumpsTo, Leads, LeadsNowhere, TellsOf, TellsOfCall, TellsOfEntry, TellsOfJump, called_at, enter_at, if_at, jump_at, jump_if_at, loop_at};
+ghost use Rattle.tt_abs.specs.Representation.Taken.{IsRole};
 ghost use Rattle.tt_abs.specs.Transfers.{is_running as runs_already};
 
 use crate::arithmetic::is_true;
@@ -69,7 +71,8 @@ fn branch(setting: &Setting<'_>, point: &Point<'_>, state: &mut State) -> Result
     ensures refused { IfErr result
         (IsControlRefusedFor setting.now point.now control.If state.old) }
     ensures told { IfErr result
-        (TellsWhatFails setting.now point.now state.old (length state.new.stack)) }
+        (TellsOf (IsRoleOfControl control.If) setting.now point.now state.old
+        (length state.new.stack)) }
 {
     let condition = cell_under(&state.stack, 0)?;
     let moves = ways_of_if(setting, point, condition)?;
@@ -87,7 +90,8 @@ fn skip_else(
     ensures refused { IfErr result
         (IsControlRefusedFor setting.now point.now control.Else state.old) }
     ensures told { IfErr result
-        (TellsWhatFails setting.now point.now state.old (length state.new.stack)) }
+        (TellsOf (IsRoleOfControl control.Else) setting.now point.now state.old
+        (length state.new.stack)) }
 {
     match setting.program(point).after_else(point.offset) {
         Some(offset) => Ok(Moves::One(Move::To(offset))),
@@ -153,7 +157,8 @@ fn jump(setting: &Setting<'_>, point: &Point<'_>, state: &mut State) -> Result<M
     ensures refused { IfErr result
         (IsControlRefusedFor setting.now point.now control.Jump state.old) }
     ensures told { IfErr result
-        (TellsWhatFails setting.now point.now state.old (length state.new.stack)) }
+        (TellsOf (IsRoleOfControl control.Jump) setting.now point.now state.old
+        (length state.new.stack)) }
 {
     let cell = cell_under(&state.stack, 0)?;
     state.stack.cut(1);
@@ -209,7 +214,8 @@ fn jump_if(
     ensures refused { IfErr result
         (IsRefusedFor (jump_if_at setting.now point.now asked state.old)) }
     ensures told { IfErr result
-        (TellsWhatFails setting.now point.now state.old (length state.new.stack)) }
+        (TellsOf (IsRole roles.Distance 1) setting.now point.now state.old
+        (length state.new.stack)) }
 {
     let condition = cell_under(&state.stack, 0)?;
     let cell = cell_under(&state.stack, 1)?;
@@ -235,7 +241,8 @@ fn define(setting: &Setting<'_>, point: &Point<'_>, state: &mut State) -> Result
     ensures refused { IfErr result
         (IsControlRefusedFor setting.now point.now control.FunctionDefinition state.old) }
     ensures told { IfErr result
-        (TellsWhatFails setting.now point.now state.old (length state.new.stack)) }
+        (TellsOf (IsRoleOfControl control.FunctionDefinition) setting.now point.now state.old
+        (length state.new.stack)) }
 {
     if !setting.may_define() {
         return Err(StepFault::Refused(Failed::Only(Reason::Definition)));
@@ -333,7 +340,8 @@ fn call(setting: &Setting<'_>, point: &Point<'_>, state: &mut State) -> Result<M
     ensures refused { IfErr result
         (IsControlRefusedFor setting.now point.now control.Call state.old) }
     ensures told { IfErr result
-        (TellsWhatFails setting.now point.now state.old (length state.new.stack)) }
+        (TellsOf (IsRoleOfControl control.Call) setting.now point.now state.old
+        (length state.new.stack)) }
 {
     let top = cell_under(&state.stack, 0)?;
     let callee = called(setting, state, top)?;
@@ -378,7 +386,8 @@ fn loop_call(
     ensures refused { IfErr result
         (IsControlRefusedFor setting.now point.now control.LoopCall state.old) }
     ensures told { IfErr result
-        (TellsWhatFails setting.now point.now state.old (length state.new.stack)) }
+        (TellsOf (IsRoleOfControl control.LoopCall) setting.now point.now state.old
+        (length state.new.stack)) }
 {
     let top = cell_under(&state.stack, 0)?;
     let callee = called(setting, state, top)?;
@@ -396,7 +405,8 @@ fn end_function(setting: &Setting<'_>, point: &Point<'_>, state: &State) -> Resu
     ensures refused { IfErr result
         (IsControlRefusedFor setting.now point.now control.EndFunction state.now) }
     ensures told { IfErr result
-        (TellsWhatFails setting.now point.now state.now (length state.now.stack)) }
+        (TellsOf (IsRoleOfControl control.EndFunction) setting.now point.now state.now
+        (length state.now.stack)) }
 {
     match point.frames {
         [] => Err(StepFault::Refused(NO_END)),
@@ -425,7 +435,8 @@ pub fn execute_control(
     ensures ok { IfOk result (ControlsTo setting.now point.now operation state.old state.new) }
     ensures refused { IfErr result (IsControlRefusedFor setting.now point.now operation state.old) }
     ensures told { IfErr result
-        (TellsWhatFails setting.now point.now state.old (length state.new.stack)) }
+        (TellsOf (IsRoleOfControl operation) setting.now point.now state.old
+        (length state.new.stack)) }
 {
     match operation {
         Control::If => branch(setting, point, state),

@@ -5,7 +5,7 @@ ghost use Rattle.tt_abs.specs.Moves.{IsStepRefusedFor, StartsAt, StepsTo, TellsW
 ghost use Rattle.tt_abs.specs.Lines.{EndsAt};
 ghost use Rattle.tt_abs.specs.Settings.{frames_of, setting_of};
 ghost use Rattle.tt_abs.specs.States.{state_order};
-ghost use Rattle.tt_abs.specs.Representation.Steps.{DoesTo, IsDoingRefusedFor};
+ghost use Rattle.tt_abs.specs.Representation.Steps.{DoesTo, IsDoingRefusedFor, TellsOfBytes};
 
 use crate::compute::compute;
 use crate::control::execute_control;
@@ -35,7 +35,7 @@ fn dispatch(
     ensures ok { IfOk result (DoesTo setting.now point.now instr.now state.old state.new) }
     ensures refused { IfErr result (IsDoingRefusedFor setting.now point.now instr.now state.old) }
     ensures told { IfErr result
-        (TellsWhatFails setting.now point.now state.old (length state.new.stack)) }
+        (TellsOfBytes setting.now point.now instr.now state.old (length state.new.stack)) }
 {
     match entry(instr.code()) {
         Effect::NoEntry => return Err(StepFault::Refused(Failed::Only(Reason::Opcode))),

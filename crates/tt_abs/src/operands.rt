@@ -1,13 +1,15 @@
 //! Taking operands. `taken` is how many cells are taken from the top already; a function that takes
 //! more returns how many are taken then, or the first test that fails.
 
-ghost use Rattle.std.specs.Prelude.{◌≡◌, Err, IfErr, IfOk, Ok, OnOk, length};
+ghost use Rattle.std.specs.Prelude.{◌≡◌, ◌+◌, Err, IfErr, IfOk, Ok, OnOk, length};
 ghost use Rattle.tt_code.specs.Operands.{pair, take_one, times};
+ghost use Rattle.tt_code.specs.declared.kinds.Operand.TheVariants as operands;
 ghost use Rattle.tt_abs.specs.declared.cells.Cell.TheVariants.{Known, Unknown};
 ghost use Rattle.tt_abs.specs.declared.failed.Failed.TheVariants as failed;
-ghost use Rattle.tt_abs.specs.Failures.{reason_of};
+ghost use Rattle.tt_abs.specs.declared.failed.Role.TheVariants as roles;
+ghost use Rattle.tt_abs.specs.Failures.{IsRoleInLine, reason_of};
 ghost use Rattle.tt_abs.specs.Settings.{setting_of};
-ghost use Rattle.tt_abs.specs.Representation.Taken.{IsCountUnder, IsNumberUnder, IsTakingRefused, NoCountUnder, NoNumberUnder, TakesFrom, TakesTo, FailsUse, PassesUse, TellsOfGraphics, TellsOfGraphicsIn, TellsOfOperands, TellsOfStack, TellsOfStackIn, cvt_pairs, loop_points, one_contour, one_cvt, one_operand, one_point, one_storage, one_zone, point_pairs};
+ghost use Rattle.tt_abs.specs.Representation.Taken.{IsCountUnder, IsNumberUnder, IsRole, IsRoleFrom, IsTakingRefused, NoCountUnder, NoNumberUnder, TakesFrom, TakesTo, FailsUse, PassesUse, TellsOfGraphics, TellsOfGraphicsIn, TellsOfOperands, TellsOfStack, TellsOfStackAs, TellsOfStackIn, cvt_pairs, loop_points, one_contour, one_cvt, one_operand, one_point, one_storage, one_zone, point_pairs};
 ghost use Rattle.tt_abs.specs.Transfers.{known, known_count, take_cells, test_cell_uses};
 
 use crate::cells::{Cell, ZoneCell};
@@ -49,7 +51,7 @@ pub fn number(cell: Cell, role: Role, under: u32) -> Result<i32, Failed>
 fn next_number(stack: &Stack, taken: usize, role: Role) -> Result<(i32, usize), Failed>
     ensures ok { IfOk result (IsNumberUnder stack.now taken) }
     ensures refused { IfErr result (NoNumberUnder stack.now taken) }
-    ensures told { IfErr result (TellsOfStack stack.now) }
+    ensures told { IfErr result (TellsOfStackAs (IsRole role taken) stack.now) }
 {
     match stack.under(taken) {
         Some(cell) => {
@@ -64,7 +66,9 @@ fn next_number(stack: &Stack, taken: usize, role: Role) -> Result<(i32, usize), 
 fn take_cvt(setting: &Setting<'_>, stack: &Stack, taken: usize) -> Result<usize, Failed>
     ensures ok { IfOk result (TakesFrom stack.now taken (one_cvt setting.now)) }
     ensures refused { IfErr result (IsTakingRefused stack.now taken (one_cvt setting.now)) }
-    ensures told { IfErr result (TellsOfStackIn setting.now stack.now) }
+    ensures one { IfOk result (λ n. n ≡ taken + 1) }
+    ensures told { IfErr result
+        (TellsOfStackIn setting.now stack.now (IsRoleFrom taken operands.Cvt)) }
 {
     let (index, after) = next_number(stack, taken, Role::ControlValue)?;
     if is_index(index, setting.cvt) {
@@ -78,7 +82,8 @@ fn take_cvt(setting: &Setting<'_>, stack: &Stack, taken: usize) -> Result<usize,
 fn take_storage(setting: &Setting<'_>, stack: &Stack, taken: usize) -> Result<usize, Failed>
     ensures ok { IfOk result (TakesFrom stack.now taken (one_storage setting.now)) }
     ensures refused { IfErr result (IsTakingRefused stack.now taken (one_storage setting.now)) }
-    ensures told { IfErr result (TellsOfStackIn setting.now stack.now) }
+    ensures told { IfErr result
+        (TellsOfStackIn setting.now stack.now (IsRoleFrom taken operands.Storage)) }
 {
     let (index, after) = next_number(stack, taken, Role::StorageCell)?;
     if is_index(index, u32::from(setting.limits.storage)) {
@@ -92,7 +97,8 @@ fn take_storage(setting: &Setting<'_>, stack: &Stack, taken: usize) -> Result<us
 fn take_zone(setting: &Setting<'_>, stack: &Stack, taken: usize) -> Result<usize, Failed>
     ensures ok { IfOk result (TakesFrom stack.now taken (one_zone setting.now)) }
     ensures refused { IfErr result (IsTakingRefused stack.now taken (one_zone setting.now)) }
-    ensures told { IfErr result (TellsOfStackIn setting.now stack.now) }
+    ensures told { IfErr result
+        (TellsOfStackIn setting.now stack.now (IsRoleFrom taken operands.Zone)) }
 {
     let (number, after) = next_number(stack, taken, Role::Zone)?;
     if setting.is_zone(number) {
@@ -113,7 +119,8 @@ fn take_contour(
         (one_contour setting.now graphics.now.zp2)) }
     ensures refused { IfErr result (IsTakingRefused stack.now taken
         (one_contour setting.now graphics.now.zp2)) }
-    ensures told { IfErr result (TellsOfOperands setting.now graphics.now stack.now) }
+    ensures told { IfErr result
+        (TellsOfOperands setting.now graphics.now stack.now (IsRoleFrom taken operands.Contour)) }
 {
     let (number, after) = next_number(stack, taken, Role::Contour)?;
     let zone = graphics.zp2;
@@ -136,7 +143,10 @@ fn take_point(
         (one_point setting.now graphics.now within)) }
     ensures refused { IfErr result (IsTakingRefused stack.now taken
         (one_point setting.now graphics.now within)) }
-    ensures told { IfErr result (TellsOfOperands setting.now graphics.now stack.now) }
+    ensures one { IfOk result (λ n. n ≡ taken + 1) }
+    ensures told { IfErr result
+        (TellsOfOperands setting.now graphics.now stack.now
+        (IsRoleFrom taken (operands.Point within))) }
 {
     let (number, after) = next_number(stack, taken, Role::Point)?;
     let zone = zone_within(graphics, within);
@@ -151,6 +161,7 @@ fn take_point(
 fn take_any(stack: &Stack, taken: usize) -> Result<usize, Failed>
     ensures ok { IfOk result (TakesFrom stack.now taken take_one) }
     ensures refused { IfErr result (IsTakingRefused stack.now taken take_one) }
+    ensures one { IfOk result (λ n. n ≡ taken + 1) }
     ensures told { IfErr result (TellsOfStack stack.now) }
 {
     match stack.under(taken) {
@@ -172,7 +183,9 @@ fn take_points(
         (times count (one_point setting.now graphics.now within))) }
     ensures refused { IfErr result (IsTakingRefused stack.now taken
         (times count (one_point setting.now graphics.now within))) }
-    ensures told { IfErr result (TellsOfOperands setting.now graphics.now stack.now) }
+    ensures told { IfErr result
+        (TellsOfOperands setting.now graphics.now stack.now
+        (IsRoleFrom taken (operands.LoopPoints within))) }
 {
     let mut after = taken;
     for i in 0..count {
@@ -209,7 +222,9 @@ fn take_loop_points(
         (loop_points setting.now graphics.now within)) }
     ensures refused { IfErr result (IsTakingRefused stack.now taken
         (loop_points setting.now graphics.now within)) }
-    ensures told { IfErr result (TellsOfOperands setting.now graphics.now stack.now) }
+    ensures told { IfErr result
+        (TellsOfOperands setting.now graphics.now stack.now
+        (IsRoleFrom taken (operands.LoopPoints within))) }
 {
     let n = loop_count(graphics)?;
     take_points(setting, graphics, stack, taken, within, n)
@@ -227,7 +242,10 @@ fn take_point_pair(
         (pair (one_point setting.now graphics.now within))) }
     ensures refused { IfErr result (IsTakingRefused stack.now taken
         (pair (one_point setting.now graphics.now within))) }
-    ensures told { IfErr result (TellsOfOperands setting.now graphics.now stack.now) }
+    ensures two { IfOk result (λ n. n ≡ taken + 2) }
+    ensures told { IfErr result
+        (TellsOfOperands setting.now graphics.now stack.now
+        (IsRoleFrom taken (operands.Point within))) }
 {
     let after = take_point(setting, graphics, stack, taken, within)?;
     take_any(stack, after)
@@ -237,7 +255,9 @@ fn take_point_pair(
 fn take_cvt_pair(setting: &Setting<'_>, stack: &Stack, taken: usize) -> Result<usize, Failed>
     ensures ok { IfOk result (TakesFrom stack.now taken (pair (one_cvt setting.now))) }
     ensures refused { IfErr result (IsTakingRefused stack.now taken (pair (one_cvt setting.now))) }
-    ensures told { IfErr result (TellsOfStackIn setting.now stack.now) }
+    ensures two { IfOk result (λ n. n ≡ taken + 2) }
+    ensures told { IfErr result
+        (TellsOfStackIn setting.now stack.now (IsRoleFrom taken operands.Cvt)) }
 {
     let after = take_cvt(setting, stack, taken)?;
     take_any(stack, after)
@@ -247,7 +267,7 @@ fn take_cvt_pair(setting: &Setting<'_>, stack: &Stack, taken: usize) -> Result<u
 fn next_count(stack: &Stack, taken: usize) -> Result<(u32, usize), Failed>
     ensures ok { IfOk result (IsCountUnder stack.now taken) }
     ensures refused { IfErr result (NoCountUnder stack.now taken) }
-    ensures told { IfErr result (TellsOfStack stack.now) }
+    ensures told { IfErr result (TellsOfStackAs (IsRole roles.Count taken) stack.now) }
 {
     match stack.under(taken) {
         Some(Cell::Known(count)) => match u32::try_from(count) {
@@ -277,7 +297,9 @@ fn take_point_pairs(
         (point_pairs setting.now graphics.now within)) }
     ensures refused { IfErr result (IsTakingRefused stack.now taken
         (point_pairs setting.now graphics.now within)) }
-    ensures told { IfErr result (TellsOfOperands setting.now graphics.now stack.now) }
+    ensures told { IfErr result
+        (TellsOfOperands setting.now graphics.now stack.now
+        (IsRoleFrom taken (operands.PointPairs within))) }
 {
     let (n, mut after) = next_count(stack, taken)?;
     for i in 0..n {
@@ -290,7 +312,8 @@ fn take_point_pairs(
 fn take_cvt_pairs(setting: &Setting<'_>, stack: &Stack, taken: usize) -> Result<usize, Failed>
     ensures ok { IfOk result (TakesFrom stack.now taken (cvt_pairs setting.now)) }
     ensures refused { IfErr result (IsTakingRefused stack.now taken (cvt_pairs setting.now)) }
-    ensures told { IfErr result (TellsOfStackIn setting.now stack.now) }
+    ensures told { IfErr result
+        (TellsOfStackIn setting.now stack.now (IsRoleFrom taken operands.CvtPairs)) }
 {
     let (n, mut after) = next_count(stack, taken)?;
     for i in 0..n {
@@ -311,7 +334,8 @@ fn take_operand(
         (one_operand setting.now graphics.now operand)) }
     ensures refused { IfErr result (IsTakingRefused stack.now taken
         (one_operand setting.now graphics.now operand)) }
-    ensures told { IfErr result (TellsOfOperands setting.now graphics.now stack.now) }
+    ensures told { IfErr result
+        (TellsOfOperands setting.now graphics.now stack.now (IsRoleFrom taken operand)) }
 {
     match operand {
         Operand::Number => take_any(stack, taken),
@@ -341,7 +365,9 @@ pub fn take_operands(
     ensures refused { IfErr result (λ f.
         take_cells (setting_of setting.now) graphics.now operands.now stack.now
         ≡ Err (reason_of f)) }
-    ensures told { IfErr result (TellsOfOperands setting.now graphics.now stack.now) }
+    ensures told { IfErr result
+        (TellsOfOperands setting.now graphics.now stack.now
+        (IsRoleInLine (setting_of setting.now) graphics.now stack.now operands.now)) }
 {
     let mut taken = 0;
     for operand in operands {

@@ -3,7 +3,7 @@
 ghost use Rattle.std.specs.Prelude.{◌≡◌, IfErr, Ok, OnOk, true};
 ghost use Rattle.tt_abs.specs.Moves.{ForFailed, IsRefusedFor};
 ghost use Rattle.tt_abs.specs.States.{abstract_of};
-ghost use Rattle.tt_abs.specs.Representation.Steps.{TellsOfState, line_of, plain_at};
+ghost use Rattle.tt_abs.specs.Representation.Steps.{TellsOfLine, line_of, plain_at};
 ghost use Rattle.tt_abs.specs.Representation.Stored.{is_of_one_kind, is_tested_line};
 
 use crate::changes::{pushed_cells, update_all};
@@ -26,7 +26,7 @@ pub fn execute_plain(setting: &Setting<'_>, state: &mut State, line: &Row) -> Re
     ensures ok { OnOk result
         (plain_at setting.now state.old line.now ≡ Ok (abstract_of state.new)) }
     ensures refused { IfErr result (IsRefusedFor (plain_at setting.now state.old line.now)) }
-    ensures told { IfErr result (λ e. ForFailed e (TellsOfState setting.now state.old)) }
+    ensures told { IfErr result (λ e. ForFailed e (TellsOfLine setting.now state.old line.now)) }
 {
     let count = take_operands(setting, &state.graphics, &state.stack, line.operands)?;
     test_uses(setting, &state.graphics, line.uses)?;

@@ -5,11 +5,12 @@ ghost use Rattle.tt_code.specs.Computing.{element};
 ghost use Rattle.tt_code.specs.declared.kinds.StackOp.TheVariants as op;
 ghost use Rattle.tt_abs.specs.Failures.{reason_of};
 ghost use Rattle.tt_abs.specs.Moves.{ForFailed};
-ghost use Rattle.tt_abs.specs.Representation.Taken.{TellsOfStack};
-ghost use Rattle.tt_abs.specs.Representation.Steps.{IsNamedCell, IsStackRefusedFor, NamesNoCell, Restacks};
+ghost use Rattle.tt_abs.specs.Representation.Taken.{IsRole, TellsOfStack, TellsOfStackAs};
+ghost use Rattle.tt_abs.specs.Representation.Steps.{IsNamedCell, IsRoleOfShuffle, IsStackRefusedFor, NamesNoCell, Restacks};
 ghost use Rattle.tt_abs.specs.Transfers.{shuffled_cells};
 ghost use Rattle.tt_abs.specs.declared.cells.Cell.{Cell as AnyCell};
 ghost use Rattle.tt_abs.specs.declared.failed.Failed.TheVariants as failed;
+ghost use Rattle.tt_abs.specs.declared.failed.Role.TheVariants as roles;
 
 use crate::cells::Cell;
 use crate::failed::{Failed, Role};
@@ -98,7 +99,7 @@ fn place(index: i32) -> Result<usize, Failed>
 fn indexed(stack: &Stack) -> Result<(usize, Cell), Failed>
     ensures ok { IfOk result (IsNamedCell stack.now) }
     ensures refused { IfErr result (NamesNoCell stack.now) }
-    ensures told { IfErr result (TellsOfStack stack.now) }
+    ensures told { IfErr result (TellsOfStackAs (IsRole roles.StackIndex 0) stack.now) }
 {
     let top = cell_under(stack, 0)?;
     let index = number(top, Role::StackIndex, 0)?;
@@ -113,7 +114,8 @@ fn indexed(stack: &Stack) -> Result<(usize, Cell), Failed>
 fn copy_indexed(stack: &mut Stack) -> Result<(), StepFault>
     ensures ok { OnOk result (Restacks (shuffled_cells op.CopyIndexed) stack.old stack.new) }
     ensures refused { IfErr result (IsStackRefusedFor (shuffled_cells op.CopyIndexed) stack.old) }
-    ensures told { IfErr result (λ e. ForFailed e (TellsOfStack stack.old)) }
+    ensures told { IfErr result
+        (λ e. ForFailed e (TellsOfStackAs (IsRole roles.StackIndex 0) stack.old)) }
 {
     let (_, cell) = indexed(stack)?;
     stack.cut(1);
@@ -125,7 +127,8 @@ fn copy_indexed(stack: &mut Stack) -> Result<(), StepFault>
 fn move_indexed(stack: &mut Stack) -> Result<(), StepFault>
     ensures ok { OnOk result (Restacks (shuffled_cells op.MoveIndexed) stack.old stack.new) }
     ensures refused { IfErr result (IsStackRefusedFor (shuffled_cells op.MoveIndexed) stack.old) }
-    ensures told { IfErr result (λ e. ForFailed e (TellsOfStack stack.old)) }
+    ensures told { IfErr result
+        (λ e. ForFailed e (TellsOfStackAs (IsRole roles.StackIndex 0) stack.old)) }
 {
     let (above, cell) = indexed(stack)?;
     stack.cut(1);
@@ -159,7 +162,8 @@ fn roll(stack: &mut Stack) -> Result<(), StepFault>
 pub fn shuffle(stack: &mut Stack, operation: StackOp) -> Result<(), StepFault>
     ensures ok { OnOk result (Restacks (shuffled_cells operation) stack.old stack.new) }
     ensures refused { IfErr result (IsStackRefusedFor (shuffled_cells operation) stack.old) }
-    ensures told { IfErr result (λ e. ForFailed e (TellsOfStack stack.old)) }
+    ensures told { IfErr result
+        (λ e. ForFailed e (TellsOfStackAs (IsRoleOfShuffle operation) stack.old)) }
 {
     match operation {
         StackOp::Dup => duplicate(stack),

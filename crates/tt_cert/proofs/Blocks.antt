@@ -141,9 +141,6 @@ at_held P place taken at filled buf le at_is holds =
 pub held_long : (taken filled : ℕ) (buf : List ℕ) → filled ≤ length buf → length (held_in taken filled buf) ≡ filled - taken
 held_long taken filled buf le = omega (arith, length-drop taken (take filled buf), length-take filled buf)
 
-pub held_none : (taken filled : ℕ) (buf : List ℕ) → filled ≤ length buf → filled ≤ taken → held_in taken filled buf ≡ []
-held_none taken filled buf le none = none_left (held_in taken filled buf) (omega (arith, held_long taken filled buf le, none))
-
 -- more was read into the buffer
 pub held_on : (old new : Option (List ℕ)) (taken filled wanted more : ℕ) (was buf : List ℕ) → FillsOn old new filled wanted more was buf → taken ≤ filled
     → held_in taken (filled + more) buf ≡ held_in taken filled was ++ take more (drop filled buf)
@@ -236,20 +233,6 @@ fill_on old now next before xs ys place count filled taken more over after was b
         ap (λ (p : ℕ). list_at function_at ys m (input_of p took.left rest)) at_is
         ∙ ap (λ (l : List ℕ). list_at function_at ys m (input_of (place_after place after) l rest)) left_is in
         ap (λ (l : List ℕ). list_at function_at before (count + n) (here place l)) front ∙ inv.reads n (chunk ++ rest) ∙ rw (bytes, count_is) (t.reads m rest) ∙ there
-
--- the block is full
-pub fill_done : (old now : Option (List ℕ)) (before xs : List (ℕ × ℕ)) (place count filled taken after : ℕ) (buf : List ℕ) (f g : ℕ)
-    → IsBlock old now before xs place count filled taken buf f g → 6 * count ≤ filled → 6 * count ≤ 384 → after ≡ place_after place taken
-    → ReadsBlock (Ok after) old now before xs place count
-fill_done old now before xs place count filled taken after buf f g inv full few after_is known =
-    let was = block_known old now before xs place count filled taken buf f g inv known in
-    let none : held_in taken filled buf ≡ [] = held_none taken filled buf (omega (arith, inv.within, inv.long)) (omega (arith, inv.all, inv.short, inv.within, inv.order, full)) in
-    let done_is : inv.done ≡ count = omega (arith, inv.all, inv.short, inv.within, inv.order, full) in (
-      was.0,
-      λ n.
-          let count_is : (count + n) - inv.done ≡ n = omega (arith, done_is) in
-          was.1 n ∙ rw (none, count_is, after_is) refl,
-    )
 
 -- the input ends within the block
 pub fill_end : (old now next : Option (List ℕ)) (before xs : List (ℕ × ℕ)) (place count filled taken more after : ℕ) (was buf : List ℕ) (f g : ℕ)

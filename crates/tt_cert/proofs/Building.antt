@@ -1,20 +1,13 @@
 -- A state that is made from its parts, one after the other.
-use Rattle.std.proofs.Common.{◌≡◌, ℕ, ℤ, zero, suc, ◌+◌, ◌<◌, List, [], ◌∷◌, ◌++◌, length, take, reverse, Some, refl, sym, ap, subst, ◌∙◌, arith}
+use Rattle.std.proofs.Common.{◌≡◌, ℕ, ℤ, zero, suc, ◌+◌, ◌<◌, List, [], ◌∷◌, ◌++◌, length, take, Some, refl, sym, ap, subst, ◌∙◌, arith}
 use Rattle.std.specs.Prelude.{slice_get, slice_index_or}
 use Rattle.std.specs.List.{AllByRecursion}
 use Rattle.std.proofs.lemmas.Bool.{le-ltb, ne_eqb}
 use Rattle.std.proofs.lemmas.List.{take_more}
 use Rattle.std.proofs.lemmas.Option.{slice_get-get_or}
 use Rattle.tt_abs.specs.Entries.{Ascends, with_cell, with_entry}
-use Rattle.tt_abs.specs.declared.cells.Cell.{Cell}
 use Rattle.tt_abs.specs.declared.cells.Cell.TheVariants.{Known}
 use Rattle.tt_abs.specs.declared.state.State.{State}
-use Rattle.tt_abs.specs.Transfers.{cells_on}
-use Rattle.tt_abs.proofs.CodedCells.{cells_on_reversed}
-
--- cells that are pushed onto none
-pub on_none : (cells : List Cell) → cells_on cells [] ≡ reverse cells
-on_none cells = sym (cells_on_reversed [] cells)
 
 -- the state with other storage cells
 abbrev pub with_storage : State → List (ℕ × ℤ) → State

@@ -20,7 +20,7 @@ use Rattle.tt_cert.specs.Reading.{cell_at}
 use Rattle.tt_cert.proofs.Codecs.{here}
 use Rattle.tt_cert.proofs.SteadyUnits.{cell_steady}
 use Rattle.tt_cert.proofs.Stops.{Reached, reached_known, reached_part, reached_then, stops_there}
-use Rattle.tt_cert.proofs.Blocks.{held_in, held_left, held_long, held_none, held_on, held_slice, none_left, suffix_fits, suffix_on, unit_short, unit_whole}
+use Rattle.tt_cert.proofs.Blocks.{held_in, held_left, held_long, held_on, held_slice, none_left, suffix_fits, suffix_on, unit_short, unit_whole}
 
 -- the number of a known cell
 abbrev pub number_of : List ℕ → Cell
@@ -283,19 +283,6 @@ block_on old now next before xs ys place count wanted filled taken more over aft
         ap (λ (p : ℕ). cells_at ys n (input_of p took.left rest)) at_is ∙ ap (λ (l : List ℕ). cells_at ys n (input_of (place_after place after) l rest)) left_is in
         ap (λ (l : List ℕ). cells_at before ((length ys - length before) + n) (here place l)) front
         ∙ ap (λ (k : ℕ). cells_at before k (here place (take filled was ++ (chunk ++ rest)))) count_is ∙ inv.reads (t.taken + n) (chunk ++ rest) ∙ rw bytes (t.reads n rest) ∙ there
-
--- a block of whole cells
-pub block_done : (old now : Option (List ℕ)) (before xs : List Cell) (place count wanted filled taken after : ℕ) (buf : List ℕ) (f g : ℕ)
-    → IsCellBlock old now before xs place count wanted filled taken buf f g → IsWanted before count wanted → wanted ≤ filled → taken ≡ filled
-    → after ≡ place_after place taken → ReadsCells (Ok after) old now before xs place count
-block_done old now before xs place count wanted filled taken after buf f g inv fit full all after_is =
-    let none : held_in taken filled buf ≡ [] = held_none taken filled buf (omega (arith, inv.within, inv.long, fit.2)) (omega (arith, all)) in (
-      inv.some (omega (arith, all, full, fit.0)),
-      omega (arith, inv.few, all, inv.within, fit.0, fit.1),
-      λ known.
-          let was = block_known old now before xs place count wanted filled taken buf f g inv known in
-          (was.0, λ n. was.1 n ∙ rw (none, after_is) refl),
-    )
 
 -- the input ends within the block
 pub block_end : (old now next : Option (List ℕ)) (before xs : List Cell) (place count wanted filled taken more after : ℕ) (was buf : List ℕ) (f g : ℕ)

@@ -104,18 +104,6 @@ cut_known place start count end bytes left rest number over ends next_ends cells
     cut_more place start count end bytes left over ends next_ends cells next x cut ends_is next_is lt text_is end_is
     (cells_known [] cells next place (place_after place (length bytes - length left)) _ bytes left rest number over x cut.0 left_is four number_is over_is x_is next_is at_is)
 
--- what was cut is taken
-pub cut_taken : (place start count used : ℕ) (bytes left ends : List ℕ) (cells : List Cell) → IsCut place start count bytes left ends cells → used ≡ length bytes - length left
-    → TakesSomeCells (Ok used) [] cells place bytes count
-cut_taken place start count used bytes left ends cells cut used_is = record {
-  at = place_after place (length bytes - length left);
-  left = left;
-  used_is = used_is;
-  suffix = cut.0.1;
-  few = cut.1;
-  taking = cut.0.0;
-}
-
 -- the next byte is no tag
 pub cut_broken : (place start count broken tag : ℕ) (bytes left rest ends : List ℕ) (cells : List Cell) → IsCut place start count bytes left ends cells → left ≡ tag ∷ rest
     → eqb tag 0 ≡ false → eqb tag 1 ≡ false → length cells < count → broken ≡ place_after place (length bytes - length left)

@@ -1,6 +1,6 @@
 -- The text of a stack that is kept for the next one: cut, and with one more cell.
-use Rattle.std.proofs.Common.{◌≡◌, ℕ, zero, suc, ◌+◌, ◌-◌, ◌≤◌, List, [], ◌∷◌, ◌++◌, length, take, drop, set, Ok, Err, inl, inr, refl, sym, ap, subst, ◌∙◌, arith, append-nil, append_assoc, take-append-drop, take_all}
-use Rattle.std.specs.Prelude.{OnOk, Result, Some, slice_get}
+use Rattle.std.proofs.Common.{◌≡◌, ℕ, zero, suc, ◌+◌, ◌-◌, ◌≤◌, List, [], ◌∷◌, ◌++◌, length, take, drop, set, inl, inr, refl, sym, ap, subst, ◌∙◌, arith, append-nil, append_assoc, take-append-drop, take_all}
+use Rattle.std.specs.Prelude.{Some, slice_get}
 use Rattle.std.specs.List.{flat_map}
 use Rattle.std.proofs.lemmas.Bool.{cases_lt}
 use Rattle.std.proofs.lemmas.Grind.{flat_map-append, take-set_at}
@@ -171,7 +171,3 @@ take_five l u x0 x1 x2 x3 x4 le =
     take-set_at l2 (u + 3) (u + 4) x3 (omega arith) (omega (arith, le, n0, n1, n2)) ∙ ap (λ (t : List ℕ). t ++ x3 ∷ []) t2 ∙ append_assoc (take u l) (x0 ∷ x1 ∷ x2 ∷ []) (x3 ∷ []) in
     take-set_at l3 (u + 4) (u + 5) x4 (omega arith) (omega (arith, le, n0, n1, n2, n3)) ∙ ap (λ (t : List ℕ). t ++ x4 ∷ []) t3
     ∙ append_assoc (take u l) (x0 ∷ x1 ∷ x2 ∷ x3 ∷ []) (x4 ∷ [])
-
-pub on_more : {T E : Type 0} (r : Result T E) (P Q : Type 0) → OnOk r P → (P → Q) → OnOk r Q
-on_more (Ok x) P Q h f = f h
-on_more (Err e) P Q h f = tt

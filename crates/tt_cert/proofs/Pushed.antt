@@ -12,9 +12,6 @@ use Rattle.std.proofs.lemmas.Option.{slice_get-get_or, slice_get_within}
 abbrev pub AreWritten : {A : Type 0} → (A → List ℕ) → List ℕ → List ℕ → List A → List ℕ → Type 0
 AreWritten spell old head done now = now ≡ old ++ (head ++ flat_map spell done)
 
-pub none_written : {A : Type 0} (spell : A → List ℕ) (old head now : List ℕ) → now ≡ old ++ head → AreWritten spell old head [] now
-none_written spell old head now e = e ∙ ap (λ (l : List ℕ). old ++ l) (sym (append-nil head))
-
 pub one_written : {A : Type 0} (spell : A → List ℕ) (old head now new : List ℕ) (done : List A) (x : A) → AreWritten spell old head done now → new ≡ now ++ spell x
     → AreWritten spell old head (done ++ x ∷ []) new
 one_written {A} spell old head now new done x before one =

@@ -7,7 +7,7 @@ use Rattle.std.proofs.lemmas.List.{length-append, length-reverse, length-take, r
 use Rattle.tt_abs.specs.declared.cells.Cell.{Cell}
 use Rattle.tt_abs.specs.declared.state.State.{State}
 use Rattle.tt_abs.specs.Cells.{Cells}
-use Rattle.tt_abs.specs.States.{start_of, state_order}
+use Rattle.tt_abs.specs.States.{state_order}
 use Rattle.tt_abs.specs.Transfers.{cells_on}
 use Rattle.tt_abs.proofs.CodedCells.{cells_on_reversed}
 use Rattle.tt_abs.proofs.Reversed.{reverse-drop}
@@ -196,13 +196,6 @@ pub missing_stops : (e : CertFault) (old new : Option (List ℕ)) (below : List 
 missing_stops e old new below place count missing missing_is stops =
     subst (λ (k : ℕ). StopsAtEnd place old new (cells_at (reverse below) k) e) (missing_in below count missing missing_is)
     (onto_stops e old new (reverse below) place (missing - 0) stops)
-
--- the state before the first one
-pub first_kept : (text : StackText) (functions : List (ℕ × ℕ)) (s : State) → IsStackText text [] → s ≡ start_of functions → state_order.InRange s → IsStackKept text s
-first_kept text functions s kept start range = record {
-  cells = subst (λ (t : State). IsStackText text (reverse t.stack)) (sym start) kept;
-  in_range = range;
-}
 
 -- the stack stays
 pub rest_kept : (text : StackText) (was now : State) → IsStackKept text was → now.stack ≡ was.stack → state_order.InRange now → IsStackKept text now

@@ -15,7 +15,7 @@ use Rattle.tt_family.specs.Places.{has_point, place_cmp, states_of, PutsAt, PutG
 use Rattle.tt_family.specs.Puts.{place_of}
 use Rattle.tt_family.specs.Contents.{Contents, IsFamily, HasContext, frames_at, family_of, number_of}
 use Rattle.tt_family.specs.Numbers.{at-number_of, number_of-is, number_of-place}
-use Rattle.tt_family.specs.Ascending.{AreMoved, SameContents, SameWithout, family_without}
+use Rattle.tt_family.specs.Ascending.{AreMoved, SameWithout, family_without}
 use Rattle.tt_family.proofs.Puts.{cases_place, places_apart}
 use Rattle.tt_family.proofs.Putting.{place_total}
 
@@ -227,9 +227,6 @@ SameWithout-moved old new spare contexts numbers moved same family =
 -- where no point is spare nothing is left out
 without_none : (contents : Contents) (spare : List (ℕ × ℕ)) → spare ≡ [] → (p : List Frame × ℕ) → family_without contents spare p ≡ family_of contents p
 without_none contents spare none p = ap (λ (x : List (ℕ × ℕ)). family_without contents x p) none
-
-pub same_from_without : (old new : Contents) (spare : List (ℕ × ℕ)) → spare ≡ [] → SameWithout old new spare → SameContents old new
-same_from_without old new spare none same = record { contexts = same.contexts; family = λ p. same.family p ∙ without_none old spare none p }
 
 pub without_itself : (contents : Contents) (spare : List (ℕ × ℕ)) → spare ≡ [] → SameWithout contents contents spare
 without_itself contents spare none = record { contexts = λ frames. ((λ h. h), (λ h. h)); family = λ p. sym (without_none contents spare none p) }

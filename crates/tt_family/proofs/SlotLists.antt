@@ -174,26 +174,12 @@ no_other_list [] (suc c) = refl
 no_other_list (list ∷ lists) zero = refl
 no_other_list (list ∷ lists) (suc c) = no_other_list lists c
 
-pub adds_none : (lists : List Offsets) → AddsLists lists lists
-adds_none lists = record { points = λ c. refl; lists = λ c. refl; longer = omega arith }
-
 pub adds_one : (old lists new : List Offsets) → AddsLists old lists → new ≡ lists ++ [] ∷ [] → AddsLists old new
 adds_one old lists new adds is = record {
   points = λ c. ap (lists_points c) is ∙ no_more_points c lists ∙ adds.points c;
   lists = λ c. ap (λ l. list_of l c) is ∙ no_other_list lists c ∙ adds.lists c;
   longer = let before = adds.longer in let long = ap length is ∙ length-append lists ([] ∷ []) in omega arith;
 }
-
-pub places_with_lists : (old new : List Offsets) (rest : List Point) → AreSlotLists old rest → AddsLists old new → length new ≤ 4294967296 → AreSlotLists new rest
-places_with_lists old new rest places adds fits =
-    let R : Offsets → Type 0 = λ list. Ascends list in
-    record {
-      ascend = λ c. subst R (sym (adds.lists c)) (places.ascend c);
-      rest_ascends = places.rest_ascends;
-      unlisted = λ c o n at. ap (λ list. listed list o) (adds.lists c) ∙ places.unlisted c o n at;
-      early = λ c o n at below. let B : Offsets → Type 0 = λ list. AreBelow o list in places.early c o n at (subst B (adds.lists c) below);
-      fits = fits;
-    }
 
 pub no_points : (c : ℕ) (lists : List Offsets) → ((i : ℕ) → list_of lists i ≡ []) → lists_points c lists ≡ []
 no_points c [] empty = refl
@@ -206,12 +192,6 @@ used_points b zero [] empty = refl
 used_points b (suc used) [] empty = refl
 used_points b zero (list ∷ lists) empty = sym (no_points b (list ∷ lists) (λ i. empty i (omega arith)))
 used_points b (suc used) (list ∷ lists) empty = ap (λ l. list_points b list ++ l) (used_points (suc b) used lists (λ c le. empty (suc c) (omega arith)))
-
-pub empty_added : (old new : List Offsets) (used : ℕ) → AreEmptyFrom used old → AddsLists old new → AreEmptyFrom used new
-empty_added old new used empty adds = record {
-  within = let before = empty.within in let longer = adds.longer in omega arith;
-  unused = λ c le. adds.lists c ∙ empty.unused c le;
-}
 
 pub used_after : (used more c : ℕ) (old new : List Offsets) → AreEmptyFrom used old → AddsLists old new → c < length new → more ≡ max used (c + 1) → AreEmptyFrom more new
 used_after used more c old new empty adds enough most = record {

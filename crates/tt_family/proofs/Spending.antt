@@ -1,6 +1,5 @@
 -- What is spent of a budget, one call after another.
 use Rattle.std.proofs.Common.{◌∙◌, arith}
-use Rattle.tt_abs.specs.Refusals.{IsOfNoBudget}
 use Rattle.tt_abs.specs.declared.exhausted.Exhausted.{Exhausted as By}
 use Rattle.tt_abs.specs.declared.exhausted.Exhausted.TheVariants.{Memory, Budget as Points}
 use Rattle.tt_abs.specs.declared.refusal.Refusal.{Refusal}
@@ -20,9 +19,3 @@ end_tells_on a b c alike Points exceeded = exceeded
 pub tells_on : (a b c : Budget) → AreAlike a b → (fault : Refusal) → RefusalTells b c fault → RefusalTells a c fault
 tells_on a b c alike (Refused spot offset failed) alike' = alike' ∙ alike
 tells_on a b c alike (Exhausted by) tells = end_tells_on a b c alike by tells
-
--- a call without a budget ends the work
-pub tells_within : (a b : Budget) → AreAlike a b → (fault : Refusal) → IsOfNoBudget fault → RefusalTells a b fault
-tells_within a b alike (Refused spot offset failed) within = alike
-tells_within a b alike (Exhausted Memory) within = alike
-tells_within a b alike (Exhausted Points) within = elim within [ ]

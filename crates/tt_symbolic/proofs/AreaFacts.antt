@@ -9,7 +9,7 @@ use Rattle.tt_code.specs.declared.kinds.Update.TheVariants as update
 use Rattle.tt_abs.specs.Entries.{listed, with_entry, without_entry}
 use Rattle.tt_abs.specs.Representation.EntryFacts.{listed-without}
 use Rattle.std.specs.List.{All}
-use Rattle.std.proofs.lemmas.List.Elements.{All-head, All-tail, All-more}
+use Rattle.std.proofs.lemmas.List.Elements.{All-head, All-tail}
 use Rattle.tt_symbolic_state.specs.declared.cell.Cell.{Cell}
 use Rattle.tt_symbolic_state.specs.Values.{Fits, Valuation, value}
 use Rattle.tt_symbolic_state.specs.declared.state.State.{State}
@@ -195,12 +195,3 @@ found {V} P (y ∷ es) all i x e = go (nat_eq y.0 i) refl e (found P es (All-tai
 
 pub forgets_by : (low high : ℤ) (old new there : List (ℕ × Cell)) → there ≡ new → IsPartOf new old → All (λ (e : ℕ × Cell). IsOutside low high e.0) there → Forgets low high old new
 forgets_by low high old new there e part all = record { part = part; outside = λ i c at. found (λ (e : ℕ × Cell). IsOutside low high e.0) there all i c (ap (λ l. listed l i) e ∙ at) }
-
-pub forgets_all : (low high : ℤ) (old new : List (ℕ × Cell)) → new ≡ [] → Forgets low high old new
-forgets_all low high old new none = record {
-  part = record { was_listed = λ i c at. let e = ap (λ es. listed es i) (sym none) ∙ at in absurd (cc) };
-  outside = λ i c at. let e = ap (λ es. listed es i) (sym none) ∙ at in absurd (cc);
-}
-
-pub outside_more : (low high : ℤ) (es : List (ℕ × Cell)) (i : ℕ) (d : ℕ × Cell) → i < length es → All (λ (e : ℕ × Cell). IsOutside low high e.0) (take i es) → IsOutside low high (get_or es i d).0 → All (λ (e : ℕ × Cell). IsOutside low high e.0) (take (i + 1) es)
-outside_more low high es i d lt all here = All-more (λ (e : ℕ × Cell). IsOutside low high e.0) es i d lt all here

@@ -1,5 +1,5 @@
 -- The arithmetic and logical instructions on a state.
-use Rattle.std.specs.Prelude.{Result, OnOk, IfOk}
+use Rattle.std.specs.Prelude.{Result, OnOk}
 use Rattle.std.proofs.Common.{◌≡◌, ℕ, ℤ, [], ◌∷◌, Ok, Err, Bool, true, false, if◌then◌else◌, refl, ◌∙◌, arith, length}
 use Rattle.std.proofs.lemmas.List.{length-map}
 use Rattle.tt_code.specs.Refusals.{Tested}
@@ -121,7 +121,3 @@ two_computes op old middle low new a b answer two p q tells r = record {
 pub on_ok : {E : Type 0} (r : Result (Unit {0}) E) (P Q : Type 0) → (P → Q) → OnOk r P → OnOk r Q
 on_ok (Ok u) P Q f h = f h
 on_ok (Err e) P Q f h = tt
-
-pub if_ok_to : {A E : Type 0} (r : Result A E) (P Q : A → Type 0) → ((a : A) → P a → Q a) → IfOk r P → IfOk r Q
-if_ok_to (Ok a) P Q f h = f a h
-if_ok_to (Err e) P Q f h = tt

@@ -4,8 +4,8 @@ use Rattle.std.proofs.lemmas.Bool.{eqb-true, leb-false}
 use Rattle.std.proofs.lemmas.List.{length-map}
 use Rattle.tt_code.specs.Refusals.{Tested, ◌>>=◌}
 use Rattle.tt_code.specs.Cut.{Instruction, code_of, data_of, data_in, data_after, instruction_at}
-use Rattle.tt_code.specs.Table.{Lists, Meaning, Plain, Pushes, Stack, Computes, Controls, effect_of}
-use Rattle.tt_code.specs.Computing.{computed, exactly, numbers_in, pushed, shuffled}
+use Rattle.tt_code.specs.Table.{Lists, Meaning, Plain, Pushes, Stack, Controls, effect_of}
+use Rattle.tt_code.specs.Computing.{exactly, numbers_in, pushed, shuffled}
 use Rattle.tt_code.specs.Control.{controlled}
 use Rattle.tt_code.specs.Changes.{plain}
 use Rattle.tt_code.specs.Settings.{Setting as MachineSetting, program_of, starts_in_body}
@@ -19,13 +19,12 @@ use Rattle.tt_code.specs.declared.machine.Frame.{Frame}
 use Rattle.tt_code.specs.declared.kinds.Push.{Push}
 use Rattle.tt_code.specs.declared.kinds.StackOp.{StackOp}
 use Rattle.tt_code.specs.declared.kinds.Control.{Control}
-use Rattle.tt_code.specs.declared.kinds.Arithmetic.{Arithmetic}
 use Rattle.tt_symbolic_state.specs.Values.{Valuation, value}
 use Rattle.tt_symbolic_state.specs.declared.state.State.{State}
 use Rattle.tt_symbolic_state.specs.CvtMachine.{Allows, ChangesControls, Ordinary, Refines, Refinement, refinement_of}
 use Rattle.tt_symbolic_state.specs.Shows.{Shows, values}
 use Rattle.tt_symbolic_cells.specs.Stacking.{Restacks}
-use Rattle.tt_symbolic.specs.Sound.{Allowing, Computes as IsComputed, Sound, Works, keeps_controls}
+use Rattle.tt_symbolic.specs.Sound.{Allowing, Sound, Works, keeps_controls}
 use Rattle.tt_symbolic.specs.Representation.Refined.{of_one_line, of_two_line, read_line, refined, write_line}
 use Rattle.tt_symbolic.specs.Representation.Leading.{IsAt}
 use Rattle.tt_symbolic.proofs.Controls.{starts_there}
@@ -43,9 +42,6 @@ plain_here s A line code rest old new e w = record { what = λ m. plain s m line
 
 pub stack_here : (s : MachineSetting) (op : StackOp) (code : ℕ) (rest : List ℕ) (old new : State) → effect_of code ≡ Stack op → new ≡ record old { stack = new.stack } → Restacks (shuffled op) old.ranges.items old.stack new.stack → DoesHere s keeps_controls code rest old new
 stack_here s op code rest old new e same w = record { what = shuffled op; does_it = λ m next. rw e refl; works = restacks_works (shuffled op) old new same w }
-
-pub computes_here : (s : MachineSetting) (op : Arithmetic) (code : ℕ) (rest : List ℕ) (old new : State) → effect_of code ≡ Computes op → IsComputed op old new → DoesHere s keeps_controls code rest old new
-computes_here s op code rest old new e w = record { what = λ m. computed op m; does_it = λ m next. rw e refl; works = w }
 
 -- numbers that are pushed
 pushed_numbers : (zs stack : List ℤ) (choices : Choices) → pushed_on (exactly zs) choices stack ≡ numbers_on zs stack

@@ -1,5 +1,5 @@
 -- What it means that an instruction was carried out on a symbolic state.
-use Rattle.std.specs.Prelude.{◌≡◌, ◌+◌, ℕ, suc, List, [], ◌∷◌, length}
+use Rattle.std.specs.Prelude.{◌≡◌, ◌+◌, ℕ, suc, List, ◌∷◌, length}
 use Rattle.tt_code.specs.Refusals.{Tested}
 use Rattle.tt_code.specs.Cut.{Instruction}
 use Rattle.tt_code.specs.Settings.{Setting as MachineSetting}

@@ -1,16 +1,16 @@
 -- Results of arithmetic and logical instructions on cells.
-use Rattle.std.proofs.Common.{◌≡◌, ℕ, zero, suc, ℤ, pos, negsuc, ◌+ℤ◌, ◌-ℤ◌, ◌≤ℤ◌, ◌<ℤ◌, List, Bool, true, false, not, nat_lt, refl, ◌∙◌, ap, arith, ◌<◌, ◌^◌}
+use Rattle.std.proofs.Common.{◌≡◌, ℕ, ℤ, pos, negsuc, ◌+ℤ◌, ◌-ℤ◌, ◌≤ℤ◌, List, Bool, true, false, nat_lt, refl, ◌∙◌, ap, arith, ◌<◌, ◌^◌}
 use Rattle.std.specs.Prelude.{neg_ℤ}
 use Rattle.std.proofs.lemmas.Int.{ints}
 use Rattle.std.proofs.lemmas.Bool.{ltb-false, ltb-true}
-use Rattle.tt_code.specs.States.{Value, Exactly, IsNumber, is_number, is_true}
-use Rattle.tt_code.specs.Computing.{absolute, exact, truth}
+use Rattle.tt_code.specs.States.{Value, Exactly, IsNumber, is_number}
+use Rattle.tt_code.specs.Computing.{absolute, exact}
 use Rattle.tt_code.specs.Runs.{value as number_of}
 use Rattle.tt_code.specs.declared.kinds.Arithmetic.{Arithmetic}
-use Rattle.tt_code.specs.declared.kinds.Arithmetic.TheVariants.{Add, Sub, Abs, Neg, Lt, LtEq, Gt, GtEq, Eq, Neq, And, Or, Not}
+use Rattle.tt_code.specs.declared.kinds.Arithmetic.TheVariants.{Add, Sub, Abs, Neg}
 use Rattle.tt_symbolic_state.specs.declared.cell.Cell.{Cell}
 use Rattle.tt_symbolic_state.specs.declared.cell.Range.{Range}
-use Rattle.tt_symbolic_state.specs.Values.{Fits, IsWithin, Valuation, value}
+use Rattle.tt_symbolic_state.specs.Values.{Fits, Valuation, value}
 use Rattle.tt_symbolic_cells.specs.declared.answer.Answer.TheVariants.{Within}
 use Rattle.tt_symbolic_cells.specs.declared.answer.Answer.TheVariants as answer
 use Rattle.tt_symbolic_cells.specs.Representation.Bounds.{AreBounds, IsRangeOf}
@@ -38,61 +38,14 @@ exact_is x choice n = let e = number_to x n in rw e refl
 pub neg_is : (x y z : ℤ) → y ≡ z -ℤ x → z ≡ pos 0 → neg_ℤ x ≡ y
 neg_is x y z e f = omega (arith, ints)
 
-pub absolute_up : (x : ℤ) → pos 0 ≤ℤ x → absolute x ≡ x
-absolute_up (pos n) h = refl
-absolute_up (negsuc n) h = absurd (omega (arith, ints))
-
-pub absolute_down : (x : ℤ) → x ≤ℤ pos 0 → absolute x ≡ neg_ℤ x
-absolute_down (pos zero) h = refl
-absolute_down (pos (suc n)) h = absurd (omega (arith, ints))
-absolute_down (negsuc n) h = refl
-
-pub absolute_below : (low high x most : ℤ) → low ≤ℤ x → x ≤ℤ high → high ≤ℤ most → (pos 0 -ℤ low) ≤ℤ most → absolute x ≤ℤ most
-absolute_below low high (pos n) most l h a b = omega (arith, ints)
-absolute_below low high (negsuc n) most l h a b = omega (arith, ints)
-
 pub absolute_above : (x : ℤ) → pos 0 ≤ℤ absolute x
 absolute_above (pos n) = omega (arith, ints)
 absolute_above (negsuc n) = omega (arith, ints)
-
-pub true_apart : (x low high : ℤ) → low ≤ℤ x → x ≤ℤ high → (pos 0 <ℤ low) → is_true x ≡ true
-true_apart (pos zero) low high l h a = absurd (omega (arith, ints))
-true_apart (pos (suc n)) low high l h a = refl
-true_apart (negsuc n) low high l h a = refl
-
-pub true_below : (x low high : ℤ) → low ≤ℤ x → x ≤ℤ high → (high <ℤ pos 0) → is_true x ≡ true
-true_below (pos zero) low high l h a = absurd (omega (arith, ints))
-true_below (pos (suc n)) low high l h a = refl
-true_below (negsuc n) low high l h a = refl
-
-pub not_bit : (x y : ℤ) → pos 0 ≤ℤ x → x ≤ℤ pos 1 → y ≡ pos 1 -ℤ x → truth (not (is_true x)) ≡ Exactly y
-not_bit (pos zero) y l h e = ap Exactly (omega (arith, ints))
-not_bit (pos (suc n)) y l h e = ap Exactly (omega (arith, ints))
-not_bit (negsuc n) y l h e = absurd (omega (arith, ints))
 
 -- results as ranges
 
 abbrev BIT : Range
 BIT = record { low = pos 0; high = pos 1 }
-
-truth_bit : (b : Bool) (z choice : ℤ) → z ≡ number_of (truth b) choice → IsWithin BIT z
-truth_bit true z choice e = (omega (arith, ints), omega (arith, ints))
-truth_bit false z choice e = (omega (arith, ints), omega (arith, ints))
-
-pub bit_two : (op : Arithmetic) (a b : Cell) (ranges : List Range) → (op ≡ Add → ⊥) → (op ≡ Sub → ⊥) → (op ≡ Abs → ⊥) → (op ≡ Neg → ⊥) → AnswersResult op a b ranges (Within BIT)
-bit_two Add a b ranges n0 n1 n2 n3 = absurd (n0 refl)
-bit_two Sub a b ranges n0 n1 n2 n3 = absurd (n1 refl)
-bit_two Abs a b ranges n0 n1 n2 n3 = absurd (n2 refl)
-bit_two Neg a b ranges n0 n1 n2 n3 = absurd (n3 refl)
-bit_two Lt a b ranges n0 n1 n2 n3 = record { answers = λ v fits z n r. truth_bit _ z r.choice r.result }
-bit_two LtEq a b ranges n0 n1 n2 n3 = record { answers = λ v fits z n r. truth_bit _ z r.choice r.result }
-bit_two Gt a b ranges n0 n1 n2 n3 = record { answers = λ v fits z n r. truth_bit _ z r.choice r.result }
-bit_two GtEq a b ranges n0 n1 n2 n3 = record { answers = λ v fits z n r. truth_bit _ z r.choice r.result }
-bit_two Eq a b ranges n0 n1 n2 n3 = record { answers = λ v fits z n r. truth_bit _ z r.choice r.result }
-bit_two Neq a b ranges n0 n1 n2 n3 = record { answers = λ v fits z n r. truth_bit _ z r.choice r.result }
-bit_two And a b ranges n0 n1 n2 n3 = record { answers = λ v fits z n r. truth_bit _ z r.choice r.result }
-bit_two Or a b ranges n0 n1 n2 n3 = record { answers = λ v fits z n r. truth_bit _ z r.choice r.result }
-bit_two Not a b ranges n0 n1 n2 n3 = record { answers = λ v fits z n r. truth_bit _ z r.choice r.result }
 
 pub exact_result : (op : Arithmetic) (a b cell : Cell) (ranges : List Range) → ((v : Valuation) → Fits ranges v → result_of op (value v a) (value v b) ≡ Exactly (value v cell)) → AnswersResult op a b ranges (answer.Exactly cell)
 exact_result op a b cell ranges h = record { answers = λ v fits z n r. r.result ∙ ap (λ (x : Value). number_of x r.choice) (h v fits) }

@@ -17,20 +17,6 @@ use Rattle.tt_symbolic_cells.specs.Representation.Bounds.{AnswersProduct, AreBou
 use Rattle.tt_symbolic_cells.specs.Answers.{AnswersExact}
 use Rattle.tt_symbolic_cells.specs.Answers.{Answers}
 
-pub range_is : (low high least greatest : ℤ) → IsNumber least → IsNumber greatest → least ≡ low → greatest ≡ high → IsRangeOf low high (record { low = least; high = greatest })
-range_is low high least greatest a b e f = record {
-  within = λ x z l h same n.
-      let number : IsNumber x = omega (arith, ints) in
-      let is : z ≡ x = same number in
-      (omega (arith, ints), omega (arith, ints));
-}
-
-pub full_is : (low high : ℤ) → IsRangeOf low high (record { low = negsuc 2147483647; high = pos 2147483647 })
-full_is low high = record { within = λ x z l h same n. (omega (arith, ints), omega (arith, ints)) }
-
-pub full_answers : (These : Valuation → ℤ → Type 0) (ranges : List Range) → Answers These ranges (Within (record { low = negsuc 2147483647; high = pos 2147483647 }))
-full_answers These ranges = record { answers = λ v fits z n these. (omega (arith, ints), omega (arith, ints)) }
-
 -- Products.
 
 above_least : (k x low high least : ℤ) → low ≤ℤ x → x ≤ℤ high → least ≤ℤ (k *ℤ low) → least ≤ℤ (k *ℤ high) → least ≤ℤ (k *ℤ x)
@@ -58,11 +44,6 @@ product_below x y a b c d p q r s greatest wx wy ep eq er es lp lq lr ls =
 pub product_within : (a b : Cell) (ranges : List Range) (low high : ℤ) (r : Range) → AreBounds (λ x y. x *ℤ y) a b ranges (low, high) → IsRangeOf low high r → AnswersProduct a b ranges (Within r)
 product_within a b ranges low high r bounds range = record {
   answers = λ v fits z n these. let w = bounds.between v fits in range.within (value v a *ℤ value v b) z w.0 w.1 these n;
-}
-
-pub product_exact : (a b cell : Cell) (ranges : List Range) → ((v : Valuation) → Fits ranges v → (value v cell ≡ value v a *ℤ value v b) × IsNumber (value v cell)) → AnswersProduct a b ranges (Exactly cell)
-product_exact a b cell ranges h = record {
-  answers = λ v fits z n these. let w = h v fits in these (subst IsNumber w.0 w.1) ∙ sym w.0;
 }
 
 pub first_whole : (a b whole : Cell) (ranges : List Range) (answer : Answer) → ((v : Valuation) → value v a ≡ value v whole *ℤ pos 64) → AnswersProduct whole b ranges answer → AnswersExact exact.Product a b ranges answer
@@ -141,15 +122,6 @@ floors_mono x y z w f g h =
 
 pub floors_within : (low high least greatest : ℤ) (r : Range) → IsFloor low least → IsFloor high greatest → IsRangeOf least greatest r → (x z : ℤ) → low ≤ℤ x → x ≤ℤ high → IsNumber z → IsFloor x z → IsWithin r z
 floors_within low high least greatest r f g range x z l h n is = range.within z z (floors_mono low x least z f is l) (floors_mono x high z greatest is g h) (λ number. refl) n
-
-pub floor_exact : (cell whole : Cell) (ranges : List Range) → ((v : Valuation) → value v cell ≡ value v whole *ℤ pos 64) → AnswersExact exact.Floor cell cell ranges (Exactly cell)
-floor_exact cell whole ranges is = record {
-  answers = λ v fits z n f.
-      let e = is v in let k = f.is_multiple in let a = f.below in let b = f.greatest in
-      let o : value v whole ≤ℤ f.multiple = multiples_order f.multiple (value v whole) (rw (← e, ← k) (omega (arith, ints))) in
-      let m = multiples_mono f.multiple (value v whole) o in
-      omega (arith, ints);
-}
 
 pub floor_range : (cell : Cell) (ranges : List Range) (low high : ℤ) (r : Range) → ((v : Valuation) → Fits ranges v → (low ≤ℤ value v cell) × (value v cell ≤ℤ high)) → ((x z : ℤ) → low ≤ℤ x → x ≤ℤ high → IsNumber z → IsFloor x z → IsWithin r z)
     → AnswersExact exact.Floor cell cell ranges (Within r)

@@ -9,8 +9,10 @@ use Rattle.tt_code.specs.States.{is_true}
 use Rattle.tt_code.specs.Table.{Lists, effect_of}
 use Rattle.tt_code.specs.declared.kinds.Arithmetic.{Arithmetic}
 use Rattle.tt_code.specs.declared.kinds.Arithmetic.TheVariants.{Abs, Neg, Not}
+use Rattle.tt_code.specs.declared.kinds.Control.{Control}
 use Rattle.tt_code.specs.declared.kinds.Pushed.{Pushed}
 use Rattle.tt_code.specs.declared.kinds.Row.{Row}
+use Rattle.tt_code.specs.declared.kinds.StackOp.{StackOp}
 use Rattle.tt_code.specs.declared.kinds.StackOp.TheVariants.{CopyIndexed, MoveIndexed}
 use Rattle.tt_code.specs.declared.kinds.Update.{Update}
 use Rattle.tt_code.specs.declared.reason.Reason.{Reason}
@@ -21,14 +23,16 @@ use Rattle.tt_abs.specs.declared.setting.Setting.{Setting}
 use Rattle.tt_abs.specs.declared.setting.Point.{Point}
 use Rattle.tt_abs.specs.declared.state.State.{State}
 use Rattle.tt_abs.specs.declared.failed.Failed.{Failed}
+use Rattle.tt_abs.specs.declared.failed.Role.TheVariants as role
 use Rattle.tt_abs.specs.Cells.{Abstract}
 use Rattle.tt_abs.specs.declared.control.Callee.{Callee}
 use Rattle.tt_abs.specs.declared.control.Distance.{Distance}
-use Rattle.tt_abs.specs.Failures.{IsOnTop, Tells, reason_of}
+use Rattle.tt_abs.specs.Failures.{IsOnTop, IsRoleIn, IsRoleInLine, Roles, TellsWith, reason_of, role_in_control, role_in_shuffle}
 use Rattle.tt_abs.specs.Entries.{storage_of}
-use Rattle.tt_abs.specs.Moves.{ForReason, LeadsBy, nexts_of}
+use Rattle.tt_abs.specs.Moves.{ForFailed, ForReason, LeadsBy, nexts_of}
 use Rattle.tt_abs.specs.Settings.{frames_of, setting_of}
 use Rattle.tt_abs.specs.States.{abstract_of}
+use Rattle.tt_abs.specs.Representation.Taken.{IsNoRole, IsRole}
 use Rattle.tt_abs.specs.Transfers.{Next, called_cell, cell_pushed, cells, cells_pushed, does_cells, enters_cells, if_ways, jump_target, jumps_by, jumps_if_cells, known, loops_cells, plain_cells, shuffled_cells}
 
 -- The stack alone.
@@ -45,6 +49,10 @@ RefusesStack does old r = (a : Abstract) → does (record a { stack = old }) ≡
 -- the same, where the answer is a refusal; where memory ran out, nothing has to hold
 abbrev pub IsStackRefusedFor : (Abstract → Tested Abstract) → List Cell → StepFault → Type 0
 IsStackRefusedFor does old e = ForReason e (RefusesStack does old)
+
+-- a stack instruction takes the element under so many others as this
+abbrev pub IsRoleOfShuffle : StackOp → Roles
+IsRoleOfShuffle op r under = role_in_shuffle op under ≡ Some r
 
 -- the top names this cell; between the two are this many cells
 abbrev pub IsNamedCell : List Cell → ℕ × Cell → Type 0
@@ -159,7 +167,8 @@ JumpsNowhere setting point by depth f =
 abbrev pub TellsOfJump : Setting → Point → Distance → ℕ → Failed → Type 0
 TellsOfJump setting point distance depth f =
     (a : Abstract) (below : List Cell) → drop distance.under a.stack ≡ distance.cell ∷ below
-    → Tells (setting_of setting) (frames_of point) point.offset a depth f
+    → TellsWith (IsRole role.Distance distance.under) (setting_of setting) (frames_of point)
+    point.offset a depth f
 
 -- the number on top is that of a function that is known to have this body
 abbrev pub IsNamed : List Cell → List (ℕ × ℕ) → ℤ → ℕ → Type 0
@@ -169,19 +178,26 @@ IsNamed stack functions number body =
 -- what is told of a call by this cell is so, where the cell is on top
 abbrev pub TellsOfCall : Setting → State → Cell → Failed → Type 0
 TellsOfCall setting state top f = (fs : List Frame) (at : ℕ) (below : List Cell) (left : ℕ)
-    → state.stack ≡ top ∷ below → Tells (setting_of setting) fs at (abstract_of state) left f
+    → state.stack ≡ top ∷ below
+    → TellsWith (IsRole role.Function 0) (setting_of setting) fs at (abstract_of state) left f
 
--- what is told of a test of this state is so, wherever it is and whatever depth is left
-abbrev pub TellsOfState : Setting → State → Failed → Type 0
-TellsOfState setting state f = (fs : List Frame) (at left : ℕ)
-    → Tells (setting_of setting) fs at (abstract_of state) left f
+-- a plain line takes an element of the state's stack as this
+abbrev pub IsRoleOfLine : Setting → State → Row → Roles
+IsRoleOfLine setting state line =
+    IsRoleInLine (setting_of setting) state.graphics state.stack line.operands.now
+
+-- what is told of a test of this line on this state is so, wherever it is and whatever it leaves
+abbrev pub TellsOfLine : Setting → State → Row → Failed → Type 0
+TellsOfLine setting state line f = (fs : List Frame) (at left : ℕ)
+    → TellsWith (IsRoleOfLine setting state line) (setting_of setting) fs at (abstract_of state)
+    left f
 
 -- what is told of entering a function is so, wherever the top names it and the call leaves a stack
 -- of this depth
 abbrev pub TellsOfEntry : Setting → Point → Callee → ℕ → Failed → Type 0
 TellsOfEntry setting point callee depth f = (a : Abstract)
     → IsNamed a.stack a.functions callee.number callee.body
-    → Tells (setting_of setting) (frames_of point) point.offset a depth f
+    → TellsWith IsNoRole (setting_of setting) (frames_of point) point.offset a depth f
 
 -- the body that the cell names, where it is called
 abbrev pub called_at : Setting → State → Cell → Tested ℕ
@@ -196,6 +212,16 @@ enter_at setting point body turns stack a =
 abbrev pub loop_at : Setting → Point → ℕ → ℤ → List Cell → Abstract → Tested (List Next)
 loop_at setting point body count stack a =
     loops_cells (setting_of setting) (frames_of point) point.offset a body stack count
+
+-- a control instruction takes the element under so many others as this
+abbrev pub IsRoleOfControl : Control → Roles
+IsRoleOfControl op r under = role_in_control op under ≡ Some r
+
+-- what is told of the test of an instruction at the point that fails is so, where it takes its
+-- elements as is said and leaves a stack of this depth
+abbrev pub TellsOf : Roles → Setting → Point → State → ℕ → StepFault → Type 0
+TellsOf takes setting point old left e = ForFailed e
+    (TellsWith takes (setting_of setting) (frames_of point) point.offset (abstract_of old) left)
 
 -- Any instruction.
 
@@ -216,3 +242,9 @@ abbrev pub IsDoingRefusedFor : Setting → Point → List ℕ → State → Step
 IsDoingRefusedFor setting point bytes old e = ForReason e
     (λ r. (code : ℕ) (rest : List ℕ) → bytes ≡ code ∷ rest
     → done_at setting point old code rest ≡ Err r)
+
+-- what is told of the test of the instruction of these bytes that fails is so
+abbrev pub TellsOfBytes : Setting → Point → List ℕ → State → ℕ → StepFault → Type 0
+TellsOfBytes setting point bytes old left e = (code : ℕ) (rest : List ℕ) → bytes ≡ code ∷ rest
+    → TellsOf (IsRoleIn (setting_of setting) (abstract_of old) (effect_of code))
+    setting point old left e

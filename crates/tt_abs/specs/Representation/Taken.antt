@@ -1,6 +1,6 @@
 -- How the code takes operands: it counts the cells taken from the top, and leaves them on the stack
 -- until the changes are made. (Representation: no public clause cites it.)
-use Rattle.std.specs.Prelude.{◌≡◌, ℕ, ℤ, ◌+◌, List, ◌∷◌, Bool, Ok, Err, drop}
+use Rattle.std.specs.Prelude.{◌≡◌, ℕ, ℤ, ◌+◌, List, ◌∷◌, Bool, Some, Ok, Err, drop}
 use Rattle.tt_code.specs.Refusals.{Tested}
 use Rattle.tt_code.specs.Operands.{Taking, counted, is_zone, pairs, then_take}
 use Rattle.tt_code.specs.Settings.{Setting as SpecSetting, contours_in}
@@ -16,8 +16,9 @@ use Rattle.tt_abs.specs.declared.cells.Cell.TheVariants.{Known}
 use Rattle.tt_abs.specs.declared.cells.ZoneCell.{ZoneCell}
 use Rattle.tt_abs.specs.declared.setting.Setting.{Setting}
 use Rattle.tt_abs.specs.declared.failed.Failed.{Failed}
+use Rattle.tt_abs.specs.declared.failed.Role.{Role}
 use Rattle.tt_abs.specs.Cells.{Abstract, Cells}
-use Rattle.tt_abs.specs.Failures.{Tells, reason_of}
+use Rattle.tt_abs.specs.Failures.{Roles, TellsWith, reason_of, role_in_operand}
 use Rattle.tt_abs.specs.Settings.{setting_of}
 use Rattle.tt_abs.specs.Transfers.{is_below_in, is_point_in, known_count, take_cell, test_cell_uses, tested_cell}
 
@@ -58,31 +59,51 @@ abbrev pub NoCountUnder : List Cell → ℕ → Failed → Type 0
 NoCountUnder stack taken f = (one : List Cell → Tested (Taking Cell))
     → pairs known_count one (drop taken stack) ≡ Err (reason_of f)
 
+-- no element is taken as anything
+abbrev pub IsNoRole : Roles
+IsNoRole r under = ⊥
+
+-- the element under the first n cells is taken as this
+abbrev pub IsRole : Role → ℕ → Roles
+IsRole given n r under = (r ≡ given) × (under ≡ n)
+
+-- the operand, taken from under the first `taken` cells, takes the element as this
+abbrev pub IsRoleFrom : ℕ → Operand → Roles
+IsRoleFrom taken operand r under =
+    (n : ℕ) × (under ≡ taken + n) × (role_in_operand operand n ≡ Some r)
+
 -- what is told of a test of this stack is so, whatever else is known
+abbrev pub TellsOfStackAs : Roles → List Cell → Failed → Type 0
+TellsOfStackAs takes stack f =
+    (s : SpecSetting) (fs : List Frame) (at : ℕ) (a : Abstract) (left : ℕ)
+    → TellsWith takes s fs at (record a { stack = stack }) left f
+
+-- the same where no unknown number is told
 abbrev pub TellsOfStack : List Cell → Failed → Type 0
-TellsOfStack stack f = (s : SpecSetting) (fs : List Frame) (at : ℕ) (a : Abstract) (left : ℕ)
-    → Tells s fs at (record a { stack = stack }) left f
+TellsOfStack = TellsOfStackAs IsNoRole
 
 -- what is told of a test of this stack in this setting is so, whatever else is known
-abbrev pub TellsOfStackIn : Setting → List Cell → Failed → Type 0
-TellsOfStackIn setting stack f = (fs : List Frame) (at : ℕ) (a : Abstract) (left : ℕ)
-    → Tells (setting_of setting) fs at (record a { stack = stack }) left f
+abbrev pub TellsOfStackIn : Setting → List Cell → Roles → Failed → Type 0
+TellsOfStackIn setting stack takes f = (fs : List Frame) (at : ℕ) (a : Abstract) (left : ℕ)
+    → TellsWith takes (setting_of setting) fs at (record a { stack = stack }) left f
 
 -- what is told of a test of this graphics state is so, whatever else is known
 abbrev pub TellsOfGraphics : Cells → Failed → Type 0
 TellsOfGraphics graphics f = (s : SpecSetting) (fs : List Frame) (at : ℕ) (a : Abstract) (left : ℕ)
-    → Tells s fs at (record a { registers = record a.registers { graphics = graphics } }) left f
+    → TellsWith IsNoRole s fs at
+    (record a { registers = record a.registers { graphics = graphics } }) left f
 
 -- what is told of a test of this graphics state in this setting is so, whatever else is known
 abbrev pub TellsOfGraphicsIn : Setting → Cells → Failed → Type 0
 TellsOfGraphicsIn setting graphics f = (fs : List Frame) (at : ℕ) (a : Abstract) (left : ℕ)
-    → Tells (setting_of setting) fs at
+    → TellsWith IsNoRole (setting_of setting) fs at
     (record a { registers = record a.registers { graphics = graphics } }) left f
 
 -- what is told of a test of operands on this stack is so, whatever else is known
-abbrev pub TellsOfOperands : Setting → Cells → List Cell → Failed → Type 0
-TellsOfOperands setting graphics stack f = (fs : List Frame) (at : ℕ) (a : Abstract) (left : ℕ)
-    → Tells (setting_of setting) fs at
+abbrev pub TellsOfOperands : Setting → Cells → List Cell → Roles → Failed → Type 0
+TellsOfOperands setting graphics stack takes f =
+    (fs : List Frame) (at : ℕ) (a : Abstract) (left : ℕ)
+    → TellsWith takes (setting_of setting) fs at
     (record a { stack = stack; registers = record a.registers { graphics = graphics } }) left f
 
 -- one CVT index

@@ -1,16 +1,20 @@
-use Rattle.std.proofs.Common.{◌∙◌, rules, sym}
+use Rattle.tt_code.specs.declared.kinds.Control.TheVariants as control
+use Rattle.tt_abs.specs.Representation.Steps.{IsRoleOfControl}
+use Rattle.tt_abs.specs.Representation.Taken.{IsNoRole, IsRole}
+use Rattle.tt_abs.specs.declared.failed.Role.TheVariants as role
+use Rattle.std.proofs.Common.{refl, ◌∙◌, rules, sym}
 use Rattle.std.specs.Prelude.{FitsSigned}
 use Rattle.std.specs.Int.{w32}
 use Rattle.std.proofs.lemmas.Int.{to_z-of_z}
-use Rattle.tt_abs.proofs.Told.{on_top, stack_step_told, too_few_told, unknown_told}
+use Rattle.tt_abs.proofs.Told.{as_none, as_one, on_top, stack_step_told, too_few_told, unknown_told}
 use Rattle.tt_abs.proofs.control.define.Goals as goal
 
 pub returns-in_err-top-clause-told : goal.returns-in_err-top-clause-told
-returns-in_err-top-clause-told c = stack_step_told c.args.setting.now c.args.point.now c.args.state.now _ _ _ (too_few_told _ _ c.in_err-top.ensures.told) c.from_residual.ensures.1
+returns-in_err-top-clause-told c = stack_step_told IsNoRole (IsRoleOfControl control.FunctionDefinition) c.args.setting.now c.args.point.now c.args.state.now _ _ _ (as_none (IsRoleOfControl control.FunctionDefinition)) (too_few_told IsNoRole _ _ c.in_err-top.ensures.told) c.from_residual.ensures.1
 
 pub returns-in_err-function-clause-told : goal.returns-in_err-function-clause-told
 returns-in_err-function-clause-told c =
-    stack_step_told c.args.setting.now c.args.point.now c.args.state.now _ _ _ (unknown_told _ _ _ _ _ _ c.in_ok-top.ensures.ok c.in_err-function.ensures.unknown c.in_err-function.ensures.told)
+    stack_step_told (IsRole role.Function 0) (IsRoleOfControl control.FunctionDefinition) c.args.setting.now c.args.point.now c.args.state.now _ _ _ (as_one role.Function 0 (IsRoleOfControl control.FunctionDefinition) refl) (unknown_told _ _ _ _ _ _ c.in_ok-top.ensures.ok c.in_err-function.ensures.unknown c.in_err-function.ensures.told)
     c.from_residual-in_err-function.ensures.1
 
 pub returns-then-not-is_index-clause-told : goal.returns-then-not-is_index-clause-told

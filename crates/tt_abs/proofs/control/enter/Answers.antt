@@ -1,3 +1,4 @@
+use Rattle.tt_abs.specs.Representation.Taken.{IsNoRole}
 use Rattle.std.proofs.Common.{◌∙◌, rules, sym}
 use Rattle.std.specs.Prelude.{FitsSigned}
 use Rattle.std.specs.Int.{w32}
@@ -10,7 +11,7 @@ use Rattle.tt_abs.proofs.control.enter.Goals as goal
 pub returns-in_err-test_depth-clause-told : goal.returns-in_err-test_depth-clause-told
 returns-in_err-test_depth-clause-told c =
     told_by c.from_residual.result _ (TellsOfEntry c.args.setting.now c.args.point.now c.args.callee c.args.depth)
-    (λ a named. too_deep_told c.args.setting.now c.args.point.now a c.args.depth _ c.in_err-test_depth.ensures.told c.in_err-test_depth.ensures.deep)
+    (λ a named. too_deep_told IsNoRole c.args.setting.now c.args.point.now a c.args.depth _ c.in_err-test_depth.ensures.told c.in_err-test_depth.ensures.deep)
     c.from_residual.ensures.1
 
 pub returns-then-is_running-clause-told : goal.returns-then-is_running-clause-told

@@ -1,9 +1,11 @@
 use Rattle.std.proofs.Common.{sym, ◌∙◌, ap, length, refl, Ok}
-use Rattle.tt_code.specs.Table.{Plain, Stack, Computes, Pushes, effect_of}
+use Rattle.tt_code.specs.Table.{Plain, Stack, Computes, Controls, Pushes, effect_of}
 use Rattle.tt_code.specs.Entries.{view}
 use Rattle.tt_abs.specs.Settings.{frames_of, setting_of}
 use Rattle.tt_abs.specs.States.{abstract_of}
-use Rattle.tt_abs.specs.Representation.Steps.{line_of}
+use Rattle.tt_abs.specs.Representation.Steps.{IsRoleOfControl, IsRoleOfLine, IsRoleOfShuffle, line_of}
+use Rattle.tt_abs.specs.Representation.Taken.{IsNoRole}
+use Rattle.tt_abs.proofs.RolesTold.{code_answer_told, code_told}
 use Rattle.tt_abs.specs.Transfers.{pushed_cells, plain_cells, shuffled_cells, computed_cells}
 use Rattle.tt_abs.proofs.TableRows.{rows_of_one_kind, rows_tested}
 use Rattle.tt_abs.proofs.StepLemmas.{push_done, acts, acts_not, first_code, for_reason, passed_on}
@@ -67,17 +69,28 @@ returns-clause-ok c = λ code rest e.
 pub returns-in_err-execute_plain-in-Plain-clause-told : goal.returns-in_err-execute_plain-in-Plain-clause-told
 returns-in_err-execute_plain-in-Plain-clause-told c =
     passed_on c.from_residual.result c.in_err-execute_plain-in-Plain.field-0.0 _
-    (for_failed c.in_err-execute_plain-in-Plain.field-0.0 _ _ (λ f h. h (frames_of c.args.point.now) c.args.point.now.offset _) c.in_err-execute_plain-in-Plain.ensures.told)
+    (code_told (IsRoleOfLine c.args.setting.now c.args.state.now c.in-Plain.line) c.args.setting.now c.args.point.now c.args.state.now _ c.args.instr.now c.code.result (Plain (line_of c.in-Plain.line))
+    c.in_err-execute_plain-in-Plain.field-0.0 c.code.ensures (sym c.entry.ensures ∙ ap view c.in-Plain.is) (λ r n h. h)
+    (for_failed c.in_err-execute_plain-in-Plain.field-0.0 _ _ (λ f h. h (frames_of c.args.point.now) c.args.point.now.offset _) c.in_err-execute_plain-in-Plain.ensures.told))
     c.from_residual.ensures.1
 
 pub returns-in_err-shuffle-in-Stack-clause-told : goal.returns-in_err-shuffle-in-Stack-clause-told
 returns-in_err-shuffle-in-Stack-clause-told c =
     passed_on c.from_residual-in_err-shuffle-in-Stack.result c.in_err-shuffle-in-Stack.field-0.0 _
-    (stack_fault_told c.args.setting.now c.args.point.now c.args.state.now _ _ c.in_err-shuffle-in-Stack.ensures.told)
+    (code_told (IsRoleOfShuffle c.in-Stack.operation) c.args.setting.now c.args.point.now c.args.state.now _ c.args.instr.now c.code.result (Stack c.in-Stack.operation)
+    c.in_err-shuffle-in-Stack.field-0.0 c.code.ensures (sym c.entry.ensures ∙ ap view c.in-Stack.is) (λ r n h. h)
+    (stack_fault_told (IsRoleOfShuffle c.in-Stack.operation) c.args.setting.now c.args.point.now c.args.state.now _ _ c.in_err-shuffle-in-Stack.ensures.told))
     c.from_residual-in_err-shuffle-in-Stack.ensures.1
 
 pub returns-in_err-compute-in-Arithmetic-clause-told : goal.returns-in_err-compute-in-Arithmetic-clause-told
 returns-in_err-compute-in-Arithmetic-clause-told c =
     passed_on c.from_residual-in_err-compute-in-Arithmetic.result c.in_err-compute-in-Arithmetic.field-0.0 _
-    (stack_fault_told c.args.setting.now c.args.point.now c.args.state.now _ _ c.in_err-compute-in-Arithmetic.ensures.told)
+    (code_told IsNoRole c.args.setting.now c.args.point.now c.args.state.now _ c.args.instr.now c.code.result (Computes c.in-Arithmetic.operation)
+    c.in_err-compute-in-Arithmetic.field-0.0 c.code.ensures (sym c.entry.ensures ∙ ap view c.in-Arithmetic.is) (λ r n h. absurd h)
+    (stack_fault_told IsNoRole c.args.setting.now c.args.point.now c.args.state.now _ _ c.in_err-compute-in-Arithmetic.ensures.told))
     c.from_residual-in_err-compute-in-Arithmetic.ensures.1
+
+pub returns-in-Control-clause-told : goal.returns-in-Control-clause-told
+returns-in-Control-clause-told c =
+    code_answer_told c.execute_control.result (IsRoleOfControl c.in-Control.operation) c.args.setting.now c.args.point.now c.args.state.now _ c.args.instr.now c.code.result (Controls c.in-Control.operation)
+    c.code.ensures (sym c.entry.ensures ∙ ap view c.in-Control.is) (λ r n h. h) c.execute_control.ensures.told

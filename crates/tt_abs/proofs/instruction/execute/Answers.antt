@@ -3,6 +3,7 @@ use Rattle.tt_abs.specs.Settings.{frames_of, setting_of}
 use Rattle.tt_abs.specs.States.{abstract_of}
 use Rattle.tt_abs.specs.Moves.{nexts_of}
 use Rattle.tt_abs.proofs.StepLemmas.{left_in_range, performs_not, performs_then, moves_within, moves_beyond, for_reason, passed_on}
+use Rattle.tt_abs.proofs.RolesTold.{there_told}
 use Rattle.tt_abs.proofs.instruction.execute.Goals as goal
 
 pub returns-in_err-moves-clause-refused : goal.returns-in_err-moves-clause-refused
@@ -39,4 +40,6 @@ returns-clause-in_range c = λ h.
 
 pub returns-in_err-moves-clause-told : goal.returns-in_err-moves-clause-told
 returns-in_err-moves-clause-told c =
-    passed_on c.from_residual.result c.in_err-moves.field-0.0 _ c.in_err-moves.ensures.told c.from_residual.ensures.1
+    passed_on c.from_residual.result c.in_err-moves.field-0.0 _
+    (there_told c.args.setting.now c.args.point.now c.args.state.now _ c.args.instr.now c.code.result c.in_err-moves.field-0.0 c.code.ensures c.requires.found c.in_err-moves.ensures.told)
+    c.from_residual.ensures.1

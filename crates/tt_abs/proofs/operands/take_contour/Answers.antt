@@ -1,9 +1,11 @@
-use Rattle.std.proofs.Common.{sym, ◌∙◌, rules}
+use Rattle.tt_code.specs.declared.kinds.Operand.TheVariants as operands
+use Rattle.tt_abs.specs.declared.failed.Role.TheVariants as role
+use Rattle.std.proofs.Common.{refl, sym, ◌∙◌, rules}
 use Rattle.std.specs.Prelude.{FitsSigned}
 use Rattle.std.specs.Int.{w32}
 use Rattle.std.proofs.lemmas.Int.{to_z-of_z}
 use Rattle.tt_abs.proofs.Fronts.{tested_takes}
-use Rattle.tt_abs.specs.Representation.Taken.{TellsOfOperands}
+use Rattle.tt_abs.specs.Representation.Taken.{IsRoleFrom, TellsOfOperands}
 use Rattle.tt_abs.proofs.Fronts.{told_by}
 use Rattle.tt_abs.proofs.Told.{stack_operands}
 use Rattle.tt_abs.proofs.operands.take_contour.Goals as goal
@@ -16,5 +18,5 @@ returns-then-is_contour-clause-ok c =
 
 pub returns-in_err-number-clause-told : goal.returns-in_err-number-clause-told
 returns-in_err-number-clause-told c =
-    told_by c.from_residual.result c.in_err-number.field-0.0 (TellsOfOperands c.args.setting.now c.args.graphics.now c.args.stack.now)
-    (stack_operands c.args.setting.now c.args.graphics.now c.args.stack.now c.in_err-number.field-0.0 c.in_err-number.ensures.told) c.from_residual.ensures.1
+    told_by c.from_residual.result c.in_err-number.field-0.0 (TellsOfOperands c.args.setting.now c.args.graphics.now c.args.stack.now (IsRoleFrom c.args.taken operands.Contour))
+    (stack_operands c.args.setting.now c.args.graphics.now c.args.stack.now role.Contour c.args.taken operands.Contour c.in_err-number.field-0.0 refl c.in_err-number.ensures.told) c.from_residual.ensures.1

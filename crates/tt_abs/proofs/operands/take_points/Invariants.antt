@@ -1,4 +1,4 @@
-use Rattle.std.proofs.Common.{◌-◌, drop}
+use Rattle.std.proofs.Common.{◌≡◌, ◌+◌, ◌-◌, drop}
 use Rattle.tt_code.specs.Operands.{times}
 use Rattle.tt_code.specs.declared.reason.Reason.TheVariants as reason
 use Rattle.tt_abs.specs.Transfers.{tested_cell, is_point_in}
@@ -8,5 +8,6 @@ use Rattle.tt_abs.proofs.operands.take_points.Given as goal
 
 abbrev pub invariant-loop-i : goal.invariant-loop-i
 invariant-loop-i l =
-    GoesOn (times l.fn.count (tested_cell (is_point_in (setting_of l.fn.setting) l.fn.graphics l.fn.within) reason.Point) (drop l.fn.taken l.fn.stack)) (drop l.after l.fn.stack)
-    (times (l.fn.count - l.i) (tested_cell (is_point_in (setting_of l.fn.setting) l.fn.graphics l.fn.within) reason.Point))
+    (GoesOn (times l.fn.count (tested_cell (is_point_in (setting_of l.fn.setting) l.fn.graphics l.fn.within) reason.Point) (drop l.fn.taken l.fn.stack)) (drop l.after l.fn.stack)
+    (times (l.fn.count - l.i) (tested_cell (is_point_in (setting_of l.fn.setting) l.fn.graphics l.fn.within) reason.Point)))
+    × (l.after ≡ l.fn.taken + l.i)

@@ -1,9 +1,11 @@
-use Rattle.std.proofs.Common.{sym, ◌∙◌, rules}
+use Rattle.tt_code.specs.declared.kinds.Operand.TheVariants as operands
+use Rattle.tt_abs.specs.declared.failed.Role.TheVariants as role
+use Rattle.std.proofs.Common.{refl, sym, ◌∙◌, rules}
 use Rattle.std.specs.Prelude.{FitsSigned}
 use Rattle.std.specs.Int.{w32}
 use Rattle.std.proofs.lemmas.Int.{to_z-of_z}
 use Rattle.tt_abs.proofs.Fronts.{tested_takes}
-use Rattle.tt_abs.specs.Representation.Taken.{TellsOfStackIn}
+use Rattle.tt_abs.specs.Representation.Taken.{IsRoleFrom, TellsOfStackIn}
 use Rattle.tt_abs.proofs.Fronts.{told_by}
 use Rattle.tt_abs.proofs.Told.{stack_in}
 use Rattle.tt_abs.proofs.operands.take_storage.Goals as goal
@@ -17,5 +19,5 @@ returns-then-is_index-clause-ok c =
 
 pub returns-in_err-index-clause-told : goal.returns-in_err-index-clause-told
 returns-in_err-index-clause-told c =
-    told_by c.from_residual.result c.in_err-index.field-0.0 (TellsOfStackIn c.args.setting.now c.args.stack.now)
-    (stack_in c.args.setting.now c.args.stack.now c.in_err-index.field-0.0 c.in_err-index.ensures.told) c.from_residual.ensures.1
+    told_by c.from_residual.result c.in_err-index.field-0.0 (TellsOfStackIn c.args.setting.now c.args.stack.now (IsRoleFrom c.args.taken operands.Storage))
+    (stack_in c.args.setting.now c.args.stack.now role.StorageCell c.args.taken operands.Storage c.in_err-index.field-0.0 refl c.in_err-index.ensures.told) c.from_residual.ensures.1

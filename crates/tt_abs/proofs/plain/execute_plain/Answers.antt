@@ -8,8 +8,8 @@ use Rattle.tt_abs.specs.Settings.{setting_of}
 use Rattle.tt_abs.specs.States.{abstract_of}
 use Rattle.tt_abs.specs.Representation.Steps.{line_of}
 use Rattle.tt_abs.proofs.PlainSteps.{updates_counted, pushes_counted, plain_done, plain_kept, changes_none}
-use Rattle.tt_abs.specs.Representation.Steps.{TellsOfState}
-use Rattle.tt_abs.proofs.Told.{graphics_state, operands_state, refused_told}
+use Rattle.tt_abs.specs.Representation.Steps.{TellsOfLine}
+use Rattle.tt_abs.proofs.Told.{graphics_line, operands_line, refused_told}
 use Rattle.tt_abs.proofs.plain.execute_plain.Goals as goal
 
 pub pushed_cells-requires : goal.pushed_cells-requires
@@ -43,10 +43,10 @@ returns-clause-ok c =
 
 pub returns-in_err-count-clause-told : goal.returns-in_err-count-clause-told
 returns-in_err-count-clause-told c =
-    refused_told c.from_residual.result c.in_err-count.field-0.0 (TellsOfState c.args.setting.now c.args.state.now)
-    (operands_state c.args.setting.now c.args.state.now c.in_err-count.field-0.0 c.in_err-count.ensures.told) c.from_residual.ensures.1
+    refused_told c.from_residual.result c.in_err-count.field-0.0 (TellsOfLine c.args.setting.now c.args.state.now c.args.line.now)
+    (operands_line c.args.setting.now c.args.state.now c.args.line.now c.in_err-count.field-0.0 c.in_err-count.ensures.told) c.from_residual.ensures.1
 
 pub returns-in_err-test_uses-clause-told : goal.returns-in_err-test_uses-clause-told
 returns-in_err-test_uses-clause-told c =
-    refused_told c.from_residual-in_err-test_uses.result c.in_err-test_uses.field-0.0 (TellsOfState c.args.setting.now c.args.state.now)
-    (graphics_state c.args.setting.now c.args.state.now c.in_err-test_uses.field-0.0 c.in_err-test_uses.ensures.told) c.from_residual-in_err-test_uses.ensures.1
+    refused_told c.from_residual-in_err-test_uses.result c.in_err-test_uses.field-0.0 (TellsOfLine c.args.setting.now c.args.state.now c.args.line.now)
+    (graphics_line c.args.setting.now c.args.state.now c.args.line.now c.in_err-test_uses.field-0.0 c.in_err-test_uses.ensures.told) c.from_residual-in_err-test_uses.ensures.1

@@ -1,6 +1,7 @@
 use Rattle.std.proofs.Common.{◌∙◌, ap, ◌∷◌}
+use Rattle.tt_abs.specs.declared.failed.Role.TheVariants as role
 use Rattle.tt_abs.proofs.StackSteps.{copies_index}
-use Rattle.tt_abs.specs.Representation.Taken.{TellsOfStack}
+use Rattle.tt_abs.specs.Representation.Taken.{IsRole, TellsOfStackAs}
 use Rattle.tt_abs.proofs.Told.{refused_told}
 use Rattle.tt_abs.proofs.shuffle.copy_indexed.Goals as goal
 
@@ -12,4 +13,4 @@ returns-clause-ok c =
 
 pub returns-in_err-cell-clause-told : goal.returns-in_err-cell-clause-told
 returns-in_err-cell-clause-told c =
-    refused_told c.from_residual.result c.in_err-cell.field-0.0 (TellsOfStack c.args.stack.now) c.in_err-cell.ensures.told c.from_residual.ensures.1
+    refused_told c.from_residual.result c.in_err-cell.field-0.0 (TellsOfStackAs (IsRole role.StackIndex 0) c.args.stack.now) c.in_err-cell.ensures.told c.from_residual.ensures.1

@@ -1,7 +1,7 @@
-use Rattle.tt_abs.specs.Representation.Taken.{TellsOfStack}
+use Rattle.tt_abs.specs.Representation.Taken.{IsNoRole, TellsOfStack}
 use Rattle.tt_abs.proofs.Told.{refused_told, too_few_told}
 use Rattle.tt_abs.proofs.shuffle.discard.Goals as goal
 
 pub returns-in_err-cell_under-clause-told : goal.returns-in_err-cell_under-clause-told
 returns-in_err-cell_under-clause-told c =
-    refused_told c.from_residual.result c.in_err-cell_under.field-0.0 (TellsOfStack c.args.stack.now) (too_few_told c.args.stack.now c.in_err-cell_under.field-0.0 c.in_err-cell_under.ensures.told) c.from_residual.ensures.1
+    refused_told c.from_residual.result c.in_err-cell_under.field-0.0 (TellsOfStack c.args.stack.now) (too_few_told IsNoRole c.args.stack.now c.in_err-cell_under.field-0.0 c.in_err-cell_under.ensures.told) c.from_residual.ensures.1

@@ -1,7 +1,8 @@
 use Rattle.std.proofs.Common.{◌∙◌, ap, ◌∷◌}
 use Rattle.std.specs.Prelude.{remove}
+use Rattle.tt_abs.specs.declared.failed.Role.TheVariants as role
 use Rattle.tt_abs.proofs.StackSteps.{moves_index}
-use Rattle.tt_abs.specs.Representation.Taken.{TellsOfStack}
+use Rattle.tt_abs.specs.Representation.Taken.{IsRole, TellsOfStackAs}
 use Rattle.tt_abs.proofs.Told.{refused_told}
 use Rattle.tt_abs.proofs.shuffle.move_indexed.Goals as goal
 
@@ -13,4 +14,4 @@ returns-clause-ok c =
 
 pub returns-in_err-above-clause-told : goal.returns-in_err-above-clause-told
 returns-in_err-above-clause-told c =
-    refused_told c.from_residual.result c.in_err-above.field-0.0 (TellsOfStack c.args.stack.now) c.in_err-above.ensures.told c.from_residual.ensures.1
+    refused_told c.from_residual.result c.in_err-above.field-0.0 (TellsOfStackAs (IsRole role.StackIndex 0) c.args.stack.now) c.in_err-above.ensures.told c.from_residual.ensures.1
