@@ -1,6 +1,6 @@
 -- What is left of a stack when operands were taken.
 use Rattle.std.specs.Prelude.{ℤ, Result, IfOk, IfErr}
-use Rattle.std.proofs.Common.{◌≡◌, ℕ, zero, suc, ◌+◌, ◌-◌, ◌<◌, ◌≤◌, List, [], ◌∷◌, ◌++◌, append_assoc, Some, None, Ok, Err, Bool, true, get_or, refl, sym, ◌∙◌, ap, subst, arith, length, drop, add-one}
+use Rattle.std.proofs.Common.{◌≡◌, ℕ, zero, suc, ◌+◌, ◌-◌, ◌<◌, List, [], ◌∷◌, ◌++◌, append_assoc, Some, None, Ok, Err, Bool, true, get_or, refl, sym, ◌∙◌, ap, subst, arith, length, drop, add-one}
 use Rattle.tt_code.specs.Refusals.{Tested}
 use Rattle.tt_code.specs.Settings.{Setting}
 use Rattle.tt_code.specs.Operands.{Taking, then_take, take_one, times, pair, pairs}
@@ -54,9 +54,6 @@ pub goes_on_refused : (given : Tested (Taking Cell)) (below : List Cell) (one mo
     → GoesOn given below (λ r. then_take (one r) more) → one below ≡ Err n → given ≡ Err n
 goes_on_refused given below one more n h e = h.1 ∙ rw e refl
 
-pub goes_on_end : (given : Tested (Taking Cell)) (stack : List Cell) (n : ℕ) → GoesOn given (drop n stack) (λ r. Ok ([], r)) → TakesTo stack n given
-goes_on_end given stack n h = (h.0 ++ [], h.1)
-
 pub any_takes : (stack : List Cell) (taken : ℕ) (c : Cell) → Some c ≡ first (drop taken stack) → TakesTo stack (taken + 1) (take_one (drop taken stack))
 any_takes stack taken c e =
     let found = first_is (drop taken stack) c c e refl in (c ∷ [], go found.0 found.1)
@@ -81,10 +78,6 @@ pub times_refused : (one : List Cell → Tested (Taking Cell)) (count i : ℕ) (
 times_refused one count i given below n h k e =
     let same : count - i ≡ suc (count - (i + 1)) = omega arith in
     goes_on_refused given below one (times (count - (i + 1)) one) n (rw same at k) e
-
-pub times_end : (one : List Cell → Tested (Taking Cell)) (count i : ℕ) (given : Tested (Taking Cell)) (stack : List Cell) (n : ℕ) → count ≤ i → GoesOn given (drop n stack) (times (count - i) one) → TakesTo stack n given
-times_end one count i given stack n h k =
-    let same : count - i ≡ 0 = omega arith in goes_on_end given stack n (rw same at k)
 
 pub some_taken : (xs : List Cell) (n : ℕ) (c d : Cell) → Some c ≡ first (drop n xs) → c ≡ taken_at d xs n
 some_taken [] zero c d e = absurd (cc)

@@ -35,9 +35,6 @@ abbrev IsWithin : ℕ → Option ℕ → Type 0
 IsWithin end None = Unit {0}
 IsWithin end (Some n) = n ≤ end
 
-is_within : (end n : ℕ) (o : Option ℕ) → o ≡ Some n → IsWithin end o → n ≤ end
-is_within end n o e h = subst (IsWithin end) e h
-
 within_more : (low high : ℕ) (o : Option ℕ) → low ≤ high → IsWithin low o → IsWithin high o
 within_more low high None le h = tt
 within_more low high (Some n) le h = omega (arith, h)
@@ -113,9 +110,6 @@ NextFits n = CallsFit n.frames × (n.offset < 2 ^ 31)
 
 abbrev AreFit : List Next → Type 0
 AreFit nexts = AllByRecursion NextFits nexts
-
-one_fits : (fs : List Frame) (next : ℕ) (a : Abstract) → CallsFit fs → next < 2 ^ 31 → AreFit (one_way fs next a)
-one_fits fs next a h k = ((h, k), tt)
 
 two_fit : (fs : List Frame) (m n : ℕ) (a : Abstract) → CallsFit fs → m < 2 ^ 31 → n < 2 ^ 31 → AreFit (two_ways fs m n a)
 two_fit fs m n a h k l = go (nat_eq m n) (nat_lt m n)

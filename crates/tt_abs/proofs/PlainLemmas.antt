@@ -32,13 +32,13 @@ use Rattle.tt_abs.proofs.Machines.{May, machine_with, machine_stands, some_area,
 -- What the tests leave known.
 
 pub then_take_parts : (first : Tested (Taking Cell)) (second : List Cell → Tested (Taking Cell)) (t : Taking Cell) → then_take first second ≡ Ok t
-    → (u : Taking Cell) × (v : Taking Cell) × (first ≡ Ok u) × (second u.1 ≡ Ok v) × (t.0 ≡ u.0 ++ v.0)
+    → (u : Taking Cell) × (v : Taking Cell) × (first ≡ Ok u) × (second u.1 ≡ Ok v) × (t.0 ≡ u.0 ++ v.0) × (t.1 ≡ v.1)
 then_take_parts (Err n) second t e = absurd (cc)
 then_take_parts (Ok u) second t e = go (second u.1) refl e
   where
-    go : (r : Tested (Taking Cell)) → second u.1 ≡ r → (r >>= (λ b. Ok (u.0 ++ b.0, b.1))) ≡ Ok t → (w : Taking Cell) × (v : Taking Cell) × (◌≡◌ {A = Tested (Taking Cell)} (Ok u) (Ok w)) × (second w.1 ≡ Ok v) × (t.0 ≡ w.0 ++ v.0)
+    go : (r : Tested (Taking Cell)) → second u.1 ≡ r → (r >>= (λ b. Ok (u.0 ++ b.0, b.1))) ≡ Ok t → (w : Taking Cell) × (v : Taking Cell) × (◌≡◌ {A = Tested (Taking Cell)} (Ok u) (Ok w)) × (second w.1 ≡ Ok v) × (t.0 ≡ w.0 ++ v.0) × (t.1 ≡ v.1)
     go (Err n) f h = absurd (cc)
-    go (Ok v) f h = let same : t ≡ (u.0 ++ v.0, v.1) = cc in (u, v, refl, f, ap (λ x. x.0) same)
+    go (Ok v) f h = let same : t ≡ (u.0 ++ v.0, v.1) = cc in (u, v, refl, f, ap (λ x. x.0) same, ap (λ x. x.1) same)
 
 tested_known : (passes : ℤ → Bool) (r : Reason) (cs : List Cell) (u : Taking Cell) → tested_cell passes r cs ≡ Ok u → (k : ℤ) × (u.0 ≡ Known k ∷ [])
 tested_known passes r [] u e = absurd (cc)
@@ -82,10 +82,10 @@ known_at : (s : Setting) (a : Cells) (os : List Operand) (i : ℕ) (cs : List Ce
     → (k : ℤ) × (taken_at (Known (pos 1)) t.0 i ≡ Known k)
 known_at s a [] i cs t h e = absurd (cc)
 known_at s a (o ∷ os) zero cs t h e =
-    let (u, v, f, g, is) = then_take_parts (take_cell s a o cs) (take_cells s a os) t e in
+    let (u, v, f, g, is, left) = then_take_parts (take_cell s a o cs) (take_cells s a os) t e in
     let (k, w) = operand_known s a o cs u h f in (k, at_first t.0 u.0 v.0 (Known k) is w)
 known_at s a (o ∷ os) (suc i) cs t h e =
-    let (u, v, f, g, is) = then_take_parts (take_cell s a o cs) (take_cells s a os) t e in
+    let (u, v, f, g, is, left) = then_take_parts (take_cell s a o cs) (take_cells s a os) t e in
     let (one, later) = and_parts (is_single o) (is_known_at os i) h in
     let (c, w) = operand_single s a o cs u one f in
     let (k, z) = known_at s a os i u.1 v later g in (k, at_later t.0 u.0 v.0 c i is w ∙ z)

@@ -78,11 +78,11 @@ index_at : (s : Setting) (a : Cells) (os : List Operand) (i : ℕ) (cs : List Ce
     → IsIndex (taken_at (Known (pos 1)) t.0 i)
 index_at s a [] i cs t small h e = absurd (cc)
 index_at s a (o ∷ os) zero cs t small h e =
-    let (u, v, f, g, is) = then_take_parts (take_cell s a o cs) (take_cells s a os) t e in
+    let (u, v, f, g, is, left) = then_take_parts (take_cell s a o cs) (take_cells s a os) t e in
     let (c, w, z) = storage_operand s a o cs u small h f in
     subst IsIndex (sym (at_first t.0 u.0 v.0 c is w)) z
 index_at s a (o ∷ os) (suc i) cs t small h e =
-    let (u, v, f, g, is) = then_take_parts (take_cell s a o cs) (take_cells s a os) t e in
+    let (u, v, f, g, is, left) = then_take_parts (take_cell s a o cs) (take_cells s a os) t e in
     let (one, later) = and_parts (is_single o) (is_storage_at os i) h in
     let (c, w) = operand_single s a o cs u (single_is o one) f in
     subst IsIndex (sym (at_later t.0 u.0 v.0 c i is w)) (index_at s a os i u.1 v small later g)

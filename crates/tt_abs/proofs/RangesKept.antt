@@ -48,9 +48,6 @@ abbrev pub Holds : {A : Type 0} → (A → Type 0) → Tested A → Type 0
 Holds P (Ok x) = P x
 Holds P (Err r) = Unit {0}
 
-abbrev pub Anything : {A : Type 0} → A → Type 0
-Anything x = Unit {0}
-
 pub holds_then : {A B : Type 0} (P : A → Type 0) (Q : B → Type 0) (t : Tested A) (f : A → Tested B) → Holds P t → ((x : A) → P x → Holds Q (f x)) → Holds Q (t >>= f)
 holds_then P Q (Ok x) f h k = k x h
 holds_then P Q (Err r) f h k = tt

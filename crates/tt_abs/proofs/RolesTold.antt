@@ -1,11 +1,10 @@
 -- What an element is taken as, from the operand that tests it to the line and the instruction.
-use Rattle.std.specs.Prelude.{Result, IfErr}
-use Rattle.std.proofs.Common.{◌≡◌, ◌∙◌, ◌+◌, ◌<◌, ℕ, zero, suc, List, [], ◌∷◌, ◌++◌, Ok, Err, Some, add-one, ap, arith, drop, get_or, length, refl, subst, sym, take}
+use Rattle.std.proofs.Common.{◌≡◌, ◌∙◌, ◌+◌, ◌<◌, ℕ, zero, suc, List, [], ◌∷◌, ◌++◌, Ok, None, Some, add-one, ap, arith, drop, get_or, length, refl, subst, sym, take}
 use Rattle.std.proofs.Math.Seq.{drop-cons}
 use Rattle.std.proofs.lemmas.List.{take-append-drop}
 use Rattle.tt_code.specs.Cut.{Instruction, code_of}
 use Rattle.tt_code.specs.Operands.{Taking, then_take}
-use Rattle.tt_code.specs.Refusals.{Tested, ◌>>=◌}
+use Rattle.tt_code.specs.Refusals.{◌>>=◌}
 use Rattle.tt_code.specs.Settings.{Setting as SpecSetting}
 use Rattle.tt_code.specs.Table.{Meaning, effect_of}
 use Rattle.tt_code.specs.declared.kinds.Operand.{Operand}
@@ -13,19 +12,19 @@ use Rattle.tt_code.specs.declared.kinds.Operand.TheVariants as operands
 use Rattle.tt_code.specs.declared.kinds.Within.{Within}
 use Rattle.tt_abs.specs.declared.cells.Cell.{Cell}
 use Rattle.tt_abs.specs.declared.failed.Role.{Role}
-use Rattle.tt_abs.specs.declared.failed.Role.TheVariants as role
 use Rattle.tt_abs.specs.declared.setting.Point.{Point}
 use Rattle.tt_abs.specs.declared.setting.Setting.{Setting}
 use Rattle.tt_abs.specs.declared.state.State.{State}
 use Rattle.tt_abs.specs.declared.step_fault.StepFault.{StepFault}
 use Rattle.tt_abs.specs.Cells.{Cells}
 use Rattle.tt_abs.specs.Failures.{IsRoleAt, IsRoleIn, IsRoleInLine, Roles, every_other, role_in_operand}
-use Rattle.tt_abs.specs.Moves.{TellsWhatFails, point_instruction}
+use Rattle.tt_abs.specs.Moves.{TellsOf, TellsWhatFails, point_instruction}
 use Rattle.tt_abs.specs.Settings.{frames_of, setting_of}
 use Rattle.tt_abs.specs.States.{abstract_of}
 use Rattle.tt_abs.specs.Transfers.{take_cell, take_cells}
-use Rattle.tt_abs.specs.Representation.Steps.{TellsOf, TellsOfBytes}
+use Rattle.tt_abs.specs.Representation.Steps.{TellsOfBytes}
 use Rattle.tt_abs.specs.Representation.Taken.{IsRoleFrom, TakesTo}
+use Rattle.tt_abs.proofs.PlainLemmas.{then_take_parts}
 use Rattle.tt_abs.proofs.StepLemmas.{first_code}
 use Rattle.tt_abs.proofs.Told.{for_failed, tells_as}
 
@@ -42,37 +41,16 @@ twice : (given : Role) (i : ℕ) → every_other given (i + i) ≡ Some given
 twice given zero = refl
 twice given (suc i) = let same : suc i + suc i ≡ suc (suc (i + i)) = omega arith in rw same (twice given i)
 
--- the first of one of the pairs after a count
-pub point_in_pairs : (taken after i : ℕ) (within : Within) → after ≡ taken + 1 + (i + i) → (r : Role) (under : ℕ) → IsRoleFrom after (operands.Point within) r under
-    → IsRoleFrom taken (operands.PointPairs within) r under
-point_in_pairs taken after i within e r under h = go h.0 h.1 h.2
+-- the first of one of the pairs after a count, by what an operand alone takes it as
+pub first_in_pairs : (one pairs : Operand) (given : Role) → role_in_operand one 0 ≡ Some given → ((n : ℕ) → role_in_operand one (suc n) ≡ None) → ((n : ℕ) → role_in_operand pairs (suc n) ≡ every_other given n)
+    → (taken after i : ℕ) → after ≡ taken + 1 + (i + i) → (r : Role) (under : ℕ) → IsRoleFrom after one r under → IsRoleFrom taken pairs r under
+first_in_pairs one pairs given alone none each taken after i e r under h = go h.0 h.1 h.2
   where
-    go : (n : ℕ) → under ≡ after + n → role_in_operand (operands.Point within) n ≡ Some r → IsRoleFrom taken (operands.PointPairs within) r under
-    go zero at is = (suc (i + i), omega (arith, at, e), twice role.Point i ∙ is)
-    go (suc n) at is = absurd (cc)
-
-pub cvt_in_pairs : (taken after i : ℕ) → after ≡ taken + 1 + (i + i) → (r : Role) (under : ℕ) → IsRoleFrom after operands.Cvt r under → IsRoleFrom taken operands.CvtPairs r under
-cvt_in_pairs taken after i e r under h = go h.0 h.1 h.2
-  where
-    go : (n : ℕ) → under ≡ after + n → role_in_operand operands.Cvt n ≡ Some r → IsRoleFrom taken operands.CvtPairs r under
-    go zero at is = (suc (i + i), omega (arith, at, e), twice role.ControlValue i ∙ is)
-    go (suc n) at is = absurd (cc)
+    go : (n : ℕ) → under ≡ after + n → role_in_operand one n ≡ Some r → IsRoleFrom taken pairs r under
+    go zero at is = (suc (i + i), omega (arith, at, e), each (i + i) ∙ twice given i ∙ sym alone ∙ is)
+    go (suc n) at is = let no : None ≡ Some r = sym (none n) ∙ is in absurd (cc)
 
 -- the operands before one are taken
-
-pub taken_first : (s : SpecSetting) (g : Cells) (ops : List Operand) (stack : List Cell) → TakesTo stack 0 (take_cells s g (take 0 ops) stack)
-taken_first s g ops stack = ([], refl)
-
-then_on : (first : Tested (Taking Cell)) (second third : List Cell → Tested (Taking Cell)) (t : Taking Cell) (next : List Cell) → then_take first second ≡ Ok t
-    → ((middle some : List Cell) → second middle ≡ Ok (some, t.1) → (all : List Cell) × (third middle ≡ Ok (all, next))) → (all : List Cell) × (then_take first third ≡ Ok (all, next))
-then_on (Err n) second third t next e h = absurd (cc)
-then_on (Ok u) second third t next e h = go (second u.1) refl e
-  where
-    go : (r : Tested (Taking Cell)) → second u.1 ≡ r → (r >>= (λ b. Ok (u.0 ++ b.0, b.1))) ≡ Ok t → (all : List Cell) × (then_take (Ok u) third ≡ Ok (all, next))
-    go (Err n) f k = absurd (cc)
-    go (Ok v) f k =
-        let same : t ≡ (u.0 ++ v.0, v.1) = cc in
-        let rest = h u.1 v.0 (f ∙ ap (λ x. Ok (v.0, x)) (sym (ap (λ x. x.1) same))) in (u.0 ++ rest.0, rw rest.1 refl)
 
 taken_more : (s : SpecSetting) (g : Cells) (ops : List Operand) (i : ℕ) (d : Operand) (stack : List Cell) (t : Taking Cell) (next more : List Cell) → i < length ops → take_cells s g (take i ops) stack ≡ Ok t
     → take_cell s g (get_or ops i d) t.1 ≡ Ok (more, next) → (all : List Cell) × (take_cells s g (take (suc i) ops) stack ≡ Ok (all, next))
@@ -81,8 +59,10 @@ taken_more s g (o ∷ os) zero d stack t next more h before one =
     let same : t ≡ ([], stack) = cc in
     let below : t.1 ≡ stack = ap (λ x. x.1) same in (more ++ [], rw (rw below at one) refl)
 taken_more s g (o ∷ os) (suc i) d stack t next more h before one =
-    then_on (take_cell s g o stack) (take_cells s g (take i os)) (take_cells s g (take (suc i) os)) t next before
-    (λ middle some rest. taken_more s g os i d middle (some, t.1) next more (omega (arith, h)) rest one)
+    let (u, v, f, g_rest, is, left) = then_take_parts (take_cell s g o stack) (take_cells s g (take i os)) t before in
+    let below = subst (λ cells. take_cell s g (get_or os i d) cells ≡ Ok (more, next)) left one in
+    let (all, rest) = taken_more s g os i d u.1 v next more (omega (arith, h)) g_rest below in
+    (u.0 ++ all, ap (λ r. then_take r (take_cells s g (take (suc i) os))) f ∙ ap (λ r. r >>= (λ b. Ok (u.0 ++ b.0, b.1))) rest)
 
 pub taken_next : (s : SpecSetting) (g : Cells) (ops : List Operand) (i : ℕ) (d : Operand) (stack : List Cell) (taken after : ℕ) → i < length ops → TakesTo stack taken (take_cells s g (take i ops) stack)
     → TakesTo stack after (take_cell s g (get_or ops i d) (drop taken stack)) → TakesTo stack after (take_cells s g (take (i + 1) ops) stack)
@@ -106,12 +86,6 @@ code_told takes setting point state left i c w e found means is told = λ code r
     let same : effect_of code ≡ w = ap effect_of (first_code i c code rest found bytes) ∙ means in
     let takes_it : (r : Role) (n : ℕ) → takes r n → IsRoleIn S a (effect_of code) r n = λ r n h. let P : Meaning → Type 0 = λ v. IsRoleIn S a v r n in subst P (sym same) (is r n h) in
     for_failed e _ _ (λ f h. tells_as takes (IsRoleIn S a (effect_of code)) S (frames_of point) point.offset a left f takes_it h) told
-
-pub code_answer_told : {A : Type 0} (r : Result A StepFault) (takes : Roles) (setting : Setting) (point : Point) (state : State) (left : ℕ) (i : Instruction) (c : ℕ) (w : Meaning) → code_of i ≡ Some c
-    → effect_of c ≡ w → ((r : Role) (n : ℕ) → takes r n → IsRoleIn (setting_of setting) (abstract_of state) w r n) → IfErr r (TellsOf takes setting point state left)
-    → IfErr r (TellsOfBytes setting point i state left)
-code_answer_told (Ok x) takes setting point state left i c w found means is told = tt
-code_answer_told (Err e) takes setting point state left i c w found means is told = code_told takes setting point state left i c w e found means is told
 
 -- the same at the instruction's place
 pub there_told : (setting : Setting) (point : Point) (state : State) (left : ℕ) (i : Instruction) (c : ℕ) (e : StepFault) → code_of i ≡ Some c → point_instruction setting point ≡ Some i

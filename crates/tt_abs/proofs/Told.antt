@@ -2,6 +2,7 @@
 use Rattle.std.specs.Prelude.{Result, IfErr, ℤ}
 use Rattle.std.specs.Result.{IsErrAnd}
 use Rattle.std.proofs.Common.{◌≡◌, ◌∙◌, ◌<◌, ℕ, List, ◌∷◌, Ok, Err, Some, ap, arith, drop, length, refl, subst, sym}
+use Rattle.std.proofs.lemmas.Result.{IfErr-weaker}
 use Rattle.tt_code.specs.Computing.{element}
 use Rattle.tt_code.specs.declared.reason.Reason.TheVariants as reason
 use Rattle.tt_abs.specs.declared.cells.Cell.TheVariants as cell
@@ -20,15 +21,11 @@ use Rattle.tt_abs.specs.declared.step_fault.StepFault.{StepFault}
 use Rattle.tt_abs.specs.declared.step_fault.StepFault.TheVariants.{Refused, OutOfMemory}
 use Rattle.tt_abs.specs.Cells.{Abstract, Cells}
 use Rattle.tt_abs.specs.Failures.{IsOnTop, Roles, TellsWith, reason_of, role_in_operand}
-use Rattle.tt_abs.specs.Moves.{ForFailed}
+use Rattle.tt_abs.specs.Moves.{ForFailed, TellsOf}
 use Rattle.tt_abs.specs.Settings.{frames_of, setting_of}
 use Rattle.tt_abs.specs.States.{abstract_of}
-use Rattle.tt_abs.specs.Representation.Steps.{IsRoleOfLine, TellsOf, TellsOfLine}
+use Rattle.tt_abs.specs.Representation.Steps.{IsRoleOfLine, TellsOfLine}
 use Rattle.tt_abs.specs.Representation.Taken.{IsNoRole, IsRole, IsRoleFrom, TellsOfGraphics, TellsOfGraphicsIn, TellsOfOperands, TellsOfStack, TellsOfStackAs, TellsOfStackIn}
-
-pub wider : {A : Type 0} (r : Result A Failed) (P Q : Failed → Type 0) → ((f : Failed) → P f → Q f) → IfErr r P → IfErr r Q
-wider (Ok x) P Q h told = tt
-wider (Err f) P Q h told = h f told
 
 pub for_failed : (e : StepFault) (P Q : Failed → Type 0) → ((f : Failed) → P f → Q f) → ForFailed e P → ForFailed e Q
 for_failed (Refused f) P Q h told = h f told
@@ -133,15 +130,15 @@ stack_step_told takes other setting point state r f left is h =
 
 pub answer_as : {A : Type 0} (r : Result A StepFault) (takes other : Roles) (setting : Setting) (point : Point) (state : State) (left : ℕ) → ((q : Role) (n : ℕ) → takes q n → other q n)
     → IfErr r (TellsOf takes setting point state left) → IfErr r (TellsOf other setting point state left)
-answer_as (Ok x) takes other setting point state left is told = tt
-answer_as (Err e) takes other setting point state left is told =
-    for_failed e _ _ (λ f h. tells_as takes other (setting_of setting) (frames_of point) point.offset (abstract_of state) left f is h) told
+answer_as r takes other setting point state left is =
+    IfErr-weaker r (TellsOf takes setting point state left) (TellsOf other setting point state left)
+    (λ e. for_failed e _ _ (λ f. tells_as takes other (setting_of setting) (frames_of point) point.offset (abstract_of state) left f is))
 
 pub stack_answer_as : {A : Type 0} (r : Result A StepFault) (takes other : Roles) (stack : List Cell) → ((q : Role) (n : ℕ) → takes q n → other q n)
     → IfErr r (λ e. ForFailed e (TellsOfStackAs takes stack)) → IfErr r (λ e. ForFailed e (TellsOfStackAs other stack))
-stack_answer_as (Ok x) takes other stack is told = tt
-stack_answer_as (Err e) takes other stack is told =
-    for_failed e _ _ (λ f h s fs at a left. tells_as takes other s fs at (record a { stack = stack }) left f is (h s fs at a left)) told
+stack_answer_as r takes other stack is =
+    IfErr-weaker r (λ e. ForFailed e (TellsOfStackAs takes stack)) (λ e. ForFailed e (TellsOfStackAs other stack))
+    (λ e. for_failed e _ _ (λ f h s fs at a left. tells_as takes other s fs at (record a { stack = stack }) left f is (h s fs at a left)))
 
 -- the same where it is passed on
 pub stack_fault_told : (takes : Roles) (setting : Setting) (point : Point) (state : State) (e : StepFault) (left : ℕ) → ForFailed e (TellsOfStackAs takes state.stack) → TellsOf takes setting point state left e

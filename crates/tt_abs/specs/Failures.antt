@@ -144,6 +144,10 @@ role_in_shuffle CopyIndexed zero = Some role.StackIndex
 role_in_shuffle MoveIndexed zero = Some role.StackIndex
 role_in_shuffle _ _ = None
 
+-- a stack instruction takes the element under so many others as this
+abbrev pub IsRoleOfShuffle : StackOp → Roles
+IsRoleOfShuffle operation r under = role_in_shuffle operation under ≡ Some r
+
 -- what a control instruction takes an element as
 abbrev pub role_in_control : Control → ℕ → Option Role
 role_in_control Jump zero = Some role.Distance
@@ -155,12 +159,16 @@ role_in_control LoopCall (suc zero) = Some role.Turns
 role_in_control FunctionDefinition zero = Some role.Function
 role_in_control _ _ = None
 
+-- a control instruction takes the element under so many others as this
+abbrev pub IsRoleOfControl : Control → Roles
+IsRoleOfControl operation r under = role_in_control operation under ≡ Some r
+
 -- an instruction of this effect takes the element as this
 abbrev pub IsRoleIn : Setting → Abstract → Meaning → Roles
 IsRoleIn s a (Plain line) r under =
     IsRoleInLine s a.registers.graphics a.stack line.operands r under
-IsRoleIn s a (Stack operation) r under = role_in_shuffle operation under ≡ Some r
-IsRoleIn s a (Controls operation) r under = role_in_control operation under ≡ Some r
+IsRoleIn s a (Stack operation) r under = IsRoleOfShuffle operation r under
+IsRoleIn s a (Controls operation) r under = IsRoleOfControl operation r under
 IsRoleIn s a _ r under = ⊥
 
 -- the instruction at the place takes the element as this

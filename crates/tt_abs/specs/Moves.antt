@@ -19,7 +19,7 @@ use Rattle.tt_abs.specs.declared.setting.Point.{Point}
 use Rattle.tt_abs.specs.declared.state.State.{State}
 use Rattle.tt_abs.specs.Cells.{Abstract}
 use Rattle.tt_abs.specs.Covers.{Gives, IsRefused}
-use Rattle.tt_abs.specs.Failures.{Tells, reason_of}
+use Rattle.tt_abs.specs.Failures.{IsRoleAt, Roles, TellsWith, reason_of}
 use Rattle.tt_abs.specs.Settings.{setting_of, frames_of}
 use Rattle.tt_abs.specs.States.{abstract_of}
 use Rattle.tt_abs.specs.Transfers.{Next, controlled_cells, instruction_of, outcome_on_cells}
@@ -104,10 +104,17 @@ StepsTo setting point old new moves = LeadsBy point (outcome_at setting point ol
 abbrev pub IsStepRefusedFor : Setting → Point → State → StepFault → Type 0
 IsStepRefusedFor setting point old e = IsRefusedFor (outcome_at setting point old) e
 
--- what is told of the test that fails there is so; the instruction leaves a stack of this depth
+-- what is told of the test that fails there is so, where the instruction takes its elements as is
+-- said and leaves a stack of this depth
+abbrev pub TellsOf : Roles → Setting → Point → State → ℕ → StepFault → Type 0
+TellsOf takes setting point old left e = ForFailed e
+    (TellsWith takes (setting_of setting) (frames_of point) point.offset (abstract_of old) left)
+
+-- the same, by what the instruction at the point takes its elements as
 abbrev pub TellsWhatFails : Setting → Point → State → ℕ → StepFault → Type 0
-TellsWhatFails setting point old left e = ForFailed e
-    (Tells (setting_of setting) (frames_of point) point.offset (abstract_of old) left)
+TellsWhatFails setting point old =
+    TellsOf (IsRoleAt (setting_of setting) (frames_of point) point.offset (abstract_of old))
+    setting point old
 
 -- a control instruction at the point turns the old state into the new one and leads by these moves
 abbrev pub ControlsTo : Setting → Point → Control → State → State → Moves → Type 0

@@ -4,7 +4,7 @@ ghost use Rattle.std.specs.Prelude.{◌≡◌, ◌↔◌, IsTrue};
 ghost use Rattle.tt_abs.specs.Orders.{IsLeastAbove};
 ghost use Rattle.tt_abs.specs.CellOrders.{cell_order, zone_order};
 
-use crate::order::{AbsFault, Order};
+use crate::order::{DepthMismatch, Order};
 use std::alloc::Global;
 use std::default::MadeWith;
 
@@ -63,7 +63,7 @@ impl Order for Cell {
         }
     }
 
-    fn join(&mut self, other: &Cell) -> Result<bool, AbsFault> {
+    fn join(&mut self, other: &Cell) -> Result<bool, DepthMismatch> {
         let changed = !other.below(self);
         if changed {
             *self = Cell::Unknown;
@@ -104,7 +104,7 @@ impl Order for ZoneCell {
         (*self == *other) | (*other == ZoneCell::Either)
     }
 
-    fn join(&mut self, other: &ZoneCell) -> Result<bool, AbsFault> {
+    fn join(&mut self, other: &ZoneCell) -> Result<bool, DepthMismatch> {
         let changed = !other.below(self);
         if changed {
             *self = ZoneCell::Either;

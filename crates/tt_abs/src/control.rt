@@ -8,9 +8,9 @@ ghost use Rattle.tt_code.specs.declared.reason.Reason.TheVariants as reason;
 ghost use Rattle.tt_abs.specs.declared.cells.Cell.TheVariants.{Known};
 ghost use Rattle.tt_abs.specs.declared.failed.Failed.TheVariants.{Only, TooDeep};
 ghost use Rattle.tt_abs.specs.declared.failed.Role.TheVariants as roles;
-ghost use Rattle.tt_abs.specs.Failures.{reason_of};
-ghost use Rattle.tt_abs.specs.Moves.{ControlsTo, IsControlRefusedFor, IsRefusedFor, LeadsBy};
-ghost use Rattle.tt_abs.specs.Representation.Steps.{IsRoleOfControl, JumpsNowhere, JumpsTo, Leads, LeadsNowhere, TellsOf, TellsOfCall, TellsOfEntry, TellsOfJump, called_at, enter_at, if_at, jump_at, jump_if_at, loop_at};
+ghost use Rattle.tt_abs.specs.Failures.{IsRoleOfControl, reason_of};
+ghost use Rattle.tt_abs.specs.Moves.{ControlsTo, IsControlRefusedFor, IsRefusedFor, LeadsBy, TellsOf};
+ghost use Rattle.tt_abs.specs.Representation.Steps.{JumpsNowhere, JumpsTo, Leads, LeadsNowhere, TellsOfCall, TellsOfEntry, TellsOfJump, called_at, enter_at, if_at, jump_at, jump_if_at, loop_at};
 ghost use Rattle.tt_abs.specs.Representation.Taken.{IsRole};
 ghost use Rattle.tt_abs.specs.Transfers.{is_running as runs_already};
 

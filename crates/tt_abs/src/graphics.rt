@@ -5,7 +5,7 @@ ghost use Rattle.tt_abs.specs.Orders.{IsLeastAbove};
 ghost use Rattle.tt_abs.specs.GraphicsOrders.{graphics_order};
 
 use crate::cells::{Cell, ZoneCell};
-use crate::order::{AbsFault, Order};
+use crate::order::{DepthMismatch, Order};
 use tt_code::Graphics;
 
 /// Whether the two graphics states are the same, part by part.
@@ -54,7 +54,7 @@ impl Order for Graphics<Cell, ZoneCell> {
             && self.loop_number.below(&other.loop_number)
     }
 
-    fn join(&mut self, other: &Graphics<Cell, ZoneCell>) -> Result<bool, AbsFault> {
+    fn join(&mut self, other: &Graphics<Cell, ZoneCell>) -> Result<bool, DepthMismatch> {
         let changed = !other.below(self);
         *self = joined_graphics(self, other);
         Ok(changed)

@@ -34,7 +34,7 @@ pub use exhausted::Exhausted;
 pub use failed::{Failed, Register, Role};
 pub use instruction::{Stepped, step, step_at};
 pub use moves::{Move, Moves};
-pub use order::{AbsFault, Order};
+pub use order::{DepthMismatch, DepthMismatch as AbsFault, Order};
 pub use refusal::Refusal;
 pub use setting::{Kind, Point, Setting};
 pub use sorted_map::{EntryValue, SortedMap};

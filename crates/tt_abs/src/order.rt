@@ -5,13 +5,10 @@ ghost use Rattle.tt_abs.specs.Orders.{Order as OrderOf, IsLeastAbove, OrderLaws}
 
 use thiserror::Error;
 
-/// Why two abstract values have no join.
+/// Two abstract values have no join, since their stacks differ in depth.
 #[derive(Clone, Copy, Debug, PartialEq, Eq, Error)]
-pub enum AbsFault {
-    /// The two stacks differ in depth.
-    #[error("depth mismatch")]
-    DepthMismatch,
-}
+#[error("depth mismatch")]
+pub struct DepthMismatch;
 
 /// Values that stand for sets of machine values: one is below another if the other covers all that
 /// the one covers. Neither `below` nor `join` takes memory.
@@ -28,7 +25,7 @@ pub trait Order {
     ///
     /// # Errors
     /// `DepthMismatch` exactly if the two differ in depth; then this value stays as it is.
-    fn join(&mut self, other: &Self) -> Result<bool, AbsFault>
+    fn join(&mut self, other: &Self) -> Result<bool, DepthMismatch>
         requires mine { order.InRange self.old }
         requires theirs { order.InRange other.now }
         ensures least { IfOk result (λ _. IsLeastAbove order self.old other.now self.new) }

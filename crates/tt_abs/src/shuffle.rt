@@ -3,10 +3,10 @@
 ghost use Rattle.std.specs.Prelude.{◌≡◌, ◌+◌, ◌∷◌, [], Err, IfErr, IfOk, List, OnOk, drop, length, pos, suc};
 ghost use Rattle.tt_code.specs.Computing.{element};
 ghost use Rattle.tt_code.specs.declared.kinds.StackOp.TheVariants as op;
-ghost use Rattle.tt_abs.specs.Failures.{reason_of};
+ghost use Rattle.tt_abs.specs.Failures.{IsRoleOfShuffle, reason_of};
 ghost use Rattle.tt_abs.specs.Moves.{ForFailed};
 ghost use Rattle.tt_abs.specs.Representation.Taken.{IsRole, TellsOfStack, TellsOfStackAs};
-ghost use Rattle.tt_abs.specs.Representation.Steps.{IsNamedCell, IsRoleOfShuffle, IsStackRefusedFor, NamesNoCell, Restacks};
+ghost use Rattle.tt_abs.specs.Representation.Steps.{IsNamedCell, IsStackRefusedFor, NamesNoCell, Restacks};
 ghost use Rattle.tt_abs.specs.Transfers.{shuffled_cells};
 ghost use Rattle.tt_abs.specs.declared.cells.Cell.{Cell as AnyCell};
 ghost use Rattle.tt_abs.specs.declared.failed.Failed.TheVariants as failed;

@@ -9,7 +9,7 @@ ghost use Rattle.tt_abs.specs.Orders.{IsLeastAbove};
 ghost use Rattle.tt_abs.specs.Entries.{Ascends, listed, with_entry, without_entry};
 ghost use Rattle.tt_abs.specs.EntryLists.{IsEquality, IsAt, IsGap, EntriesBelow, EntriesInRange, entry_order, after_entry, entries_from, begins_with_entry, common_entries};
 
-use crate::order::{AbsFault, Order};
+use crate::order::{DepthMismatch, Order};
 use std::alloc::{AllocError, Global};
 use std::marker::Model;
 
@@ -374,7 +374,7 @@ impl<T: EntryValue> Order for SortedMap<T> {
         lists_all(self.entries.as_slice(), other.entries.as_slice())
     }
 
-    fn join(&mut self, other: &SortedMap<T>) -> Result<bool, AbsFault> {
+    fn join(&mut self, other: &SortedMap<T>) -> Result<bool, DepthMismatch> {
         let changed = !other.below(self);
         if changed {
             self.keep(other);

@@ -15,7 +15,7 @@ use crate::cell_codes::{
     code_of, join_codes, joined,
 };
 use crate::cells::Cell;
-use crate::order::{AbsFault, Order};
+use crate::order::{DepthMismatch, Order};
 use smallvec::SmallVec;
 use std::alloc::{AllocError, Global};
 use std::marker::Model;
@@ -487,9 +487,9 @@ impl Order for Stack {
         self.len() == other.len() && (self.has_same_parts(other) || self.partners_below(other))
     }
 
-    fn join(&mut self, other: &Stack) -> Result<bool, AbsFault> {
+    fn join(&mut self, other: &Stack) -> Result<bool, DepthMismatch> {
         if self.len() != other.len() {
-            return Err(AbsFault::DepthMismatch);
+            return Err(DepthMismatch);
         }
         let changed = !other.below(self);
         if changed {

@@ -2,7 +2,7 @@
 
 use crate::cells::{Cell, ZoneCell};
 use crate::graphics::{is_same_graphics, joined_graphics};
-use crate::order::{AbsFault, Order};
+use crate::order::{DepthMismatch, Order};
 use crate::registers::{self, pointer_with_number, reference_with_number};
 use crate::sorted_map::SortedMap;
 use crate::stack::Stack;
@@ -368,9 +368,9 @@ impl Order for State {
             && self.storage.below(&other.storage)
     }
 
-    fn join(&mut self, other: &State) -> Result<bool, AbsFault> {
+    fn join(&mut self, other: &State) -> Result<bool, DepthMismatch> {
         if self.stack.len() != other.stack.len() {
-            return Err(AbsFault::DepthMismatch);
+            return Err(DepthMismatch);
         }
         if other.below(self) {
             return Ok(false);

@@ -12,18 +12,6 @@ use Rattle.tt_cert.specs.Representation.KeptTexts.{AreCellsKept, AreWithin, Keep
 use Rattle.tt_cert.specs.Text.{cell_text}
 use Rattle.tt_cert.proofs.Blocks.{suffix_fits}
 
--- no cells have no text
-pub none_kept : (text ends : List ℕ) → text ≡ [] → ends ≡ [] → AreCellsKept text ends []
-none_kept text ends text_is ends_is = record {
-  text_is = text_is;
-  long = ap length ends_is;
-  end_is = none;
-}
-  where
-    none : (k : ℕ) → k ≤ 0 → end_of ends k ≡ length (flat_map cell_text (take k []))
-    none zero le = refl
-    none (suc k) le = absurd (omega arith)
-
 -- the text of the lowest cells, and that of the others
 parts : (cells : List Cell) (k : ℕ) → flat_map cell_text cells ≡ flat_map cell_text (take k cells) ++ flat_map cell_text (drop k cells)
 parts cells k = ap (flat_map cell_text) (sym (take-append-drop k cells)) ∙ flat_map-append cell_text (take k cells) (drop k cells)

@@ -1,5 +1,5 @@
 -- Texts of values that are put one after another.
-use Rattle.std.proofs.Common.{◌≡◌, ℕ, ℤ, ◌+◌, ◌^◌, ◌<◌, ◌≤◌, List, [], ◌∷◌, ◌++◌, length, take, Option, None, Some, Ok, Err, sym, ap, subst, ◌∙◌, append_assoc, append-nil, take_all}
+use Rattle.std.proofs.Common.{◌≡◌, ℕ, ℤ, ◌+◌, ◌^◌, ◌<◌, List, [], ◌∷◌, ◌++◌, length, take, Option, None, Some, Ok, Err, sym, ap, subst, ◌∙◌, append_assoc, append-nil}
 use Rattle.std.specs.Prelude.{FitsSigned, IfSome, IsSomeAnd, OnOk, Result, slice_get, slice_index_or}
 use Rattle.std.specs.Int.{w32}
 use Rattle.std.specs.List.{AllByRecursion, flat_map}
@@ -33,10 +33,6 @@ pub next_written : {A : Type 0} (spell : A → List ℕ) (old head now new : Lis
 next_written {A} spell old head now new xs k x at before one =
     one_written spell old head now new (take k xs) x before one ∙ ap (λ (l : List A). old ++ (head ++ flat_map spell l)) (sym (taken_more xs k x at))
 
-pub all_written : {A : Type 0} (spell : A → List ℕ) (old head now : List ℕ) (xs : List A) (k : ℕ) → length xs ≤ k → AreWritten spell old head (take k xs) now
-    → AreWritten spell old head xs now
-all_written {A} spell old head now xs k le before = before ∙ ap (λ (l : List A). old ++ (head ++ flat_map spell l)) (take_all k xs le)
-
 -- at a default
 pub at_default : {A : Type 0} (xs : List A) (k : ℕ) (d : A) → k < length xs → slice_get xs k ≡ Some (slice_index_or xs k d)
 at_default xs k d lt = slice_get-get_or xs k d lt
@@ -53,9 +49,6 @@ all_more P (y ∷ ys) x all one = (all.0, all_more P ys x all.1 one)
 
 pub all_next : {A : Type 0} (P : A → Type 0) (xs : List A) (k : ℕ) (x : A) → slice_get xs k ≡ Some x → AllByRecursion P (take k xs) → P x → AllByRecursion P (take (k + 1) xs)
 all_next {A} P xs k x at all one = subst (λ (l : List A). AllByRecursion P l) (sym (taken_more xs k x at)) (all_more P (take k xs) x all one)
-
-pub all_taken : {A : Type 0} (P : A → Type 0) (xs : List A) (k : ℕ) → length xs ≤ k → AllByRecursion P (take k xs) → AllByRecursion P xs
-all_taken {A} P xs k le all = subst (λ (l : List A). AllByRecursion P l) (take_all k xs le) all
 
 -- the text of functions that another one has too
 pub known_text : {X : Type 0} (before : Option X) (f : X → List (ℕ × ℕ)) (text : List ℕ) (functions : List (ℕ × ℕ)) → IfSome before (λ s. IsTextOf text (f s))

@@ -24,9 +24,6 @@ use Rattle.tt_cert.specs.Text.{cell_text, context_text, counted, graphics_text, 
 use Rattle.tt_cert.proofs.Codecs.{IsCodec, Takes, and_then_codec, bind_ok, codec_of, counted_codec, given_ok, here, made_of_codec, ok_is, ruled_codec}
 use Rattle.tt_cert.proofs.Fields.{PairFits, both, chosen, none_same, some_same, cell_codec, long_codec, name_codec, pair_codec, signed_back, word_codec, zone_codec}
 
-any : {A : Type 0} → A → Type 0
-any x = Unit {0}
-
 -- contexts
 
 AreNumbers : Numbers → Type 0

@@ -206,13 +206,6 @@ begins_more bytes rest is n b p = record {
   each = all_more is (take n rest) b.each p;
 }
 
--- where nothing is left, it is a cut
-pub begun_whole : (bytes rest : List ℕ) (is : List Instruction) → BeginsWith bytes is rest → rest ≡ [] → IsCut bytes is
-begun_whole bytes rest is b e = record {
-  joined = sym (append-nil (concat is)) ∙ ap (λ r. concat is ++ r) (sym e) ∙ b.joined;
-  each = b.each;
-}
-
 -- a cut and its lengths make a program
 pub kept_cut : (bytes ls : List ℕ) (is : List Instruction) → IsCut bytes is → laid is ≡ ls → length bytes < 2 ^ 31 → IsLaid ls bytes × (pieces ls bytes ≡ is)
 kept_cut bytes ls is cut e h =

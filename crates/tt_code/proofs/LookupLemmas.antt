@@ -1,6 +1,5 @@
 -- What the slots of a whole program say.
 use Rattle.std.proofs.Common.{◌≡◌, ◌⊎◌, inl, inr, ℕ, List, [], ◌∷◌, ◌++◌, length, refl, sym, ◌∙◌, ap, arith, subst, Option, Some, None, false, zero-add}
-use Rattle.std.specs.Option.{IfSome, IfNone}
 use Rattle.std.specs.List.{AllByRecursion}
 use Rattle.tt_code.specs.declared.block_keyword.BlockKeyword.{BlockKeyword}
 use Rattle.tt_code.specs.declared.block_keyword.BlockKeyword.TheVariants.{If, Else, Eif, Fdef, Idef, Endf, Other}
@@ -126,16 +125,3 @@ goes_only is in_body goes k t w each table g =
     let r = goes_there is in_body goes k g.i table (goes_stands w is k t g) (subst Opens (sym g.opens) (ends_opens w (keyword g.e) g.ends)) in
     let h = table.target_right k r.0 r.1 in
     r.1 ∙ ap Some (goes_same is h.0 w k r.0 t each h.1 g)
-
--- what a target that was looked up says
-pub target_found_is : (is : List Instruction) (in_body : List (Option Body)) (goes : List (Option ℕ)) (k : ℕ) (i : Instruction) (w : BlockKeyword) (r : Option ℕ) → AllByRecursion IsInstruction is →
-    IsTable is [] in_body goes → IsInstructionAt is k i → keyword i ≡ w → r ≡ target_found goes k → IfSome r (GoesTo w is k)
-target_found_is is in_body goes k i w None each table stands same e = tt
-target_found_is is in_body goes k i w (Some t) each table stands same e = subst (λ w. GoesTo w is k t) same (goes_found is in_body goes k t i each table stands (sym e))
-
-pub target_none_is : (is : List Instruction) (in_body : List (Option Body)) (goes : List (Option ℕ)) (k : ℕ) (w : BlockKeyword) (r : Option ℕ) → IsTable is [] in_body goes → Opens w →
-    r ≡ target_found goes k → IfNone r ((i : Instruction) → IsInstructionAt is k i → keyword i ≡ w → ⊥)
-target_none_is is in_body goes k w None table o e = λ i stands same.
-    let t = goes_there is in_body goes k i table stands (subst Opens (sym same) o) in
-    let wrong : None ≡ Some t.0 = e ∙ t.1 in cc
-target_none_is is in_body goes k w (Some t) table o e = tt

@@ -1,6 +1,5 @@
 -- From what was read to what the program is.
-use Rattle.std.proofs.Common.{◌≡◌, ◌⊎◌, inl, inr, ℕ, zero, suc, ◌+◌, ◌-◌, ◌<◌, ◌^◌, List, [], ◌∷◌, ◌++◌, length, refl, sym, ◌∙◌, ap, arith, append_assoc, subst, reverse, false, get_or}
-use Rattle.std.specs.Bool.{◌==◌}
+use Rattle.std.proofs.Common.{◌≡◌, ◌⊎◌, inl, inr, ℕ, ◌+◌, ◌-◌, ◌<◌, ◌^◌, List, [], ◌∷◌, ◌++◌, length, refl, sym, ◌∙◌, ap, arith, append_assoc, subst, reverse, get_or}
 use Rattle.std.specs.List.{AllByRecursion, concat}
 use Rattle.std.proofs.lemmas.List.{length-append, length-reverse}
 use Rattle.tt_code.specs.declared.nest.Open.{Open}
@@ -53,10 +52,6 @@ no_fault bytes is js k c d l (inl f) =
     let each : AllByRecursion IsInstruction (f.before ++ (f.i ∷ f.after)) = subst (λ x. AllByRecursion IsInstruction x) f.whole c.each in
     f.cannot (f.after, all_after f.before f.after f.i each, subst IsStructured (f.whole ∙ sym (append_assoc f.before (f.i ∷ []) f.after)) ok)
 no_fault bytes is js k c d l (inr f) = f.cannot (subst IsStructured (one_cut bytes js is d c) l)
-
-pub is_pos : (n : ℕ) → (n == 0) ≡ false → 0 < n
-is_pos zero h = cc
-is_pos (suc n) h = omega arith
 
 -- something is open, so there is an innermost one
 innermost : (stack : List Open) → 0 < length stack → (o : Open) × (s : List Open) × (reverse stack ≡ o ∷ s)

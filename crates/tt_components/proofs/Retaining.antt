@@ -3,8 +3,8 @@ use Rattle.std.proofs.Common.{◌≡◌, ◌≢◌, ◌↔◌, ℕ, zero, suc, �
 use mathlib.Core.Bool.{beq}
 use Rattle.std.specs.Prelude.{◌&&◌, ◌||◌, slice_index}
 use Rattle.std.specs.List.{list_all}
-use Rattle.std.proofs.lemmas.Bool.{cases_eq, cases_lt}
-use Rattle.std.proofs.lemmas.List.{get_or-set_same, get_or-set_other, set-get_or, length-set, get_or_past}
+use Rattle.std.proofs.lemmas.Bool.{cases_eq}
+use Rattle.std.proofs.lemmas.List.{get_or-set_same, get_or-set_other, set-get_or, length-set}
 use Rattle.tt_font.specs.Chains.{end_of, part_of}
 use Rattle.tt_font.specs.FileFaults.{font_fault}
 use Rattle.tt_font.specs.Files.{font_outlines}
@@ -12,7 +12,7 @@ use Rattle.tt_font.specs.Laws.{IsWay}
 use Rattle.tt_font.specs.Outlines.{Outline, parts}
 use Rattle.tt_components.specs.Closed.{HasAllReached, is_in}
 use Rattle.tt_components.specs.Representation.Retained.{ReachesOutside, TakesOut}
-use Rattle.tt_components.proofs.Chains.{at_most_16, reached_on, reaches_itself, reaches_part}
+use Rattle.tt_components.proofs.Chains.{at_most_16, reached_on, reaches_part}
 
 -- ---- one step over all glyphs
 
@@ -22,14 +22,6 @@ pub record IsTaken (outlines : ℕ → Outline) (before : List Bool) (n : ℕ) (
   pub stays : (id : ℕ) → is_in set id ≡ true → is_in before id ≡ true
   pub parts_stay : (id i : ℕ) → id < n → is_in set id ≡ true → i < length (parts (outlines id)) → is_in before (part_of outlines id i) ≡ true
   pub cause : (id : ℕ) → is_in set id ≡ false → ReachesOutside outlines before id
-
-pub none_taken : (outlines : ℕ → Outline) (before : List Bool) → IsTaken outlines before 0 before
-none_taken outlines before = record {
-  len = refl;
-  stays = λ id e. e;
-  parts_stay = λ id i lt. absurd (omega arith);
-  cause = λ id e. record { other = id; reached = reaches_itself outlines id; outside = e };
-}
 
 -- where a list passes a test, each element does; where it doesn't, some element doesn't
 each_passes : (test : ℕ → Bool) (xs : List ℕ) (i : ℕ) → list_all test xs ≡ true → i < length xs → test (slice_index xs i) ≡ true
@@ -129,18 +121,6 @@ still_same before set n false true false e h same = cc
 still_same before set n false false true e h same = cc
 still_same before set n false false false e h same = stays_same before set n false e (same refl)
 
--- all glyphs have been looked at
-pub all_taken : (outlines : ℕ → Outline) (before set : List Bool) (n : ℕ) → length before ≤ n → IsTaken outlines before n set → TakesOut outlines before set
-all_taken outlines before set n all taken = record {
-  len = taken.len;
-  stays = taken.stays;
-  parts_stay = λ id i e part. elim (cases_lt id n) [
-    | inl inside ↦ taken.parts_stay id i inside e part
-    | inr past ↦ (let len = taken.len in let no : is_in set id ≡ false = get_or_past set id false (omega arith) in absurd (cc))
-  ];
-  cause = taken.cause;
-}
-
 -- ---- all steps
 
 -- the set, once k steps have been made
@@ -148,17 +128,6 @@ pub record IsRetained (outlines : ℕ → Outline) (before : List Bool) (k : ℕ
   pub len : length set ≡ length before
   pub ends_stay : (id : ℕ) (way : List ℕ) → is_in set id ≡ true → IsWay outlines id way → length way ≤ k → is_in before (end_of outlines id way) ≡ true
   pub cause : (id : ℕ) → is_in set id ≡ false → ReachesOutside outlines before id
-
-pub no_step : (outlines : ℕ → Outline) (before : List Bool) → IsRetained outlines before 0 before
-no_step outlines before = record {
-  len = refl;
-  ends_stay = no_ends;
-  cause = λ id e. record { other = id; reached = reaches_itself outlines id; outside = e };
-}
-  where
-    no_ends : (id : ℕ) (way : List ℕ) → is_in before id ≡ true → IsWay outlines id way → length way ≤ 0 → is_in before (end_of outlines id way) ≡ true
-    no_ends id [] e steps le = e
-    no_ends id (i ∷ way) e steps le = absurd (omega arith)
 
 pub step_more : (outlines : ℕ → Outline) (before set after : List Bool) (k : ℕ) → IsRetained outlines before k set → TakesOut outlines set after → IsRetained outlines before (k + 1) after
 step_more outlines before set after k retained taken = record {

@@ -6,6 +6,7 @@ use Rattle.std.specs.Option.{option_map}
 use Rattle.std.proofs.lemmas.Bool.{cases_lt}
 use Rattle.std.proofs.lemmas.List.{reverse-reverse}
 use Rattle.std.proofs.lemmas.Option.{slice_get-map}
+use Rattle.std.proofs.lemmas.Result.{IfErr-weaker, IfOk-weaker}
 use Rattle.tt_code.specs.Settings.{Setting, is_main_end}
 use Rattle.tt_code.specs.declared.machine.Frame.{Frame}
 use Rattle.tt_code.specs.declared.reason.Reason.{Reason}
@@ -35,14 +36,6 @@ use Rattle.tt_abs.specs.declared.refusal.Refusal.{Refusal}
 use Rattle.tt_abs.specs.declared.refusal.Refusal.TheVariants.{Refused, Exhausted}
 use Rattle.tt_family.specs.declared.meeting.Coverage.{Coverage}
 use Rattle.tt_family.specs.declared.meeting.Coverage.TheVariants as coverage
-
-pub ok_map : {T E : Type 0} (r : Result T E) (P Q : T → Type 0) → ((x : T) → P x → Q x) → IfOk r P → IfOk r Q
-ok_map (Ok x) P Q f p = f x p
-ok_map (Err e) P Q f p = tt
-
-pub err_map : {T E : Type 0} (r : Result T E) (P Q : E → Type 0) → ((e : E) → P e → Q e) → IfErr r P → IfErr r Q
-err_map (Ok x) P Q f p = tt
-err_map (Err e) P Q f p = f e p
 
 -- How a state is met at one place.
 
@@ -80,12 +73,12 @@ module _ (family : Place → Option State) (L : Type 0) (next : Option (ℕ × �
   pub elsewhere_met : IfOk r (IsMetBy family (IsTrue false) next q t) → IfOk r (IsMetBy family L next q' t)
   elsewhere_met h =
       let A : Place → Type 0 = λ x. IfOk r (IsMetBy family L next x t) in
-      subst A same (ok_map r _ _ (met_by_same family (IsTrue false) L next q t (λ e. absurd (cc))) h)
+      subst A same (IfOk-weaker r _ _ (met_by_same family (IsTrue false) L next q t (λ e. absurd (cc))) h)
 
   pub elsewhere_gap : (L → ⊥) → IfErr r (NamesAt q (IsGap family (IsTrue false) q t)) → IfErr r (NamesAt q' (IsGap family L q' t))
   elsewhere_gap none h =
       let A : Place → Type 0 = λ x. IfErr r (NamesAt x (IsGap family L x t)) in
-      subst A same (err_map r _ _ (named_gap_same family (IsTrue false) L q t (λ may. absurd (none may))) h)
+      subst A same (IfErr-weaker r _ _ (named_gap_same family (IsTrue false) L q t (λ may. absurd (none may))) h)
 
 -- At all places that come next.
 

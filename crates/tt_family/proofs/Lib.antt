@@ -12,7 +12,6 @@ pub mod Amounts
 pub mod Queues
 pub mod FileOrders
 pub mod Renumbering
-pub mod Ranges
 pub mod Landings
 pub mod Turns
 pub mod StoredCells

@@ -4,7 +4,7 @@ use Rattle.std.specs.List.{All}
 use Rattle.std.specs.Map.{lookup}
 use Rattle.std.specs.BTreeMap.{is_at}
 use Rattle.std.specs.Ordering.{is_eq}
-use Rattle.std.proofs.Common.{refl, sym, ◌∙◌, ap, subst, arith, inl, inr, append-nil, append_assoc, length-append}
+use Rattle.std.proofs.Common.{refl, sym, ◌∙◌, ap, subst, arith, inl, inr, append_assoc, length-append}
 use Rattle.std.proofs.Math.Seq.{get_or-append_seam}
 use Rattle.std.proofs.lemmas.Option.{slice_get-get_or}
 use Rattle.std.proofs.lemmas.Cmp.{tied_itself}
@@ -192,13 +192,6 @@ HasSoFar-spare old new spare place s hit rest rest' so_far rest_is =
                 ∙ ap (λ x. cond (has_point spare key) None x) (sym (lookup_apart (is_at (place_cmp key)) done place s (places_apart key place (λ e. apart (sym e)))))
           ],
     )
-
-pub HasSoFar-end : (old new : Contents) (spare : List (ℕ × ℕ)) (rest : List ((ℕ × ℕ) × State)) → HasSoFar old new spare rest → rest ≡ []
-    → (p : List Frame × ℕ) → family_of new p ≡ family_without old spare p
-HasSoFar-end old new spare rest so_far none p =
-    let (done, split, same) = so_far in
-    let whole : old.states ≡ done = split ∙ ap (λ l. done ++ l) none ∙ append-nil done in
-    same p ∙ ap (λ l. listed_at spare l (number_of old.contexts p.0, p.1)) (sym whole)
 
 pub next_context : (old new : Contents) (contexts : List (List Frame)) (numbers : List ℕ) (spare : List (ℕ × ℕ)) (rest rest' : List ((ℕ × ℕ) × State)) (x : (ℕ × ℕ) × State) → IsFamily old
     → AreMoved old.contexts contexts numbers → HasSoFar old new spare rest → rest ≡ x ∷ rest' → IsFoundAll old → x.0.0 < length numbers

@@ -14,15 +14,6 @@ pub record AddsOn (sizes : List OutlineSize) (all rest : List ℕ) (sum : Outlin
   pub points_most : sum.points ≤ 65536
   pub contours_most : sum.contours ≤ 65536
 
-pub adds_nothing : (sizes : List OutlineSize) (all : List ℕ) → AddsOn sizes all all (record { unresolved = false; points = 0; contours = 0 })
-adds_nothing sizes all = record {
-  unresolved = refl;
-  points = let zero_first : 0 + sum_by (λ id. (size_at sizes id).points) all ≡ sum_by (λ id. (size_at sizes id).points) all = omega arith in ap (λ n. min n 65536) zero_first;
-  contours = let zero_first : 0 + sum_by (λ id. (size_at sizes id).contours) all ≡ sum_by (λ id. (size_at sizes id).contours) all = omega arith in ap (λ n. min n 65536) zero_first;
-  points_most = omega arith;
-  contours_most = omega arith;
-}
-
 or_assoc : (a b c : Bool) → ((a || b) || c) ≡ (a || (b || c))
 or_assoc true b c = refl
 or_assoc false b c = refl

@@ -1,10 +1,10 @@
 -- The programs of the glyphs, one by one.
-use Rattle.std.specs.Prelude.{◌≡◌, ℕ, ◌+◌, ◌<◌, ◌++◌, List, [], ◌∷◌, length, true, false, is_none, is_some, Option, Some, None}
-use Rattle.std.proofs.Common.{refl, sym, ◌∙◌, ap, subst, arith, inl, inr, length-append}
+use Rattle.std.specs.Prelude.{◌≡◌, ℕ, ◌+◌, ◌<◌, ◌++◌, List, [], ◌∷◌, length, is_none, Some, None}
+use Rattle.std.proofs.Common.{sym, ◌∙◌, ap, subst, arith, inl, inr, length-append}
 use Rattle.std.proofs.lemmas.List.{get_or_append_left}
 use Rattle.std.proofs.Math.Seq.{get_or-append_seam}
 use Rattle.std.proofs.lemmas.Bool.{cases_eq}
-use Rattle.tt_font.proofs.FirstBelow.{none_yet, none_more, first_is, first_none}
+use Rattle.tt_font.proofs.FirstBelow.{none_yet, none_more, first_is}
 use Rattle.tt_font.specs.Glyphs.{program_of}
 use Rattle.tt_font.specs.Conditions.{truncated_glyph}
 use Rattle.tt_font.specs.Representation.GlyphParts.{program_in, ProgramsAre}
@@ -40,11 +40,3 @@ pub first_truncated : (glyphs : ℕ → List ℕ) (id count : ℕ) → truncated
     → truncated_glyph count glyphs ≡ Some id
 unfolding truncated_glyph
 first_truncated glyphs id count none here lt = first_is (λ id. is_none (program_of (glyphs id))) id count none (ap (λ o. is_none o) here) lt
-
-whole_one : (o : Option (List ℕ)) → is_none o ≡ false → is_some o ≡ true
-whole_one None e = cc
-whole_one (Some p) e = refl
-
-pub all_whole : (glyphs : ℕ → List ℕ) (count : ℕ) → truncated_glyph count glyphs ≡ None → (id : ℕ) → id < count → is_some (program_of (glyphs id)) ≡ true
-unfolding truncated_glyph
-all_whole glyphs count none id lt = whole_one (program_of (glyphs id)) (first_none (λ id. is_none (program_of (glyphs id))) count none id lt)

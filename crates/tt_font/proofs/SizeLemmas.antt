@@ -38,22 +38,6 @@ sizes_more count outlines k n sizes pushed size are is here =
       ];
     })
 
-pub next_more : (outlines : ℕ → Outline) (sizes : List OutlineSize) (n : ℕ) (next pushed : List OutlineSize) (size : OutlineSize) → NextSizes outlines sizes n next
-    → pushed ≡ next ++ size ∷ [] → NextSize sizes (outlines n) (size_at sizes n) size → NextSizes outlines sizes (n + 1) pushed
-next_more outlines sizes n next pushed size are is here =
-    let R : List OutlineSize → Type 0 = λ x. NextSizes outlines sizes (n + 1) x in
-    subst R (sym is) (record {
-      len = let a = are.len in let b = length-append next (size ∷ []) in omega arith;
-      each = λ id lt. elim (cases_eq id n) [
-        | inl same ↦ let T : OutlineSize → Type 0 = λ x. NextSize sizes (outlines id) (size_at sizes id) x in
-            let N : ℕ → Type 0 = λ x. NextSize sizes (outlines x) (size_at sizes x) size in
-            subst T (sym (size_of_pushed next size n id are.len same)) (subst N (sym same) here)
-        | inr other ↦ let T : OutlineSize → Type 0 = λ x. NextSize sizes (outlines id) (size_at sizes id) x in
-            let a = are.len in
-            subst T (sym (size_before_pushed next size id (omega arith))) (are.each id (omega arith))
-      ];
-    })
-
 -- ---- the first sizes
 
 pub size_is_first : (count : ℕ) (outlines : ℕ → Outline) (outline : Outline) (id : ℕ) (size : OutlineSize) → outlines id ≡ outline
@@ -76,10 +60,6 @@ min_sum_same : (f g : ℕ → ℕ) (xs : List ℕ) → ((c : ℕ) → f c ≡ mi
 min_sum_same f g [] same = refl
 min_sum_same f g (x ∷ xs) same =
     let a = same x in let b = min_sum_same f g xs same in let c = sum_by-cons f x xs in let d = sum_by-cons g x xs in omega arith
-
--- past the last glyph there is nothing
-IsEmptyPast : ℕ → (ℕ → Outline) → Type 0
-IsEmptyPast count outlines = (id : ℕ) → count ≤ id → outlines id ≡ simple 0 0
 
 total_past : (own : Outline → ℕ) (outlines : ℕ → Outline) (k id : ℕ) → own (simple 0 0) ≡ 0 → outlines id ≡ simple 0 0 → total own outlines k id ≡ 0
 unfolding total

@@ -14,12 +14,6 @@ slice_range-skip xs a e n h =
     let whole : n + (e - (a + n)) ≡ e - a = omega arith in
     ap (take (e - (a + n))) (sym (drop-drop n a xs)) ∙ sym (drop-take n (e - (a + n)) (drop a xs)) ∙ ap (λ k. drop n (take k (drop a xs))) whole
 
--- the bytes are read from the source, and kept
-pub prepend_known-filled : (a b : Option (List ℕ)) (old ahead : List ℕ) → old ≡ [] → Consumes a b ahead → Keeps (prepend_known old a) (prepend_known ahead b)
-prepend_known-filled None b old ahead none p = tt
-prepend_known-filled (Some x) None old ahead none p = absurd p
-prepend_known-filled (Some x) (Some y) old ahead none p = sym p ∙ ap (λ l. l ++ x) (sym none)
-
 -- so many of the bytes that are kept are taken
 pub prepend_known-skipped : (a : Option (List ℕ)) (old new : List ℕ) (n : ℕ) → new ≡ drop n old → Consumes (prepend_known old a) (prepend_known new a) (take n old)
 prepend_known-skipped None old new n e = tt
@@ -58,10 +52,6 @@ starts_whole ahead shown same = subst (StartsWith ahead) (sym same) (take-length
 pub starts_known : (known : Option (List ℕ)) (ahead shown : List ℕ) → shown ≡ ahead → IfSome (prepend_known ahead known) (λ bytes. StartsWith bytes shown)
 starts_known None ahead shown same = tt
 starts_known (Some rest) ahead shown same = subst (StartsWith (ahead ++ rest)) (sym same) (take_at ahead rest (length ahead) refl)
-
--- bytes that begin others are no more, and a part of them is a part of the others
-pub starts_fits : (ahead shown : List ℕ) → StartsWith ahead shown → length shown ≤ length ahead
-starts_fits ahead shown starts = omega (arith, ap length starts, length-take (length shown) ahead)
 
 pub starts_part : (ahead shown : List ℕ) (n : ℕ) → StartsWith ahead shown → n ≤ length shown → take n ahead ≡ take n shown
 starts_part ahead shown n starts few = sym (take-take n (length shown) ahead few) ∙ ap (take n) starts

@@ -46,16 +46,6 @@ product_within a b ranges low high r bounds range = record {
   answers = λ v fits z n these. let w = bounds.between v fits in range.within (value v a *ℤ value v b) z w.0 w.1 these n;
 }
 
-pub first_whole : (a b whole : Cell) (ranges : List Range) (answer : Answer) → ((v : Valuation) → value v a ≡ value v whole *ℤ pos 64) → AnswersProduct whole b ranges answer → AnswersExact exact.Product a b ranges answer
-first_whole a b whole ranges answer is h = record {
-  answers = λ v fits z n p. h.answers v fits z n (λ number. p.first_whole (value v whole) (is v) number);
-}
-
-pub second_whole : (a b whole : Cell) (ranges : List Range) (answer : Answer) → ((v : Valuation) → value v b ≡ value v whole *ℤ pos 64) → AnswersProduct whole a ranges answer → AnswersExact exact.Product a b ranges answer
-second_whole a b whole ranges answer is h = record {
-  answers = λ v fits z n p. h.answers v fits z n (λ number. p.second_whole (value v whole) (is v) number);
-}
-
 -- Quotients.
 
 one_times : (x : ℤ) → pos 1 *ℤ x ≡ x

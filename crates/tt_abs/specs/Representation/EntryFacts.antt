@@ -94,13 +94,6 @@ listed-named [] n = refl
 listed-named (f ∷ fs) n =
     ap (λ (o : Option ℕ). if nat_eq f.0 n then Some f.1 else o) (listed-named fs n)
 
--- which body a function has after an entry was put
-pub named-with : (n b : ℕ) (fs : List (ℕ × ℕ)) (k : ℕ)
-    → body_named (with_entry n b fs) k ≡ (if nat_eq n k then Some b else body_named fs k)
-named-with n b fs k =
-    sym (listed-named (with_entry n b fs) k) ∙ listed-with n b fs k
-    ∙ ap (λ (o : Option ℕ). if nat_eq n k then Some b else o) (listed-named fs k)
-
 -- The storage area.
 
 cell_branch : (b : Bool) (o : Option ℤ) (p : Option ℤ)

@@ -9,10 +9,8 @@ use Rattle.tt_code.specs.States.{is_true}
 use Rattle.tt_code.specs.Table.{Lists, effect_of}
 use Rattle.tt_code.specs.declared.kinds.Arithmetic.{Arithmetic}
 use Rattle.tt_code.specs.declared.kinds.Arithmetic.TheVariants.{Abs, Neg, Not}
-use Rattle.tt_code.specs.declared.kinds.Control.{Control}
 use Rattle.tt_code.specs.declared.kinds.Pushed.{Pushed}
 use Rattle.tt_code.specs.declared.kinds.Row.{Row}
-use Rattle.tt_code.specs.declared.kinds.StackOp.{StackOp}
 use Rattle.tt_code.specs.declared.kinds.StackOp.TheVariants.{CopyIndexed, MoveIndexed}
 use Rattle.tt_code.specs.declared.kinds.Update.{Update}
 use Rattle.tt_code.specs.declared.reason.Reason.{Reason}
@@ -27,9 +25,9 @@ use Rattle.tt_abs.specs.declared.failed.Role.TheVariants as role
 use Rattle.tt_abs.specs.Cells.{Abstract}
 use Rattle.tt_abs.specs.declared.control.Callee.{Callee}
 use Rattle.tt_abs.specs.declared.control.Distance.{Distance}
-use Rattle.tt_abs.specs.Failures.{IsOnTop, IsRoleIn, IsRoleInLine, Roles, TellsWith, reason_of, role_in_control, role_in_shuffle}
+use Rattle.tt_abs.specs.Failures.{IsOnTop, IsRoleIn, IsRoleInLine, Roles, TellsWith, reason_of}
 use Rattle.tt_abs.specs.Entries.{storage_of}
-use Rattle.tt_abs.specs.Moves.{ForFailed, ForReason, LeadsBy, nexts_of}
+use Rattle.tt_abs.specs.Moves.{ForReason, LeadsBy, TellsOf, nexts_of}
 use Rattle.tt_abs.specs.Settings.{frames_of, setting_of}
 use Rattle.tt_abs.specs.States.{abstract_of}
 use Rattle.tt_abs.specs.Representation.Taken.{IsNoRole, IsRole}
@@ -49,10 +47,6 @@ RefusesStack does old r = (a : Abstract) → does (record a { stack = old }) ≡
 -- the same, where the answer is a refusal; where memory ran out, nothing has to hold
 abbrev pub IsStackRefusedFor : (Abstract → Tested Abstract) → List Cell → StepFault → Type 0
 IsStackRefusedFor does old e = ForReason e (RefusesStack does old)
-
--- a stack instruction takes the element under so many others as this
-abbrev pub IsRoleOfShuffle : StackOp → Roles
-IsRoleOfShuffle op r under = role_in_shuffle op under ≡ Some r
 
 -- the top names this cell; between the two are this many cells
 abbrev pub IsNamedCell : List Cell → ℕ × Cell → Type 0
@@ -212,16 +206,6 @@ enter_at setting point body turns stack a =
 abbrev pub loop_at : Setting → Point → ℕ → ℤ → List Cell → Abstract → Tested (List Next)
 loop_at setting point body count stack a =
     loops_cells (setting_of setting) (frames_of point) point.offset a body stack count
-
--- a control instruction takes the element under so many others as this
-abbrev pub IsRoleOfControl : Control → Roles
-IsRoleOfControl op r under = role_in_control op under ≡ Some r
-
--- what is told of the test of an instruction at the point that fails is so, where it takes its
--- elements as is said and leaves a stack of this depth
-abbrev pub TellsOf : Roles → Setting → Point → State → ℕ → StepFault → Type 0
-TellsOf takes setting point old left e = ForFailed e
-    (TellsWith takes (setting_of setting) (frames_of point) point.offset (abstract_of old) left)
 
 -- Any instruction.
 

@@ -1,6 +1,6 @@
 use Rattle.tt_code.specs.declared.kinds.Control.TheVariants as control
-use Rattle.tt_abs.specs.Representation.Steps.{IsRoleOfControl}
 use Rattle.tt_abs.specs.Representation.Taken.{IsNoRole}
+use Rattle.tt_abs.specs.Failures.{IsRoleOfControl}
 use Rattle.tt_abs.proofs.Told.{as_none, only_told, stack_step_told, too_few_told}
 use Rattle.tt_abs.proofs.control.branch.Goals as goal
 

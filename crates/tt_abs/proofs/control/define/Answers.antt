@@ -1,7 +1,7 @@
 use Rattle.tt_code.specs.declared.kinds.Control.TheVariants as control
-use Rattle.tt_abs.specs.Representation.Steps.{IsRoleOfControl}
 use Rattle.tt_abs.specs.Representation.Taken.{IsNoRole, IsRole}
 use Rattle.tt_abs.specs.declared.failed.Role.TheVariants as role
+use Rattle.tt_abs.specs.Failures.{IsRoleOfControl}
 use Rattle.std.proofs.Common.{refl, ◌∙◌, rules, sym}
 use Rattle.std.specs.Prelude.{FitsSigned}
 use Rattle.std.specs.Int.{w32}

@@ -1,8 +1,8 @@
 use Rattle.tt_abs.specs.declared.failed.Role.TheVariants as role
 use Rattle.tt_code.specs.declared.kinds.Control.TheVariants as control
-use Rattle.tt_abs.specs.Representation.Steps.{IsRoleOfControl}
 use Rattle.tt_abs.specs.Representation.Taken.{IsNoRole, IsRole}
 use Rattle.tt_abs.specs.States.{abstract_of}
+use Rattle.tt_abs.specs.Failures.{IsRoleOfControl}
 use Rattle.std.proofs.Common.{refl}
 use Rattle.tt_abs.proofs.Told.{as_none, as_one, stack_step_told, step_told, too_few_told}
 use Rattle.tt_abs.proofs.control.jump.Goals as goal

@@ -1,12 +1,14 @@
 use Rattle.std.proofs.Common.{sym, ◌∙◌, ap, length, refl, Ok}
+use Rattle.std.proofs.lemmas.Result.{IfErr-weaker}
 use Rattle.tt_code.specs.Table.{Plain, Stack, Computes, Controls, Pushes, effect_of}
 use Rattle.tt_code.specs.Entries.{view}
 use Rattle.tt_abs.specs.Settings.{frames_of, setting_of}
 use Rattle.tt_abs.specs.States.{abstract_of}
-use Rattle.tt_abs.specs.Representation.Steps.{IsRoleOfControl, IsRoleOfLine, IsRoleOfShuffle, line_of}
+use Rattle.tt_abs.specs.Representation.Steps.{IsRoleOfLine, line_of}
 use Rattle.tt_abs.specs.Representation.Taken.{IsNoRole}
-use Rattle.tt_abs.proofs.RolesTold.{code_answer_told, code_told}
+use Rattle.tt_abs.proofs.RolesTold.{code_told}
 use Rattle.tt_abs.specs.Transfers.{pushed_cells, plain_cells, shuffled_cells, computed_cells}
+use Rattle.tt_abs.specs.Failures.{IsRoleOfControl, IsRoleOfShuffle}
 use Rattle.tt_abs.proofs.TableRows.{rows_of_one_kind, rows_tested}
 use Rattle.tt_abs.proofs.StepLemmas.{push_done, acts, acts_not, first_code, for_reason, passed_on}
 use Rattle.tt_abs.proofs.instruction.dispatch.Goals.{in-Plain+in_ok-execute_plain-in-Plain, in-Push+in_ok-push_data-in-Push, in-Stack+in_ok-shuffle-in-Stack, in-Arithmetic+in_ok-compute-in-Arithmetic}
@@ -92,5 +94,5 @@ returns-in_err-compute-in-Arithmetic-clause-told c =
 
 pub returns-in-Control-clause-told : goal.returns-in-Control-clause-told
 returns-in-Control-clause-told c =
-    code_answer_told c.execute_control.result (IsRoleOfControl c.in-Control.operation) c.args.setting.now c.args.point.now c.args.state.now _ c.args.instr.now c.code.result (Controls c.in-Control.operation)
-    c.code.ensures (sym c.entry.ensures ∙ ap view c.in-Control.is) (λ r n h. h) c.execute_control.ensures.told
+    IfErr-weaker c.execute_control.result _ _ (λ e. code_told (IsRoleOfControl c.in-Control.operation) c.args.setting.now c.args.point.now c.args.state.now _ c.args.instr.now c.code.result (Controls c.in-Control.operation)
+    e c.code.ensures (sym c.entry.ensures ∙ ap view c.in-Control.is) (λ r n h. h)) c.execute_control.ensures.told

@@ -1,10 +1,11 @@
+use Rattle.std.proofs.lemmas.Result.{IfErr-weaker}
 use Rattle.tt_code.specs.States.{is_below}
 use Rattle.tt_code.specs.declared.kinds.Operand.TheVariants as operands
 use Rattle.tt_code.specs.declared.reason.Reason.TheVariants as reason
 use Rattle.tt_abs.specs.Transfers.{tested_cell}
 use Rattle.tt_abs.proofs.Fronts.{pair_takes}
 use Rattle.tt_abs.specs.Representation.Taken.{IsRoleFrom, TellsOfStack, TellsOfStackIn}
-use Rattle.tt_abs.proofs.Told.{any_in, wider}
+use Rattle.tt_abs.proofs.Told.{any_in}
 use Rattle.tt_abs.proofs.operands.take_cvt_pair.Goals as goal
 
 pub returns-clause-ok : goal.returns-clause-ok
@@ -12,5 +13,5 @@ returns-clause-ok c = pair_takes (tested_cell (λ z. is_below z c.args.setting.n
 
 pub returns-clause-told : goal.returns-clause-told
 returns-clause-told c =
-    wider c.take_any.result (TellsOfStack c.args.stack.now) (TellsOfStackIn c.args.setting.now c.args.stack.now (IsRoleFrom c.args.taken operands.Cvt))
+    IfErr-weaker c.take_any.result (TellsOfStack c.args.stack.now) (TellsOfStackIn c.args.setting.now c.args.stack.now (IsRoleFrom c.args.taken operands.Cvt))
     (any_in c.args.setting.now c.args.stack.now (IsRoleFrom c.args.taken operands.Cvt)) c.take_any.ensures.told

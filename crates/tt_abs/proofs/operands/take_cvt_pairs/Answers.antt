@@ -9,7 +9,7 @@ use Rattle.tt_abs.specs.Transfers.{tested_cell}
 use Rattle.tt_abs.proofs.Fronts.{times_step, times_refused, refused_by, pairs_start}
 use Rattle.tt_abs.specs.Representation.Taken.{IsRoleFrom, TellsOfStackIn}
 use Rattle.tt_abs.proofs.Fronts.{told_by}
-use Rattle.tt_abs.proofs.RolesTold.{cvt_in_pairs}
+use Rattle.tt_abs.proofs.RolesTold.{first_in_pairs}
 use Rattle.tt_abs.proofs.Told.{in_as, stack_in}
 use Rattle.tt_abs.proofs.operands.take_cvt_pairs.Goals as goal
 
@@ -38,5 +38,5 @@ pub returns-in_err-after-clause-told : goal.returns-in_err-after-clause-told
 returns-in_err-after-clause-told c =
     told_by c.from_residual-in_err-after.result c.in_err-after.field-0.0 (TellsOfStackIn c.args.setting.now c.args.stack.now (IsRoleFrom c.args.taken operands.CvtPairs))
     (in_as c.args.setting.now c.args.stack.now (IsRoleFrom c.loop-i.after operands.Cvt) (IsRoleFrom c.args.taken operands.CvtPairs) c.in_err-after.field-0.0
-    (cvt_in_pairs c.args.taken c.loop-i.after c.loop-i.i c.loop-i.invariant.1) c.in_err-after.ensures.told)
+    (first_in_pairs operands.Cvt operands.CvtPairs role.ControlValue refl (λ n. refl) (λ n. refl) c.args.taken c.loop-i.after c.loop-i.i c.loop-i.invariant.1) c.in_err-after.ensures.told)
     c.from_residual-in_err-after.ensures.1

@@ -1,10 +1,11 @@
+use Rattle.std.proofs.lemmas.Result.{IfErr-weaker}
 use Rattle.tt_code.specs.declared.kinds.Operand.TheVariants as operands
 use Rattle.tt_code.specs.declared.reason.Reason.TheVariants as reason
 use Rattle.tt_abs.specs.Transfers.{tested_cell, is_point_in}
 use Rattle.tt_abs.specs.Settings.{setting_of}
 use Rattle.tt_abs.proofs.Fronts.{pair_takes}
 use Rattle.tt_abs.specs.Representation.Taken.{IsRoleFrom, TellsOfOperands, TellsOfStack}
-use Rattle.tt_abs.proofs.Told.{any_operands, wider}
+use Rattle.tt_abs.proofs.Told.{any_operands}
 use Rattle.tt_abs.proofs.operands.take_point_pair.Goals as goal
 
 pub returns-clause-ok : goal.returns-clause-ok
@@ -12,5 +13,5 @@ returns-clause-ok c = pair_takes (tested_cell (is_point_in (setting_of c.args.se
 
 pub returns-clause-told : goal.returns-clause-told
 returns-clause-told c =
-    wider c.take_any.result (TellsOfStack c.args.stack.now) (TellsOfOperands c.args.setting.now c.args.graphics.now c.args.stack.now (IsRoleFrom c.args.taken (operands.Point c.args.within)))
+    IfErr-weaker c.take_any.result (TellsOfStack c.args.stack.now) (TellsOfOperands c.args.setting.now c.args.graphics.now c.args.stack.now (IsRoleFrom c.args.taken (operands.Point c.args.within)))
     (any_operands c.args.setting.now c.args.graphics.now c.args.stack.now (IsRoleFrom c.args.taken (operands.Point c.args.within))) c.take_any.ensures.told

@@ -13,7 +13,7 @@ use Rattle.tt_family.specs.GoodFamilies.{EndsWell}
 use Rattle.tt_family.specs.Representation.Cursors.{MayLeaveOut, to_come}
 use Rattle.tt_abs.specs.declared.refusal.Refusal.{Refusal}
 use Rattle.tt_family.specs.declared.listing.Listing.{Listing}
-use Rattle.tt_family.proofs.Checked.{ok_map, err_map}
+use Rattle.std.proofs.lemmas.Result.{IfErr-weaker, IfOk-weaker}
 use Rattle.tt_family.proofs.Judged.{not_both, start_broken, way_broken}
 use Rattle.tt_family.proofs.Walking.{taken}
 use Rattle.tt_family.proofs.checker.check_listed.Goals as goal
@@ -69,7 +69,7 @@ returns-clause-sound c =
     let start = subst (covers c.args.certificate.now) c.in_ok-walk.ensures.made c.in_default.ensures.covered in
     let t : c.is_short.result ≡ true = search rules in
     let u : c.ends_well.result ≡ true = search rules in
-    ok_map c.check_points.result _ _
+    IfOk-weaker c.check_points.result _ _
     (λ x through. record {
       short = c.is_short.ensures.0 t;
       start = start;
@@ -83,7 +83,7 @@ returns-clause-first c =
     let start = subst (covers c.args.certificate.now) c.in_ok-walk.ensures.made c.in_default.ensures.covered in
     let t : c.is_short.result ≡ true = search rules in
     let u : c.ends_well.result ≡ true = search rules in
-    err_map c.check_points.result _ _
+    IfErr-weaker c.check_points.result _ _
     (way_broken (setting_of c.args.setting.now) c.args.setting.now.start.now c.args.certificate.now (first c.args.setting.now c.args.listing c.args.certificate.now) (c.is_short.ensures.0 t) start
     (subst (ends c.args.setting.now) c.builder.ensures (c.ends_well.ensures.0 u)))
     c.check_points.ensures.broken
