@@ -94,11 +94,17 @@ def grouped(crate: pathlib.Path, edits: list[pathlib.Path]) -> list[Group]:
     return groups
 
 
-def is_refused(group: Group, changes: list[Change], told: list[tuple[str, str]]) -> bool:
+def place_of(change: Change, before: str, after: str) -> int:
+    """Where a change's new text is in a file, of several places the one nearest to where the old text was."""
+    at = before.find(change.old)
+    return min((found.start() for found in re.finditer(re.escape(change.new), after)), key=lambda place: abs(place - at), default=0)
+
+
+def is_refused(crate: pathlib.Path, group: Group, changes: list[Change], told: list[tuple[str, str]]) -> bool:
     """Whether what the check told is of a function that these changes are in."""
     for change in changes:
         text = group.texts[change.path]
-        name, first, last = function_at(text, max(text.find(change.new), 0))
+        name, first, last = function_at(text, place_of(change, (crate / change.path).read_text(), text))
         proofs = re.compile(rf"proofs/{re.escape(change.path[4:-3])}/(\w+/)?{name}/")
         if any((path == change.path and first <= int(line) <= last) or proofs.match(path) for path, line in told):
             return True
@@ -140,7 +146,7 @@ def try_group(crate: str, group: Group) -> bool:
         print("\n".join(line for line in said.splitlines() if "error" in line))
         return False
     told = TOLD.findall(said)
-    refused = {name: is_refused(group, changes, told) for name, changes in group.edits.items()}
+    refused = {name: is_refused(TOP / "crates" / crate, group, changes, told) for name, changes in group.edits.items()}
     for name, is_so in refused.items():
         print(f"{crate}/{name}: {'refused' if is_so else '??'}", flush=True)
     return all(refused.values())

@@ -6,11 +6,11 @@ use Rattle.tt_font.specs.Reading.{FontData, GlyphData, Reads}
 use Rattle.tt_cert.specs.declared.name.Name.{Name}
 use Rattle.tt_cert.specs.declared.name.Name.TheVariants as name
 use Rattle.hintcheck_explain.specs.Faults.{IsAnsweredFor, TellsFailure as TellsExplained}
-use Rattle.hintcheck_explain.specs.declared.asked.ExplainFault.{ExplainFault}
+use Rattle.hintcheck_report.specs.declared.answer_fault.AnswerFault.{AnswerFault}
 use Rattle.tt_abs.specs.declared.exhausted.Exhausted.TheVariants.{Memory, Budget as Points}
-use Rattle.hintcheck_explain.specs.declared.asked.ExplainFault.TheVariants as explaining
+use Rattle.hintcheck_report.specs.declared.answer_fault.AnswerFault.TheVariants as answer
 use Rattle.tt_stream.specs.declared.text.PrintFailed.TheVariants as failed
-use Rattle.hintcheck.specs.Commands.{TellsFailure, fault_of_explain}
+use Rattle.hintcheck.specs.Commands.{TellsFailure, fault_of_answer}
 use Rattle.hintcheck.specs.CommandFaults.{IsEndOfWork, IsFaultOfExplanation}
 use Rattle.hintcheck.specs.Explanations.{IsAnswered, IsReportOf, TellsProgram, cvt_accepted, cvt_refused, font_accepted, font_refused, glyph_accepted, glyph_refused}
 use Rattle.hintcheck_fonts.specs.FontPrograms.{cvt_subject, font_of, font_subject, glyph_subject}
@@ -43,19 +43,27 @@ use Rattle.hintcheck.specs.declared.commands.faults.CommandFault.{CommandFault}
 use Rattle.hintcheck.specs.declared.commands.faults.CommandFault.TheVariants as command
 
 -- a failed write of an explanation
-pub failed_text : (S : Type 0) {T : Type 0} (e : ExplainFault) (r : Result T CommandFault) (old new : ℕ) → TellsExplained {T = S} (Err e) old new → IsErrAnd r (λ told. told ≡ fault_of_explain e) → TellsFailure r old new
+pub failed_text : (S : Type 0) {T : Type 0} (e : AnswerFault) (r : Result T CommandFault) (old new : ℕ) → TellsExplained {T = S} (Err e) old new → IsErrAnd r (λ told. told ≡ fault_of_answer e) → TellsFailure r old new
 failed_text S e (Ok x) old new tells is = absurd is
-failed_text S (explaining.Write failed.Write) (Err told) old new tells is = rw is tells
-failed_text S (explaining.Write failed.Format) (Err told) old new tells is = rw is tells
-failed_text S (explaining.Exhausted Memory) (Err told) old new tells is = rw is tells
-failed_text S (explaining.Exhausted Points) (Err told) old new tells is = rw is tells
+failed_text S (answer.Print failed.Write) (Err told) old new tells is = rw is tells
+failed_text S (answer.Print failed.Format) (Err told) old new tells is = rw is tells
+failed_text S (answer.Exhausted Memory) (Err told) old new tells is = rw is tells
+failed_text S (answer.Exhausted Points) (Err told) old new tells is = rw is tells
+failed_text S (answer.Font font) (Err told) old new tells is = absurd tells
+failed_text S (answer.Form place) (Err told) old new tells is = absurd tells
+failed_text S answer.Read (Err told) old new tells is = absurd tells
+failed_text S answer.Write (Err told) old new tells is = absurd tells
 
-pub fault_of_text : {T : Type 0} (e : ExplainFault) (r : Result T CommandFault) → IsErrAnd r (λ told. told ≡ fault_of_explain e) → IfErr r IsFaultOfExplanation
-fault_of_text e (Ok x) is = absurd is
-fault_of_text (explaining.Write failed.Write) (Err told) is = rw is tt
-fault_of_text (explaining.Write failed.Format) (Err told) is = rw is tt
-fault_of_text (explaining.Exhausted Memory) (Err told) is = rw is tt
-fault_of_text (explaining.Exhausted Points) (Err told) is = rw is tt
+pub fault_of_text : (S : Type 0) {T : Type 0} (e : AnswerFault) (r : Result T CommandFault) (old new : ℕ) → TellsExplained {T = S} (Err e) old new → IsErrAnd r (λ told. told ≡ fault_of_answer e) → IfErr r IsFaultOfExplanation
+fault_of_text S e (Ok x) old new tells is = absurd is
+fault_of_text S (answer.Print failed.Write) (Err told) old new tells is = rw is tt
+fault_of_text S (answer.Print failed.Format) (Err told) old new tells is = rw is tt
+fault_of_text S (answer.Exhausted Memory) (Err told) old new tells is = rw is tt
+fault_of_text S (answer.Exhausted Points) (Err told) old new tells is = rw is tt
+fault_of_text S (answer.Font font) (Err told) old new tells is = absurd tells
+fault_of_text S (answer.Form place) (Err told) old new tells is = absurd tells
+fault_of_text S answer.Read (Err told) old new tells is = absurd tells
+fault_of_text S answer.Write (Err told) old new tells is = absurd tells
 
 -- work that ended without an answer wrote nothing
 pub ended_failures : {T : Type 0} (f : CommandFault) (r : Result T CommandFault) (n : ℕ) → IsErrAnd r (λ told. told ≡ f) → IsEndOfWork f → TellsFailure r n n

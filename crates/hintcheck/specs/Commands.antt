@@ -5,16 +5,12 @@ use Rattle.std.specs.Io.KnownBytes.{Consumes, IsAtEnd}
 use Rattle.hintcheck.specs.declared.commands.faults.CommandFault.{CommandFault}
 use Rattle.hintcheck.specs.declared.commands.faults.CommandFault.TheVariants as fault
 use Rattle.hintcheck.specs.declared.commands.faults.Container.TheVariants.{Other}
-use Rattle.hintcheck_fonts.specs.declared.font_check.CheckFontFault.{CheckFontFault}
-use Rattle.hintcheck_fonts.specs.declared.font_check.CheckFontFault.TheVariants as check
-use Rattle.hintcheck_fonts.specs.declared.certificate.FindFontFault.{FindFontFault}
-use Rattle.hintcheck_fonts.specs.declared.certificate.FindFontFault.TheVariants as find
-use Rattle.hintcheck_fonts.specs.declared.font.VerdictFault.{VerdictFault}
-use Rattle.hintcheck_fonts.specs.declared.font.VerdictFault.TheVariants as judging
+use Rattle.hex.specs.declared.error.FromHexError.{FromHexError}
+use Rattle.hex.specs.declared.error.FromHexError.TheVariants as words
+use Rattle.hintcheck_report.specs.AnswerFaults.{fault_of_certificate}
+use Rattle.hintcheck_report.specs.declared.answer_fault.AnswerFault.{AnswerFault}
+use Rattle.hintcheck_report.specs.declared.answer_fault.AnswerFault.TheVariants as answer
 use Rattle.tt_cert.specs.declared.fault.CertFault.{CertFault}
-use Rattle.tt_cert.specs.declared.fault.CertFault.TheVariants as upgrading
-use Rattle.hintcheck_explain.specs.declared.asked.ExplainFault.{ExplainFault}
-use Rattle.hintcheck_explain.specs.declared.asked.ExplainFault.TheVariants as explaining
 use Rattle.tt_abs.specs.declared.exhausted.Exhausted.{Exhausted}
 use Rattle.tt_abs.specs.declared.exhausted.Exhausted.TheVariants as exhausted
 use Rattle.tt_stream.specs.declared.text.PrintFailed.{PrintFailed}
@@ -22,8 +18,6 @@ use Rattle.tt_stream.specs.declared.text.PrintFailed.TheVariants as failed
 use Rattle.tt_stream.specs.declared.reads.ReadFault.{ReadFault}
 use Rattle.tt_stream.specs.declared.reads.ReadFault.TheVariants as reading
 use Rattle.hintcheck_words.specs.Requests.{Request, bare, check, explain, find, list, scan, upgrade, verdict}
-use Rattle.hintcheck_words.specs.declared.hex_words.WordFault.{WordFault}
-use Rattle.hintcheck_words.specs.declared.hex_words.WordFault.TheVariants as words
 use Rattle.tt_font.specs.declared.fault.FontFault.{FontFault}
 use Rattle.tt_font.specs.declared.fault.FontFault.TheVariants as font
 
@@ -59,47 +53,28 @@ abbrev pub fault_of_reading : ReadFault → CommandFault
 fault_of_reading reading.Read = fault.Read
 fault_of_reading (reading.OutOfMemory error) = fault.OutOfMemory
 
--- the fault of a font that isn't checked by its certificate
-abbrev pub fault_of_check : CheckFontFault → CommandFault
-fault_of_check (check.Font font) = fault.Font (record { 0 = font; 1 = Other })
-fault_of_check (check.Form place) = fault.Form place
-fault_of_check check.Read = fault.Read
-fault_of_check (check.OutOfMemory error) = fault.OutOfMemory
-fault_of_check check.Budget = fault.Budget
-
--- the fault of a font whose certificate isn't found or written
-abbrev pub fault_of_find : FindFontFault → CommandFault
-fault_of_find (find.Font font) = fault.Font (record { 0 = font; 1 = Other })
-fault_of_find find.Write = fault.File
-fault_of_find (find.OutOfMemory error) = fault.OutOfMemory
-fault_of_find find.Budget = fault.Budget
-
--- the fault of a font without a verdict within a budget
-abbrev pub fault_of_verdict : VerdictFault → CommandFault
-fault_of_verdict (judging.Font font) = fault.Font (record { 0 = font; 1 = Other })
-fault_of_verdict judging.Budget = fault.Budget
-
 -- what ended the work without an answer
 abbrev pub fault_of_end : Exhausted → CommandFault
 fault_of_end exhausted.Memory = fault.OutOfMemory
 fault_of_end exhausted.Budget = fault.Budget
 
--- the fault of a program that isn't explained
-abbrev pub fault_of_explain : ExplainFault → CommandFault
-fault_of_explain (explaining.Write failed) = fault_of_print failed
-fault_of_explain (explaining.Exhausted by) = fault_of_end by
+-- the fault of a font on which there is no answer; what is written there is a file
+abbrev pub fault_of_answer : AnswerFault → CommandFault
+fault_of_answer (answer.Font font) = fault.Font (record { 0 = font; 1 = Other })
+fault_of_answer (answer.Form place) = fault.Form place
+fault_of_answer answer.Read = fault.Read
+fault_of_answer answer.Write = fault.File
+fault_of_answer (answer.Print failed) = fault_of_print failed
+fault_of_answer (answer.Exhausted by) = fault_of_end by
 
 -- the fault of a certificate that isn't upgraded
 abbrev pub fault_of_upgrade : CertFault → CommandFault
-fault_of_upgrade (upgrading.Form place) = fault.Form place
-fault_of_upgrade upgrading.Read = fault.Read
-fault_of_upgrade upgrading.Write = fault.File
-fault_of_upgrade (upgrading.OutOfMemory error) = fault.OutOfMemory
+fault_of_upgrade certificate = fault_of_answer (fault_of_certificate certificate)
 
 -- the fault of a word of hexadecimal digits, which is `bad` where it spells no bytes
-abbrev pub fault_of_word : WordFault → CommandFault → CommandFault
-fault_of_word words.BadWord bad = bad
-fault_of_word (words.OutOfMemory error) bad = fault.OutOfMemory
+abbrev pub fault_of_word : FromHexError → CommandFault → CommandFault
+fault_of_word words.OutOfMemory bad = fault.OutOfMemory
+fault_of_word other bad = bad
 
 -- the count of failed writes goes up by one exactly where the fault is a failed write
 abbrev pub TellsFailure : {T : Type 0} → Result T CommandFault → ℕ → ℕ → Type 0

@@ -9,10 +9,12 @@ ghost use Rattle.hintcheck_fonts.specs.FontAnswers.{IsSymbolicVerdictOn, IsVerdi
 ghost use Rattle.hintcheck_fonts.specs.FontPrograms.{IsFontInRange};
 
 use crate::commands::faults::{CommandFault, Numbered};
-use hintcheck_fonts::font::{self, VerdictFault, read_font, verdict_within};
+use hintcheck_fonts::font::{self, read_font, verdict_within};
 use hintcheck_fonts::report::Verdict;
 use hintcheck_fonts::symbolic_verdict::{verdict_symbolic, verdict_symbolic_within};
+use hintcheck_report::AnswerFault;
 use std::alloc::Global;
+use tt_abs::Exhausted;
 use tt_family::Budget;
 use tt_font::Font;
 
@@ -60,8 +62,8 @@ pub(crate) fn verdict_in_budget(
 {
     match verdict_within(alloc, bytes, budget) {
         Ok(verdict) => Ok(verdict),
-        Err(VerdictFault::Font(fault)) => Err(CommandFault::Font(Numbered::of(fault, bytes))),
-        Err(VerdictFault::Budget) => Err(CommandFault::Budget),
+        Err(AnswerFault::Exhausted(Exhausted::Budget)) => Err(CommandFault::Budget),
+        Err(fault) => { Err(CommandFault::Font(Numbered::of(fault.into_font_fault(), bytes))) }
     }
 }
 

@@ -18,8 +18,8 @@ pub use commands::{command, try_command, verdict_of};
 pub use explanation::explain_program;
 pub use hintcheck_explain::Site;
 pub use hintcheck_fonts::{
-    CheckFontFault, FindFontFault, Name, Outcome, Place, Refused, Session, UpgradeFault, Verdict,
-    VerdictFault, bare, bare_symbolic, bare_symbolic_within, bare_within, check_font,
+    AnswerFault, CheckFontFault, FindFontFault, Name, Outcome, Place, Refused, Session,
+    UpgradeFault, Verdict, bare, bare_symbolic, bare_symbolic_within, bare_within, check_font,
     check_font_within, find_font, find_font_within, read_font, upgrade, verdict, verdict_symbolic,
     verdict_symbolic_within, verdict_within,
 };

@@ -1,8 +1,8 @@
 -- The glyphs that may be drawn with hints, as sets from which refused ones are taken out, and as
 -- arrays.
-use Rattle.std.proofs.Common.{◌≡◌, ◌≢◌, ◌↔◌, ℕ, suc, ◌+◌, ◌<◌, ◌≤◌, List, [], ◌∷◌, Bool, true, false, None, length, replicate, refl, sym, ◌∙◌, ap, subst, arith, inl, inr, get_or, ◌++◌, take, drop}
+use Rattle.std.proofs.Common.{◌≡◌, ◌↔◌, ℕ, suc, ◌<◌, ◌≤◌, List, [], ◌∷◌, Bool, true, false, None, length, replicate, refl, sym, ◌∙◌, ap, subst, arith, inl, inr, get_or, ◌++◌, take, drop}
 use Rattle.std.specs.Prelude.{◌⊎◌, slice_index, if◌then◌else◌}
-use Rattle.std.proofs.lemmas.Bool.{cases_eq, cases_lt}
+use Rattle.std.proofs.lemmas.Bool.{cases_lt}
 use Rattle.std.proofs.lemmas.List.{get_or_past}
 use Rattle.std.proofs.Math.Seq.{take-append_seam}
 use Rattle.tt_cert.specs.declared.name.Name.{Name}
@@ -13,7 +13,7 @@ use Rattle.tt_font.specs.FileFaults.{font_fault}
 use Rattle.tt_font.specs.Files.{font_glyph_count, font_outlines}
 use Rattle.hintcheck_report.specs.declared.refused.Refused.{Refused}
 use Rattle.hintcheck_c.specs.MayHint.{IsAnothers, MayHint, TellsMayHint}
-use Rattle.hintcheck_c.specs.Representation.HintedSets.{AreHinted, Tell, TellBelow}
+use Rattle.hintcheck_c.specs.Representation.HintedSets.{AreHinted, Tell}
 
 -- ---- sets
 
@@ -27,30 +27,6 @@ pub record IsLeft (count : ℕ) (refused : List Refused) (n : ℕ) (set : List B
   pub inside : (id : ℕ) → is_in set id ≡ true → id < count
   pub others : (id : ℕ) → is_in set id ≡ true → AreOthersBelow refused id n
   pub stays : (id : ℕ) → id < count → AreOthersBelow refused id n → is_in set id ≡ true
-
--- one glyph more is taken out
-pub one_taken : (count : ℕ) (refused : List Refused) (n glyph : ℕ) (before after : List Bool) (x : Refused) → ((d : Refused) → get_or refused n d ≡ x) → x.program ≡ name.Glyph glyph
-    → IsLeft count refused n before → length after ≡ length before
-    → ((id : ℕ) → (is_in after id ≡ true) ↔ ((is_in before id ≡ true) × (glyph ≢ id))) → IsLeft count refused (n + 1) after
-one_taken count refused n glyph before after x at program left same taken = record {
-  len = same ∙ left.len;
-  inside = λ id is. left.inside id ((taken id).0 is).0;
-  others = λ id is i d lt. elim (cases_eq i n) [
-    | inl here ↦ (let A : Name → Type 0 = λ p. IsAnothers p id in
-        let P : name_of (get_or refused i d) ≡ name.Glyph glyph = ap (λ k. name_of (get_or refused k d)) here ∙ ap name_of (at d) ∙ program in
-        subst A (sym P) ((taken id).0 is).1)
-    | inr other ↦ left.others id ((taken id).0 is).0 i d (omega arith)
-  ];
-  stays = λ id lt others. (taken id).1 (
-    left.stays id lt (λ i d below. others i d (omega arith)),
-    (let A : Name → Type 0 = λ p. IsAnothers p id in
-        let P : name_of (get_or refused n x) ≡ name.Glyph glyph = ap name_of (at x) ∙ program in
-        subst A P (others n x (omega arith))),
-  );
-}
-  where
-    name_of : Refused → Name
-    name_of r = r.program
 
 -- a refused font program or CVT program leaves no glyph
 not_anothers : (p : Name) (id : ℕ) → (p ≡ name.Font) ⊎ (p ≡ name.Cvt) → IsAnothers p id → ⊥
@@ -89,9 +65,6 @@ lent_is_hinted bytes refused count n k items lent set none count_is n_is left sa
     subst H (sym whole) (closed_is_hinted bytes refused lent set none is closed)
 
 -- ---- arrays
-
-pub none_told : (set : List Bool) (entries : List ℕ) → TellBelow set entries 0
-none_told set entries id lt = absurd (omega arith)
 
 abbrev bit : Bool → ℕ
 bit b = if b then 1 else 0

@@ -10,10 +10,11 @@ use Rattle.tt_font.specs.declared.fault.FontFault.TheVariants as faults
 use Rattle.hintcheck_fonts.specs.FontPrograms.{IsVerdict}
 use Rattle.hintcheck_fonts.specs.SymbolicVerdicts.{IsSymbolicVerdict}
 use Rattle.hintcheck_fonts.specs.Verdicts.{Judgement}
-use Rattle.hintcheck_fonts.specs.declared.font.VerdictFault.{VerdictFault}
-use Rattle.hintcheck_fonts.specs.declared.font.VerdictFault.TheVariants as judging
+use Rattle.tt_abs.specs.declared.exhausted.Exhausted.TheVariants as exhausted
+use Rattle.hintcheck_report.specs.declared.answer_fault.AnswerFault.{AnswerFault}
+use Rattle.hintcheck_report.specs.declared.answer_fault.AnswerFault.TheVariants as fault
 use Rattle.hintcheck_report.specs.declared.refused.Refused.{Refused}
-use Rattle.hintcheck_c.specs.Answers.{Answers, judging_answer, status_of}
+use Rattle.hintcheck_c.specs.Answers.{Answers, unanswered, status_of}
 use Rattle.hintcheck_c.specs.MayHint.{AnswersMayHint, AnswersMayHintSymbolic, HoldSafeGlyph, HoldSymbolicSafeGlyphs, TellsMayHint}
 use Rattle.hintcheck_c.specs.Representation.HintedSets.{AreHinted, Tell}
 use Rattle.hintcheck_c.specs.declared.answer.HintcheckAnswer.{HintcheckAnswer}
@@ -34,22 +35,27 @@ verdict_status v answer given =
     omega arith
 
 -- and a fault has another
-pub fault_status : (fault : VerdictFault) (points : ℕ) → 2 ≤ (judging_answer fault points).status
-fault_status (judging.Font faults.NotSfnt) points = omega arith
-fault_status (judging.Font faults.DirectoryTruncated) points = omega arith
-fault_status (judging.Font (faults.MissingTable tag)) points = omega arith
-fault_status (judging.Font (faults.TableOutside tag)) points = omega arith
-fault_status (judging.Font faults.MaxpVersion) points = omega arith
-fault_status (judging.Font (faults.Loca entry)) points = omega arith
-fault_status (judging.Font (faults.GlyphTruncated id)) points = omega arith
-fault_status (judging.Font (faults.Composite id)) points = omega arith
-fault_status (judging.Font (faults.OutOfMemory error)) points = omega arith
-fault_status judging.Budget points = omega arith
+pub fault_status : (fault : AnswerFault) (points : ℕ) → 2 ≤ (unanswered fault points).status
+fault_status (fault.Font faults.NotSfnt) points = omega arith
+fault_status (fault.Font faults.DirectoryTruncated) points = omega arith
+fault_status (fault.Font (faults.MissingTable tag)) points = omega arith
+fault_status (fault.Font (faults.TableOutside tag)) points = omega arith
+fault_status (fault.Font faults.MaxpVersion) points = omega arith
+fault_status (fault.Font (faults.Loca entry)) points = omega arith
+fault_status (fault.Font (faults.GlyphTruncated id)) points = omega arith
+fault_status (fault.Font (faults.Composite id)) points = omega arith
+fault_status (fault.Font (faults.OutOfMemory error)) points = omega arith
+fault_status (fault.Form place) points = omega arith
+fault_status fault.Read points = omega arith
+fault_status fault.Write points = omega arith
+fault_status (fault.Print failed) points = omega arith
+fault_status (fault.Exhausted exhausted.Memory) points = omega arith
+fault_status (fault.Exhausted exhausted.Budget) points = omega arith
 
-pub answered_fault_status : (fault : VerdictFault) (points : ℕ) (answer : HintcheckAnswer) → answer ≡ judging_answer fault points → 2 ≤ answer.status
+pub answered_fault_status : (fault : AnswerFault) (points : ℕ) (answer : HintcheckAnswer) → answer ≡ unanswered fault points → 2 ≤ answer.status
 answered_fault_status fault points answer e =
-    let few : 2 ≤ (judging_answer fault points).status = fault_status fault points in
-    let is : answer.status ≡ (judging_answer fault points).status = ap (λ (a : HintcheckAnswer). a.status) e in
+    let few : 2 ≤ (unanswered fault points).status = fault_status fault points in
+    let is : answer.status ≡ (unanswered fault points).status = ap (λ (a : HintcheckAnswer). a.status) e in
     omega arith
 
 -- ---- the entries

@@ -24,9 +24,6 @@ use Rattle.hintcheck_fonts.proofs.FontSafety.{good_end, good_families_are_safe}
 use Rattle.hintcheck_report.specs.declared.refused.Refused.{Refused}
 use Rattle.hintcheck_c.specs.MayHint.{AreAccepted, HoldSafeGlyph, HoldSymbolicSafeGlyphs, IsAnothers, MayHint, with_only}
 
-name_of : Refused → Name
-name_of r = r.program
-
 -- the first refused program of a list is another glyph's, and so are the others
 first_is_anothers : (r : Refused) (rs : List Refused) (id : ℕ) → AreAccepted (r ∷ rs) id → IsAnothers r.program id
 first_is_anothers r rs id fine = fine 0 r (omega arith)

@@ -1,5 +1,6 @@
 -- What the calls of C and C++ answer: a verdict or a fault, in numbers.
 use Rattle.std.specs.Prelude.{◌≡◌, ◌≢◌, ℕ, ◌-◌, ◌^◌, List, [], ◌∷◌, length, min, Some, Err, alloc_error}
+use Rattle.tt_abs.specs.declared.exhausted.Exhausted.TheVariants as exhausted
 use Rattle.tt_font.specs.FaultNumbers.{fault_number}
 use Rattle.tt_font.specs.FileFaults.{font_fault}
 use Rattle.tt_font.specs.Reading.{FontData, Reads}
@@ -10,10 +11,8 @@ use Rattle.hintcheck_fonts.specs.CheckedFonts.{AnswersFinding}
 use Rattle.hintcheck_fonts.specs.FontPrograms.{IsVerdict}
 use Rattle.hintcheck_fonts.specs.SymbolicVerdicts.{IsSymbolicVerdict}
 use Rattle.hintcheck_fonts.specs.Verdicts.{Judgement}
-use Rattle.hintcheck_fonts.specs.declared.font.VerdictFault.{VerdictFault}
-use Rattle.hintcheck_fonts.specs.declared.font.VerdictFault.TheVariants as judging
-use Rattle.hintcheck_fonts.specs.declared.font_check.CheckFontFault.{CheckFontFault}
-use Rattle.hintcheck_fonts.specs.declared.font_check.CheckFontFault.TheVariants as check
+use Rattle.hintcheck_report.specs.declared.answer_fault.AnswerFault.{AnswerFault}
+use Rattle.hintcheck_report.specs.declared.answer_fault.AnswerFault.TheVariants as fault
 use Rattle.hintcheck_report.specs.declared.refused.Refused.{Refused}
 use Rattle.hintcheck_c.specs.Refusals.{listed_in}
 use Rattle.hintcheck_c.specs.declared.answer.HintcheckAnswer.{HintcheckAnswer}
@@ -55,17 +54,14 @@ font_answer (font.OutOfMemory error) points = fault_answer 3 9 0 points
 font_answer fault points = fault_answer 2 (fault_number fault) 0 points
 
 -- why there is no verdict, in numbers
-abbrev pub judging_answer : VerdictFault → ℕ → HintcheckAnswer
-judging_answer (judging.Font fault) points = font_answer fault points
-judging_answer judging.Budget points = fault_answer 4 46 0 points
-
--- why there is no check, in numbers
-abbrev pub check_answer : CheckFontFault → ℕ → HintcheckAnswer
-check_answer (check.Font fault) points = font_answer fault points
-check_answer (check.Form place) points = fault_answer 2 43 place points
-check_answer check.Read points = fault_answer 2 44 0 points
-check_answer (check.OutOfMemory error) points = fault_answer 3 9 0 points
-check_answer check.Budget points = fault_answer 4 46 0 points
+abbrev pub unanswered : AnswerFault → ℕ → HintcheckAnswer
+unanswered (fault.Font fault) points = font_answer fault points
+unanswered (fault.Form place) points = fault_answer 2 43 place points
+unanswered fault.Read points = fault_answer 2 44 0 points
+unanswered fault.Write points = fault_answer 2 45 0 points
+unanswered (fault.Print failed) points = fault_answer 2 45 0 points
+unanswered (fault.Exhausted exhausted.Memory) points = fault_answer 3 9 0 points
+unanswered (fault.Exhausted exhausted.Budget) points = fault_answer 4 46 0 points
 
 -- The answer is this verdict in numbers, and its first refusals are listed, as many as there is
 -- room for.
@@ -105,35 +101,35 @@ pub record AnswersCheck (bytes certificate : List ℕ) (answer : HintcheckAnswer
 abbrev pub IsFaultOfFont : List ℕ → FontFault → Type 0
 IsFaultOfFont bytes fault = fault ≢ font.OutOfMemory alloc_error → font_fault bytes ≡ Some fault
 
--- a fault of the font is the first one of the bytes; that the budget is exceeded is told by the
--- points
-abbrev pub IsFaultOfVerdict : List ℕ → VerdictFault → Type 0
-IsFaultOfVerdict bytes (judging.Font fault) = IsFaultOfFont bytes fault
-IsFaultOfVerdict bytes judging.Budget = Unit {0}
+-- A fault of the font is the first one of the bytes; or memory or the budget ran out, of which the
+-- points tell. No other comes.
+abbrev pub IsFaultOfVerdict : List ℕ → AnswerFault → Type 0
+IsFaultOfVerdict bytes (fault.Font fault) = IsFaultOfFont bytes fault
+IsFaultOfVerdict bytes (fault.Exhausted by) = Unit {0}
+IsFaultOfVerdict bytes other = ⊥
 
 -- The fault is the font's; or the certificate's bytes are no certificate for the font, at this
--- place; no read of bytes in memory fails. Out of memory is unspecified, and that the budget is
--- exceeded is told by the points.
-abbrev pub IsFaultOfCheck : List ℕ → List ℕ → CheckFontFault → Type 0
-IsFaultOfCheck bytes certificate (check.Font fault) = IsFaultOfFont bytes fault
-IsFaultOfCheck bytes certificate (check.Form place) =
+-- place; or memory or the budget ran out, of which the points tell. No read of bytes in memory
+-- fails, and nothing is written.
+abbrev pub IsFaultOfCheck : List ℕ → List ℕ → AnswerFault → Type 0
+IsFaultOfCheck bytes certificate (fault.Font fault) = IsFaultOfFont bytes fault
+IsFaultOfCheck bytes certificate (fault.Form place) =
     (d : FontData) × Reads bytes d × IsChecked d certificate (Err place)
-IsFaultOfCheck bytes certificate check.Read = ⊥
-IsFaultOfCheck bytes certificate (check.OutOfMemory error) = Unit {0}
-IsFaultOfCheck bytes certificate check.Budget = Unit {0}
+IsFaultOfCheck bytes certificate (fault.Exhausted by) = Unit {0}
+IsFaultOfCheck bytes certificate other = ⊥
 
 -- The answer is why the bytes have no verdict, in numbers, and nothing is listed.
 pub record AnswersFontFault (bytes : List ℕ) (answer : HintcheckAnswer)
     (old new : List HintcheckRefusal) : Type 0 where
-  pub fault : VerdictFault
+  pub fault : AnswerFault
   pub of_font : IsFaultOfVerdict bytes fault
-  pub in_numbers : answer ≡ judging_answer fault answer.points
+  pub in_numbers : answer ≡ unanswered fault answer.points
   pub unlisted : new ≡ old
 
 -- the same of a verdict by a certificate
 pub record AnswersCheckFault (bytes certificate : List ℕ) (answer : HintcheckAnswer)
     (old new : List HintcheckRefusal) : Type 0 where
-  pub fault : CheckFontFault
+  pub fault : AnswerFault
   pub of_check : IsFaultOfCheck bytes certificate fault
-  pub in_numbers : answer ≡ check_answer fault answer.points
+  pub in_numbers : answer ≡ unanswered fault answer.points
   pub unlisted : new ≡ old

@@ -1,10 +1,13 @@
 //! What a call answers, in numbers.
 
 ghost use Rattle.std.specs.Prelude.{◌≡◌, ◌≢◌, ◌≤◌};
-ghost use Rattle.hintcheck_c.specs.Answers.{Answers, check_answer, fault_answer as answer_of_fault, font_answer, judging_answer};
+ghost use Rattle.hintcheck_c.specs.Answers.{Answers, fault_answer as answer_of_fault, font_answer, unanswered};
+ghost use Rattle.hintcheck_report.specs.declared.answer_fault.AnswerFault.{AnswerFault};
+ghost use Rattle.tt_abs.specs.declared.exhausted.Exhausted.{Exhausted as By};
 
 use crate::refusal::{HintcheckRefusal, list_refused};
-use hintcheck_fonts::{CheckFontFault, FontFault, Verdict, VerdictFault};
+use hintcheck_fonts::{AnswerFault, FontFault, Verdict};
+use tt_abs::Exhausted;
 
 /// The status where every program is accepted.
 const ACCEPTED: u32 = 0;
@@ -29,6 +32,9 @@ const FORM_FAULT: u32 = 43;
 
 /// The number of the fault that a certificate can't be read.
 const READ_FAULT: u32 = 44;
+
+/// The number of the fault that something can't be written, which no call here does.
+const WRITE_FAULT: u32 = 45;
 
 /// The number of the fault that the budget is exceeded.
 const BUDGET_FAULT: u32 = 46;
@@ -107,26 +113,21 @@ fn fault_of_font(fault: &FontFault, points: u64) -> HintcheckAnswer
     }
 }
 
-/// Returns a fault of a verdict as an answer, after this many points.
-pub(crate) fn fault_of_verdict(fault: &VerdictFault, points: u64) -> HintcheckAnswer
-    ensures answer { result ≡ judging_answer fault.now points }
-    ensures status { fault.now ≢ VerdictFault.Budget → result.status ≤ 3 }
+/// Returns why there is no verdict as an answer, after this many points.
+pub(crate) fn fault_of(fault: &AnswerFault, points: u64) -> HintcheckAnswer
+    ensures answer { result ≡ unanswered fault.now points }
+    ensures status { fault.now ≢ AnswerFault.Exhausted By.Budget → result.status ≤ 3 }
 {
     match fault {
-        VerdictFault::Font(fault) => fault_of_font(fault, points),
-        VerdictFault::Budget => fault_answer(BUDGET, BUDGET_FAULT, 0, points),
-    }
-}
-
-/// Returns a fault of a check as an answer, after this many points.
-pub(crate) fn fault_of_check(fault: &CheckFontFault, points: u64) -> HintcheckAnswer
-    ensures { result ≡ check_answer fault.now points }
-{
-    match fault {
-        CheckFontFault::Font(fault) => fault_of_font(fault, points),
-        CheckFontFault::Form(place) => fault_answer(FAULT, FORM_FAULT, *place, points),
-        CheckFontFault::Read => fault_answer(FAULT, READ_FAULT, 0, points),
-        CheckFontFault::OutOfMemory(_) => fault_answer(OUT_OF_MEMORY, MEMORY_FAULT, 0, points),
-        CheckFontFault::Budget => fault_answer(BUDGET, BUDGET_FAULT, 0, points),
+        AnswerFault::Font(fault) => fault_of_font(fault, points),
+        AnswerFault::Form(place) => fault_answer(FAULT, FORM_FAULT, *place, points),
+        AnswerFault::Read => fault_answer(FAULT, READ_FAULT, 0, points),
+        AnswerFault::Write | AnswerFault::Print(_) => fault_answer(FAULT, WRITE_FAULT, 0, points),
+        AnswerFault::Exhausted(Exhausted::Memory) => {
+            fault_answer(OUT_OF_MEMORY, MEMORY_FAULT, 0, points)
+        }
+        AnswerFault::Exhausted(Exhausted::Budget) => {
+            fault_answer(BUDGET, BUDGET_FAULT, 0, points)
+        }
     }
 }

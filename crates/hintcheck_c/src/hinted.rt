@@ -9,13 +9,14 @@ ghost use Rattle.tt_font.specs.Files.{font_glyph_count};
 ghost use Rattle.tt_font.specs.Reading.{FontData, Reads};
 ghost use Rattle.hintcheck_fonts.specs.FontPrograms.{IsVerdict};
 ghost use Rattle.hintcheck_fonts.specs.SymbolicVerdicts.{IsSymbolicVerdict};
-ghost use Rattle.hintcheck_c.specs.Answers.{Answers, IsFaultOfVerdict, judging_answer};
+ghost use Rattle.hintcheck_report.specs.declared.answer_fault.AnswerFault.{AnswerFault};
+ghost use Rattle.tt_abs.specs.declared.exhausted.Exhausted.{Exhausted as By};
+ghost use Rattle.hintcheck_c.specs.Answers.{Answers, IsFaultOfVerdict, unanswered};
 ghost use Rattle.hintcheck_c.specs.Representation.HintedSets.{AreHinted, Tell};
 
-use crate::answer::{HintcheckAnswer, answer_verdict, fault_of_verdict};
+use crate::answer::{HintcheckAnswer, answer_verdict, fault_of};
 use hintcheck_fonts::{
-    Budget, FontFault, Name, Refused, Verdict, VerdictFault, verdict_symbolic_within,
-    verdict_within,
+    AnswerFault, Budget, FontFault, Name, Refused, Verdict, verdict_symbolic_within, verdict_within,
 };
 use std::alloc::Global;
 use tt_components::retain_closed;
@@ -90,13 +91,13 @@ pub(crate) fn judge_hinting(
     alloc: Global,
     font: &[u8],
     budget: &mut Budget,
-) -> Result<Hinting, VerdictFault>
+) -> Result<Hinting, AnswerFault>
     ensures given { IfOk result (λ h. (d : FontData) × Reads font.now d × IsVerdict d h.verdict) }
     ensures glyphs { IfOk result (λ h. AreHinted font.now h.verdict.refused h.glyphs.items) }
     ensures whole { IfOk result (λ h. font_fault font.now ≡ None) }
     ensures fault { IfErr result (IsFaultOfVerdict font.now) }
     ensures spends { Spends budget.old budget.new }
-    ensures exceeded { IfErr result (λ fault. fault ≡ VerdictFault.Budget → IsExceeded budget.new) }
+    ensures exceeded { IfErr result (λ fault. fault ≡ AnswerFault.Exhausted By.Budget → IsExceeded budget.new) }
 {
     let verdict = verdict_within(alloc, font, budget)?;
     Ok(with_glyphs(alloc, font, verdict)?)
@@ -108,12 +109,12 @@ pub(crate) fn judge_hinting_symbolic(
     alloc: Global,
     font: &[u8],
     steps: u64,
-) -> Result<Hinting, VerdictFault>
+) -> Result<Hinting, AnswerFault>
     ensures given { IfOk result (λ h. (d : FontData) × Reads font.now d
         × IsSymbolicVerdict d h.verdict) }
     ensures glyphs { IfOk result (λ h. AreHinted font.now h.verdict.refused h.glyphs.items) }
     ensures fault { IfErr result (IsFaultOfVerdict font.now) }
-    ensures unbounded { IfErr result (λ fault. fault ≢ VerdictFault.Budget) }
+    ensures unbounded { IfErr result (λ fault. fault ≢ AnswerFault.Exhausted By.Budget) }
 {
     let verdict = verdict_symbolic_within(alloc, font, steps)?;
     Ok(with_glyphs(alloc, font, verdict)?)
@@ -144,15 +145,15 @@ pub(crate) fn answer_hinting(hinting: &Hinting, may_hint: &mut [u8], points: u64
 /// Returns a fault as an answer, after this many points, and tells that no glyph may be drawn with
 /// hints.
 pub(crate) fn answer_no_hinting(
-    fault: &VerdictFault,
+    fault: &AnswerFault,
     may_hint: &mut [u8],
     points: u64,
 ) -> HintcheckAnswer
-    ensures answer { result ≡ judging_answer fault.now points }
-    ensures status { fault.now ≢ VerdictFault.Budget → result.status ≤ 3 }
+    ensures answer { result ≡ unanswered fault.now points }
+    ensures status { fault.now ≢ AnswerFault.Exhausted By.Budget → result.status ≤ 3 }
     ensures tell { Tell [] may_hint.new }
     ensures len { length may_hint.new ≡ length may_hint.old }
 {
     tell(&[], may_hint);
-    fault_of_verdict(fault, points)
+    fault_of(fault, points)
 }

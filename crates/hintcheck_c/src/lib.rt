@@ -13,6 +13,8 @@ ghost use Rattle.hintcheck_fonts.specs.SymbolicVerdicts.{IsSymbolicVerdict};
 ghost use Rattle.hintcheck_c.specs.Answers.{AnswersCheck, AnswersCheckFault, AnswersFontFault, AnswersSymbolicVerdict, AnswersVerdict, IsFaultOfCheck, IsFaultOfVerdict};
 ghost use Rattle.hintcheck_c.specs.MayHint.{AnswersMayHint, AnswersMayHintSymbolic, HoldSafeGlyph, HoldSymbolicSafeGlyphs};
 ghost use Rattle.hintcheck_c.specs.ReasonTexts.{c_string};
+ghost use Rattle.hintcheck_report.specs.declared.answer_fault.AnswerFault.{AnswerFault};
+ghost use Rattle.tt_abs.specs.declared.exhausted.Exhausted.{Exhausted as By};
 ghost use Rattle.hintcheck_report.specs.ReasonNumbers.{IsReasonNumber};
 ghost use Rattle.tt_font.specs.Reading.{FontData, Reads};
 
@@ -22,10 +24,9 @@ mod reason;
 mod refusal;
 
 pub use answer::HintcheckAnswer;
-use answer::{answer_verdict, fault_of_check, fault_of_verdict};
+use answer::{answer_verdict, fault_of};
 use hintcheck_fonts::{
-    Budget, CheckFontFault, Verdict, VerdictFault, check_font_within, verdict_symbolic_within,
-    verdict_within,
+    AnswerFault, Budget, Verdict, check_font_within, verdict_symbolic_within, verdict_within,
 };
 use hintcheck_report::reason_of;
 use hinted::{answer_hinting, answer_no_hinting, judge_hinting, judge_hinting_symbolic};
@@ -97,20 +98,20 @@ pub extern "C" fn hintcheck_verdict_of_bytes(
     let mut budget = Budget::of(points);
     *answer = match verdict_within(alloc, font, &mut budget) {
         Ok(verdict) => answer_verdict(&verdict, refusals, budget.made()),
-        Err(fault) => fault_of_verdict(&fault, budget.made()),
+        Err(fault) => fault_of(&fault, budget.made()),
     };
     answer.status
 }
 
 /// Returns the verdict by symbolic states on the programs of a font, with so many steps.
-fn judge_symbolic(alloc: Global, font: &[u8], steps: u64) -> Result<Verdict, VerdictFault>
+fn judge_symbolic(alloc: Global, font: &[u8], steps: u64) -> Result<Verdict, AnswerFault>
     ensures given { IfOk result (λ v. (d : FontData) × Reads font.now d × IsSymbolicVerdict d v) }
     ensures fault { IfErr result (IsFaultOfVerdict font.now) }
-    ensures unbounded { IfErr result (λ fault. fault ≢ VerdictFault.Budget) }
+    ensures unbounded { IfErr result (λ fault. fault ≢ AnswerFault.Exhausted By.Budget) }
 {
     match verdict_symbolic_within(alloc, font, steps) {
         Ok(verdict) => Ok(verdict),
-        Err(fault) => Err(VerdictFault::Font(fault)),
+        Err(fault) => Err(AnswerFault::Font(fault)),
     }
 }
 
@@ -145,7 +146,7 @@ pub extern "C" fn hintcheck_verdict_symbolic_of_bytes(
 {
     *answer = match judge_symbolic(alloc, font, steps) {
         Ok(verdict) => answer_verdict(&verdict, refusals, 0),
-        Err(fault) => fault_of_verdict(&fault, 0),
+        Err(fault) => fault_of(&fault, 0),
     };
     answer.status
 }
@@ -157,7 +158,7 @@ fn check_bytes(
     font: &[u8],
     certificate: &[u8],
     budget: &mut Budget,
-) -> Result<Verdict, CheckFontFault>
+) -> Result<Verdict, AnswerFault>
     ensures safe { IfOk result (λ v. (d : FontData) × Reads font.now d
         × (v.refused ≡ [] → IsSafeFont d)) }
     ensures exact { IfOk result (λ v. (d : FontData) × Reads font.now d
@@ -165,7 +166,7 @@ fn check_bytes(
     ensures fault { IfErr result (IsFaultOfCheck font.now certificate.now) }
     ensures spends { Spends budget.old budget.new }
     ensures exceeded { IfErr result
-        (λ fault. fault ≡ CheckFontFault.Budget → IsExceeded budget.new) }
+        (λ fault. fault ≡ AnswerFault.Exhausted By.Budget → IsExceeded budget.new) }
 {
     check_font_within(alloc, font, &mut Bytes::new(certificate), budget)
 }
@@ -202,7 +203,7 @@ pub extern "C" fn hintcheck_check_of_bytes(
     let mut budget = Budget::of(points);
     *answer = match check_bytes(alloc, font, certificate, &mut budget) {
         Ok(verdict) => answer_verdict(&verdict, refusals, budget.made()),
-        Err(fault) => fault_of_check(&fault, budget.made()),
+        Err(fault) => fault_of(&fault, budget.made()),
     };
     answer.status
 }

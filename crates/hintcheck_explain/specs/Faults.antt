@@ -13,14 +13,16 @@ use Rattle.hintcheck_report.specs.Places.{reported_at}
 use Rattle.hintcheck_report.specs.declared.refused.Refused.{Refused}
 use Rattle.hintcheck_explain.specs.declared.asked.Explained.{Explained}
 use Rattle.hintcheck_explain.specs.declared.asked.Explained.TheVariants as explained
-use Rattle.hintcheck_explain.specs.declared.asked.ExplainFault.{ExplainFault}
-use Rattle.hintcheck_explain.specs.declared.asked.ExplainFault.TheVariants as fault
+use Rattle.hintcheck_report.specs.declared.answer_fault.AnswerFault.{AnswerFault}
+use Rattle.hintcheck_report.specs.declared.answer_fault.AnswerFault.TheVariants as fault
 
--- the count of failed writes goes up by one exactly where the fault is a failed write
-abbrev pub TellsFailure : {T : Type 0} → Result T ExplainFault → ℕ → ℕ → Type 0
+-- the count of failed writes goes up by one exactly where the fault is a failed write; there are no
+-- other faults than those of printing, and that memory or the budget ran out
+abbrev pub TellsFailure : {T : Type 0} → Result T AnswerFault → ℕ → ℕ → Type 0
 TellsFailure (Ok done) old new = new ≡ old
-TellsFailure (Err (fault.Write failed)) old new = CountsPrintFailure (Err failed) old new
-TellsFailure (Err other) old new = new ≡ old
+TellsFailure (Err (fault.Print failed)) old new = CountsPrintFailure (Err failed) old new
+TellsFailure (Err (fault.Exhausted by)) old new = new ≡ old
+TellsFailure (Err other) old new = ⊥
 
 -- some family can be filled up to the least good one
 abbrev pub HasLeast : Subject → Type 0

@@ -7,13 +7,13 @@ ghost use Rattle.tt_abs.specs.StateFlow.{FunctionsFit};
 ghost use Rattle.hintcheck_explain.specs.Faults.{IsAnsweredFor, TellsFailure};
 
 use crate::accepted::tell_accepted;
-use crate::asked::{Asked, ExplainFault, Explained, place_of};
+use crate::asked::{Asked, Explained, place_of};
 use crate::excerpt::{Code, Excerpt};
 use crate::explored_program::{ExploredProgram, code_of};
 use crate::needs::tell_needs;
 use crate::reached::tell_contexts;
 use crate::refusal::tell_refusal;
-use hintcheck_report::Refused;
+use hintcheck_report::{AnswerFault, Refused};
 use std::alloc::Global;
 use tt_abs::{Refusal, Setting};
 use tt_family::Budget;
@@ -27,7 +27,7 @@ fn tell_site<O: Sink>(
     subject: &ExploredProgram<'_>,
     site: Site,
     out: &mut O,
-) -> Result<(), ExplainFault>
+) -> Result<(), AnswerFault>
     ensures failures { TellsFailure result (O.failures out.old) (O.failures out.new) }
 {
     let place = place_of(subject.name, site);
@@ -43,14 +43,14 @@ fn tell_site<O: Sink>(
 /// reason. At most as many points are made as the budget allows.
 ///
 /// # Errors
-/// `Write` where the text wasn't printed; `Exhausted`.
+/// `Print` where the text wasn't printed; `Exhausted`. No other comes.
 pub fn explain<O: Sink>(
     alloc: Global,
     setting: &Setting<'_>,
     asked: Asked,
     budget: &mut Budget,
     out: &mut O,
-) -> Result<Explained, ExplainFault>
+) -> Result<Explained, AnswerFault>
     requires ascends { Ascends setting.now.start.now }
     requires fits { FunctionsFit (setting_of setting.now) setting.now.start.now }
     ensures answered { IfOk result (IsAnsweredFor setting.now asked.program) }
@@ -88,6 +88,6 @@ pub fn explain<O: Sink>(
             }
             Ok(Explained::Refused(refused))
         }
-        Some(Refusal::Exhausted(by)) => Err(ExplainFault::from(by)),
+        Some(Refusal::Exhausted(by)) => Err(AnswerFault::Exhausted(by)),
     }
 }

@@ -34,7 +34,7 @@ mod trouble;
 mod unread;
 mod view;
 
-pub use asked::{Asked, ExplainFault, Explained};
+pub use asked::{Asked, Explained};
 pub use explaining::explain;
 pub use reason_text::explain_reason;
 pub use symbolic::explain_symbolic;

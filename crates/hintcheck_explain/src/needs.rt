@@ -9,8 +9,7 @@ ghost use Rattle.tt_find.specs.FoundSubjects.{IsJustifiedFor};
 ghost use Rattle.hintcheck_explain.specs.Faults.{HasLeast, TellsFailure};
 ghost use Rattle.hintcheck_explain.specs.Representation.Needs.{raised};
 
-use crate::asked::ExplainFault;
-use hintcheck_report::{Bound, Place};
+use hintcheck_report::{AnswerFault, Bound, Place};
 use std::alloc::Global;
 use tt_abs::{Exhausted, Failed, Refusal, Setting};
 use tt_cert::Name;
@@ -105,7 +104,7 @@ pub(crate) fn tell_needs<O: Sink>(
     failed: Failed,
     budget: &mut Budget,
     out: &mut O,
-) -> Result<(), ExplainFault>
+) -> Result<(), AnswerFault>
     requires ascends { Ascends setting.now.start.now }
     requires fits { FunctionsFit (setting_of setting.now) setting.now.start.now }
     ensures failures { TellsFailure result (O.failures out.old) (O.failures out.new) }
@@ -140,6 +139,6 @@ pub(crate) fn tell_needs<O: Sink>(
             )?;
             Ok(())
         }
-        Some(Refusal::Exhausted(by)) => Err(ExplainFault::from(by)),
+        Some(Refusal::Exhausted(by)) => Err(AnswerFault::Exhausted(by)),
     }
 }

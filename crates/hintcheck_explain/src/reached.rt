@@ -2,12 +2,11 @@
 
 ghost use Rattle.hintcheck_explain.specs.Faults.{TellsFailure};
 
-use crate::asked::ExplainFault;
 use crate::effect_text::tell_effect;
 use crate::explored_program::ExploredProgram;
 use crate::knowledge::{StateText, tell_state};
 use crate::view::View;
-use hintcheck_report::{Place, program_at};
+use hintcheck_report::{AnswerFault, Place, program_at};
 use std::alloc::Global;
 use tt_abs::State;
 use tt_family::PointKey;
@@ -23,7 +22,7 @@ fn tell_context<O: Sink>(
     point: PointKey,
     state: &State,
     out: &mut O,
-) -> Result<(), ExplainFault>
+) -> Result<(), AnswerFault>
     ensures failures { TellsFailure result (O.failures out.old) (O.failures out.new) }
 {
     let frames = subject.frames(alloc, point.0)?;
@@ -55,13 +54,13 @@ fn next_context<'a>(
 /// and whether there are more of these; or that there is none.
 ///
 /// # Errors
-/// `Write` where the text wasn't printed; `Exhausted`.
+/// `Print` where the text wasn't printed; `Exhausted`. No other comes.
 pub(crate) fn tell_contexts<O: Sink>(
     alloc: Global,
     subject: &ExploredProgram<'_>,
     place: Place,
     out: &mut O,
-) -> Result<(), ExplainFault>
+) -> Result<(), AnswerFault>
     ensures failures { TellsFailure result (O.failures out.old) (O.failures out.new) }
 {
     let mut from = 0;

@@ -7,7 +7,6 @@ ghost use Rattle.hintcheck_explain.specs.Faults.{TellsFailure};
 ghost use Rattle.hintcheck_explain.specs.Representation.Causes.{IsCause, IsCaseOf};
 
 use crate::arrivals::{Edge, Ways, depths_at, edges_of};
-use crate::asked::ExplainFault;
 use crate::cause::{tell_cause, tell_cause_of_program};
 use crate::excerpt::{Code, Excerpt};
 use crate::explored_program::{ExploredProgram, code_of};
@@ -18,7 +17,7 @@ use crate::route::route_to;
 use crate::stepping::{StepOutcome, outcome_at};
 use crate::trouble::Trouble;
 use crate::view::View;
-use hintcheck_report::Place;
+use hintcheck_report::{AnswerFault, Place};
 use std::alloc::{AllocError, Global};
 use tt_abs::{Failed, Spot, State};
 use tt_code::{Frame, Reason};
@@ -105,7 +104,7 @@ fn tell_origin<O: Sink>(
     edges: &[Edge],
     case: &Case<'_>,
     out: &mut O,
-) -> Result<(), ExplainFault>
+) -> Result<(), AnswerFault>
     ensures failures { TellsFailure result (O.failures out.old) (O.failures out.new) }
 {
     if let Some(element) = case.trouble.element(case.state.depth()) {
@@ -143,7 +142,7 @@ fn tell_route<O: Sink>(
     edges: &[Edge],
     point: PointKey,
     out: &mut O,
-) -> Result<(), ExplainFault>
+) -> Result<(), AnswerFault>
     ensures failures { TellsFailure result (O.failures out.old) (O.failures out.new) }
 {
     let route = route_to(alloc, subject, edges, point)?;
@@ -159,7 +158,7 @@ fn tell_routes<O: Sink>(
     edges: &[Edge],
     case: &Case<'_>,
     out: &mut O,
-) -> Result<(), ExplainFault>
+) -> Result<(), AnswerFault>
     ensures failures { TellsFailure result (O.failures out.old) (O.failures out.new) }
 {
     if let Trouble::Depths { one, other } = case.trouble {
@@ -177,7 +176,7 @@ fn tell_case<O: Sink>(
     case: &Case<'_>,
     reason: Reason,
     out: &mut O,
-) -> Result<(), ExplainFault>
+) -> Result<(), AnswerFault>
     ensures failures { TellsFailure result (O.failures out.old) (O.failures out.new) }
 {
     tell_cause(
@@ -198,7 +197,7 @@ fn tell_case<O: Sink>(
 /// has a state.
 ///
 /// # Errors
-/// `Write` where the text wasn't printed; `Exhausted`.
+/// `Print` where the text wasn't printed; `Exhausted`. No other comes.
 pub(crate) fn tell_refusal<O: Sink>(
     alloc: Global,
     subject: &ExploredProgram<'_>,
@@ -206,7 +205,7 @@ pub(crate) fn tell_refusal<O: Sink>(
     offset: u32,
     failed: Failed,
     out: &mut O,
-) -> Result<(), ExplainFault>
+) -> Result<(), AnswerFault>
     ensures failures { TellsFailure result (O.failures out.old) (O.failures out.new) }
 {
     let edges = edges_of(alloc, subject)?;

@@ -4,7 +4,7 @@ ghost use Rattle.tt_stream.specs.Streams.{CountsPrintFailure};
 ghost use Rattle.hintcheck_explain.specs.Faults.{TellsFailure};
 
 use crate::accepted::count_instructions;
-use crate::asked::{Asked, ExplainFault};
+use crate::asked::Asked;
 use crate::cause::{tell_cause, tell_cause_of_program};
 use crate::effect_text::tell_effect;
 use crate::excerpt::{Code, Excerpt};
@@ -15,7 +15,7 @@ use crate::origin_text::SymbolOriginText;
 use crate::symbolic_case::trouble_of;
 use crate::trouble::Trouble;
 use crate::view::{View, symbolic_cell};
-use hintcheck_report::{Place, Refused};
+use hintcheck_report::{AnswerFault, Place, Refused};
 use std::alloc::Global;
 use tt_abs::{Setting, Spot};
 use tt_cert::Name;
@@ -90,7 +90,7 @@ fn tell_known<O: Sink>(
     searched: Searched<'_>,
     known: &KnownState,
     out: &mut O,
-) -> Result<(), ExplainFault>
+) -> Result<(), AnswerFault>
     ensures failures { TellsFailure result (O.failures out.old) (O.failures out.new) }
 {
     let state = &known.state;
@@ -106,7 +106,7 @@ fn tell_states<O: Sink>(
     searched: Searched<'_>,
     seen: &[KnownState],
     out: &mut O,
-) -> Result<(), ExplainFault>
+) -> Result<(), AnswerFault>
     ensures failures { TellsFailure result (O.failures out.old) (O.failures out.new) }
 {
     for known in seen {
@@ -123,7 +123,7 @@ fn tell_place<O: Sink>(
     searched: Searched<'_>,
     place: Place,
     out: &mut O,
-) -> Result<(), ExplainFault>
+) -> Result<(), AnswerFault>
     ensures failures { TellsFailure result (O.failures out.old) (O.failures out.new) }
 {
     let listing = searched.listing(place);
@@ -178,7 +178,7 @@ fn tell_case<O: Sink>(
     known: &KnownState,
     reason: Reason,
     out: &mut O,
-) -> Result<(), ExplainFault>
+) -> Result<(), AnswerFault>
     ensures failures { TellsFailure result (O.failures out.old) (O.failures out.new) }
 {
     let state = &known.state;
@@ -203,7 +203,7 @@ fn tell_refusal<O: Sink>(
     searched: Searched<'_>,
     refused: Refused,
     out: &mut O,
-) -> Result<(), ExplainFault>
+) -> Result<(), AnswerFault>
     ensures failures { TellsFailure result (O.failures out.old) (O.failures out.new) }
 {
     match searched.refused() {
@@ -220,7 +220,7 @@ fn tell_refusal<O: Sink>(
 /// search knows there, and of a refusal only its place and its reason.
 ///
 /// # Errors
-/// `Write` where the text wasn't printed; `Exhausted`.
+/// `Print` where the text wasn't printed; `Exhausted`. No other comes.
 pub fn explain_symbolic<O: Sink>(
     alloc: Global,
     setting: &Setting<'_>,
@@ -228,7 +228,7 @@ pub fn explain_symbolic<O: Sink>(
     refused: Option<Refused>,
     insight: Option<&Insight>,
     out: &mut O,
-) -> Result<(), ExplainFault>
+) -> Result<(), AnswerFault>
     ensures failures { TellsFailure result (O.failures out.old) (O.failures out.new) }
 {
     let searched = Searched {

@@ -1,9 +1,10 @@
 //! The faults of the library's calls, each with its number, as they are printed.
 
 use anyhow::Result;
-use hintcheck_fonts::{CheckFontFault, FindFontFault, FontFault, UpgradeFault, VerdictFault};
+use hintcheck_fonts::{AnswerFault, FontFault, UpgradeFault};
 use std::alloc::Global;
 use std::fmt::Display;
+use tt_abs::Exhausted;
 
 /// A fault that has a number.
 pub(crate) trait Fault: Display {
@@ -17,34 +18,15 @@ impl Fault for FontFault {
     }
 }
 
-impl Fault for VerdictFault {
+impl Fault for AnswerFault {
     fn number(&self) -> u8 {
         match self {
-            VerdictFault::Font(font) => font.number(),
-            VerdictFault::Budget => 46,
-        }
-    }
-}
-
-impl Fault for CheckFontFault {
-    fn number(&self) -> u8 {
-        match self {
-            CheckFontFault::Font(font) => font.number(),
-            CheckFontFault::Form(_) => 43,
-            CheckFontFault::Read => 44,
-            CheckFontFault::OutOfMemory(_) => 9,
-            CheckFontFault::Budget => 46,
-        }
-    }
-}
-
-impl Fault for FindFontFault {
-    fn number(&self) -> u8 {
-        match self {
-            FindFontFault::Font(font) => font.number(),
-            FindFontFault::Write => 45,
-            FindFontFault::OutOfMemory(_) => 9,
-            FindFontFault::Budget => 46,
+            AnswerFault::Font(font) => font.number(),
+            AnswerFault::Form(_) => 43,
+            AnswerFault::Read => 44,
+            AnswerFault::Write | AnswerFault::Print(_) => 45,
+            AnswerFault::Exhausted(Exhausted::Memory) => 9,
+            AnswerFault::Exhausted(Exhausted::Budget) => 46,
         }
     }
 }

@@ -17,8 +17,9 @@ use Rattle.tt_cert.specs.Text.{header_text, section_text}
 use Rattle.tt_find.specs.declared.finder.Found.{Found}
 use Rattle.tt_font.specs.Reading.{FontData, GlyphData}
 use Rattle.tt_stream.specs.Streams.{AppendsBeginning}
-use Rattle.hintcheck_fonts.specs.BudgetAnswers.{IsFindFaultOutsideFont}
-use Rattle.hintcheck_fonts.specs.CertificateFaults.{CountsFind, fault_of_encoding}
+use Rattle.hintcheck_report.specs.AnswerFaults.{fault_of_certificate}
+use Rattle.hintcheck_fonts.specs.BudgetAnswers.{IsOutsideFont}
+use Rattle.hintcheck_fonts.specs.CertificateFaults.{CountsFind}
 use Rattle.hintcheck_fonts.specs.CertificateTexts.{AreGlyphTexts, IsCertificate, IsEndedText, IsPassingCertificate, IsReadableListing, IsTextOf, WritesBeginning, WritesText, no_glyphs, one_more}
 use Rattle.hintcheck_fonts.specs.FindingSessions.{AreFirstSections, IsCertificateBegun, IsFoundFor, IsFoundToEnd, IsOutcomeByFinding, cvt_found, font_found, glyph_found, none_yet, one_program_more}
 use Rattle.hintcheck_fonts.specs.Representation.FontVerdicts.{AreAllRefused}
@@ -49,14 +50,14 @@ pub refuses_none : (d : FontData) (rs : List Refused) (n : ℕ) → n ≡ length
 refuses_none d rs n long all zero = (judgement_on d rs, all, nil_from_length rs (sym long ∙ zero))
 
 -- a section that can't be written counts as the search for a certificate counts
-pub counts_encoding : (e : CertFault) (a b n : ℕ) → b ≡ a → CountsWrite {T = Unit {0}} (Err e) b n → CountsFind {T = Unit {0}} (Err (fault_of_encoding e)) a n
+pub counts_encoding : (e : CertFault) (a b n : ℕ) → b ≡ a → CountsWrite {T = Unit {0}} (Err e) b n → CountsFind {T = Unit {0}} (Err (fault_of_certificate e)) a n
 counts_encoding cert.Write a b n same counted = counted ∙ ap (λ k. k + 1) same
 counts_encoding (cert.Form place) a b n same counted = absurd counted
 counts_encoding cert.Read a b n same counted = absurd counted
 counts_encoding (cert.OutOfMemory error) a b n same counted = counted ∙ same
 
 -- and that isn't the font's fault
-pub encoding_no_font : (e : CertFault) → IsFindFaultOutsideFont (fault_of_encoding e)
+pub encoding_no_font : (e : CertFault) → IsOutsideFont (fault_of_certificate e)
 encoding_no_font cert.Write = tt
 encoding_no_font (cert.Form place) = tt
 encoding_no_font cert.Read = tt

@@ -12,11 +12,12 @@ use Rattle.tt_cert.specs.declared.name.Name.{Name}
 use Rattle.tt_cert.specs.Reading.{section_at}
 use Rattle.tt_cert.specs.Sections.{section_of}
 use Rattle.tt_font.specs.Reading.{GlyphData}
-use Rattle.hintcheck_fonts.specs.CertificateFaults.{ComesTo, CountsCheck, fault_of_decoding}
+use Rattle.hintcheck_fonts.specs.CertificateFaults.{ComesTo, CountsCheck}
 use Rattle.hintcheck_fonts.specs.Certificates.{Finding, HasNoSection, IsSectionOf, not_read, of_another, refused_before}
 use Rattle.hintcheck_fonts.specs.CheckedFonts.{Finds, IsTold, all_refused}
-use Rattle.hintcheck_fonts.specs.declared.font_check.CheckFontFault.{CheckFontFault}
-use Rattle.hintcheck_fonts.specs.declared.font_check.CheckFontFault.TheVariants as check
+use Rattle.hintcheck_report.specs.AnswerFaults.{fault_of_certificate}
+use Rattle.hintcheck_report.specs.declared.answer_fault.AnswerFault.{AnswerFault}
+use Rattle.hintcheck_report.specs.declared.answer_fault.AnswerFault.TheVariants as fault
 use Rattle.hintcheck_report.specs.declared.refused.Refused.{Refused}
 
 -- sections
@@ -57,17 +58,18 @@ pub all_dropped : (glyphs : List GlyphData) → drop (length glyphs) glyphs ≡ 
 all_dropped glyphs = drop_all (length glyphs) glyphs (omega arith)
 
 -- a fault, which names a place of what was asked, names one of what is asked now
-pub finds_fault : {T U : Type 0} (Is : T → Type 0) (Is' : U → Type 0) (At At' : ℕ → Type 0) (e : CheckFontFault) → Finds {T = T} (Err e) Is At → ((place : ℕ) → At place → At' place)
+pub finds_fault : {T U : Type 0} (Is : T → Type 0) (Is' : U → Type 0) (At At' : ℕ → Type 0) (e : AnswerFault) → Finds {T = T} (Err e) Is At → ((place : ℕ) → At place → At' place)
     → Finds {T = U} (Err e) Is' At'
-finds_fault Is Is' At At' (check.Form place) h f = f place h
-finds_fault Is Is' At At' check.Read h f = tt
-finds_fault Is Is' At At' (check.Font e) h f = tt
-finds_fault Is Is' At At' (check.OutOfMemory e) h f = tt
-finds_fault Is Is' At At' check.Budget h f = tt
+finds_fault Is Is' At At' (fault.Form place) h f = f place h
+finds_fault Is Is' At At' fault.Read h f = tt
+finds_fault Is Is' At At' (fault.Font e) h f = tt
+finds_fault Is Is' At At' fault.Write h f = tt
+finds_fault Is Is' At At' (fault.Print e) h f = tt
+finds_fault Is Is' At At' (fault.Exhausted by) h f = tt
 
 -- so does a section that isn't there
 pub finds_decoding : {T U : Type 0} (Is : T → Type 0) (Is' : U → Type 0) (At At' : ℕ → Type 0) (e : CertFault) → ComesTo {T = T} (Err e) Is At → ((place : ℕ) → At place → At' place)
-    → Finds {T = U} (Err (fault_of_decoding e)) Is' At'
+    → Finds {T = U} (Err (fault_of_certificate e)) Is' At'
 finds_decoding Is Is' At At' (cert.Form place) h f = f place h
 finds_decoding Is Is' At At' cert.Read h f = tt
 finds_decoding Is Is' At At' cert.Write h f = tt
@@ -75,5 +77,5 @@ finds_decoding Is Is' At At' (cert.OutOfMemory e) h f = tt
 
 -- failures are counted from before the call too, where nothing failed till then
 
-pub counts_from : (e : CheckFontFault) (first old new : ℕ) → old ≡ first → CountsCheck {T = Unit {0}} (Err e) old new → CountsCheck {T = Unit {0}} (Err e) first new
+pub counts_from : (e : AnswerFault) (first old new : ℕ) → old ≡ first → CountsCheck {T = Unit {0}} (Err e) old new → CountsCheck {T = Unit {0}} (Err e) first new
 counts_from e first old new same h = let C : ℕ → Type 0 = λ n. CountsCheck {T = Unit {0}} (Err e) n new in subst C same h

@@ -19,14 +19,14 @@ use Rattle.tt_cert.proofs.Codecs.{bind_ok, here, ok_is, unit_takes}
 use Rattle.tt_cert.proofs.Steady.{IsSteady, and_then_steady, list_steady, made_of_steady, step, step_steady}
 use Rattle.tt_cert.proofs.SteadyUnits.{contexts_steady, entry_steady, form_steady, long_steady, magic_steady, name_steady}
 use Rattle.tt_font.specs.Reading.{FontData}
-use Rattle.hintcheck_fonts.specs.CertificateFaults.{fault_of_decoding}
+use Rattle.hintcheck_report.specs.AnswerFaults.{fault_of_certificate}
 use Rattle.hintcheck_fonts.specs.Certificates.{HasNoSection, IsSectionOf, not_read}
 use Rattle.hintcheck_fonts.specs.CheckedFonts.{IsTold}
 use Rattle.hintcheck_fonts.specs.FailedReads.{EndsInCall, EndsInSection, HasRead, IsCutHeader, after_all, in_header, in_section, in_sections}
 use Rattle.hintcheck_fonts.specs.Representation.SessionStages.{read_of}
 use Rattle.hintcheck_fonts.specs.Sessions.{AnswersNext, IsFaultAt, IsLast, IsOutcomeBySection, ReadsOn, Stage, Standing, at_header, cvt_fails, cvt_passes, font_fails, font_passes, glyph_fails, glyph_passes, standing_at, where_it_was}
-use Rattle.hintcheck_fonts.specs.declared.font_check.CheckFontFault.{CheckFontFault}
-use Rattle.hintcheck_fonts.specs.declared.font_check.CheckFontFault.TheVariants as check
+use Rattle.hintcheck_report.specs.declared.answer_fault.AnswerFault.{AnswerFault}
+use Rattle.hintcheck_report.specs.declared.answer_fault.AnswerFault.TheVariants as fault
 use Rattle.hintcheck_fonts.specs.declared.sections.Progress.{Progress}
 use Rattle.hintcheck_fonts.specs.declared.session.Outcome.{Outcome}
 
@@ -241,7 +241,7 @@ ends_there s front form from reads =
 -- in a section
 pub section_cut_short : (d : FontData) (form : Form) (stage : Stage) (called : Name) (place : ℕ) (old new : Option (List ℕ)) (e : CertFault) (a b : ℕ) → CountsRead {T = Unit {0}} (Err e) a b
     → ((i : Input) (at : ℕ) → HasNoSection form i called at → IsFaultAt d form i stage at) → StopsAtEnd place old new (section_at form) e
-    → HasRead old new (λ front. EndsInSection d form stage (input_at place (Some front))) (fault_of_decoding e)
+    → HasRead old new (λ front. EndsInSection d form stage (input_at place (Some front))) (fault_of_certificate e)
 section_cut_short d form stage called place old new (cert.Form at) a b counted no_section stops = tt
 section_cut_short d form stage called place old new cert.Write a b counted no_section stops = absurd counted
 section_cut_short d form stage called place old new (cert.OutOfMemory error) a b counted no_section stops = tt
@@ -251,7 +251,7 @@ section_cut_short d form stage called place old new cert.Read a b counted no_sec
     (s.front, s.consumed, in_section (no_section (input_at place (Some s.front)) at (not_read at s.refused)))
 
 -- in a header
-pub header_cut_short : (old new : Option (List ℕ)) (e : CertFault) (a b : ℕ) → CountsRead {T = Unit {0}} (Err e) a b → StopsAtEnd 0 old new header_at e → HasRead old new IsCutHeader (fault_of_decoding e)
+pub header_cut_short : (old new : Option (List ℕ)) (e : CertFault) (a b : ℕ) → CountsRead {T = Unit {0}} (Err e) a b → StopsAtEnd 0 old new header_at e → HasRead old new IsCutHeader (fault_of_certificate e)
 header_cut_short old new (cert.Form at) a b counted stops = tt
 header_cut_short old new cert.Write a b counted stops = absurd counted
 header_cut_short old new (cert.OutOfMemory error) a b counted stops = tt
@@ -260,7 +260,7 @@ header_cut_short old new cert.Read a b counted stops = λ told. let s = stops to
 -- nothing was read after all sections
 pub end_not_read : (d : FontData) (form : Form) (stage : Stage) (place : ℕ) (old new : Option (List ℕ)) (e : CertFault) (a b : ℕ) → CountsRead {T = Unit {0}} (Err e) a b
     → IsLast d stage → (e ≡ cert.Read → Keeps old new)
-    → HasRead old new (λ front. EndsInSection d form stage (input_at place (Some front))) (fault_of_decoding e)
+    → HasRead old new (λ front. EndsInSection d form stage (input_at place (Some front))) (fault_of_certificate e)
 end_not_read d form stage place old new (cert.Form at) a b counted last kept = tt
 end_not_read d form stage place old new cert.Write a b counted last kept = absurd counted
 end_not_read d form stage place old new (cert.OutOfMemory error) a b counted last kept = tt
@@ -272,21 +272,23 @@ end_not_read d form stage place old new cert.Read a b counted last kept = λ tol
     consumes_none (Some xs) (Some ys) k = sym k
 
 -- what was read has this too
-pub has_read_weaker : (old new : Option (List ℕ)) (Is Also : List ℕ → Type 0) (e : CheckFontFault) → ((front : List ℕ) → Is front → Also front) → HasRead old new Is e → HasRead old new Also e
-has_read_weaker old new Is Also (check.Form place) so has = tt
-has_read_weaker old new Is Also (check.Font font) so has = tt
-has_read_weaker old new Is Also (check.OutOfMemory error) so has = tt
-has_read_weaker old new Is Also check.Budget so has = tt
-has_read_weaker old new Is Also check.Read so has = λ told. let (front, consumed, is) = has told in (front, consumed, so front is)
+pub has_read_weaker : (old new : Option (List ℕ)) (Is Also : List ℕ → Type 0) (e : AnswerFault) → ((front : List ℕ) → Is front → Also front) → HasRead old new Is e → HasRead old new Also e
+has_read_weaker old new Is Also (fault.Form place) so has = tt
+has_read_weaker old new Is Also (fault.Font font) so has = tt
+has_read_weaker old new Is Also fault.Write so has = tt
+has_read_weaker old new Is Also (fault.Print failed) so has = tt
+has_read_weaker old new Is Also (fault.Exhausted by) so has = tt
+has_read_weaker old new Is Also fault.Read so has = λ told. let (front, consumed, is) = has told in (front, consumed, so front is)
 
 -- after the header
-pub cut_short_after : (s : Standing) (form : Form) (place : ℕ) (old mid new : Option (List ℕ)) (e : CheckFontFault) → (IsTold old → IsTold mid × ReadsOn s old form (input_at place mid))
+pub cut_short_after : (s : Standing) (form : Form) (place : ℕ) (old mid new : Option (List ℕ)) (e : AnswerFault) → (IsTold old → IsTold mid × ReadsOn s old form (input_at place mid))
     → HasRead mid new (λ front. EndsInSection s.font form s.stage (input_at place (Some front))) e → HasRead old new (EndsInCall s) e
-cut_short_after s form place old mid new (check.Form at) reads has = tt
-cut_short_after s form place old mid new (check.Font font) reads has = tt
-cut_short_after s form place old mid new (check.OutOfMemory error) reads has = tt
-cut_short_after s form place old mid new check.Budget reads has = tt
-cut_short_after s form place old mid new check.Read reads has = λ told.
+cut_short_after s form place old mid new (fault.Form at) reads has = tt
+cut_short_after s form place old mid new (fault.Font font) reads has = tt
+cut_short_after s form place old mid new fault.Write reads has = tt
+cut_short_after s form place old mid new (fault.Print failed) reads has = tt
+cut_short_after s form place old mid new (fault.Exhausted by) reads has = tt
+cut_short_after s form place old mid new fault.Read reads has = λ told.
     let (told', on) = reads told in
     let r = reads_on_always s old form (input_at place mid) on in
     let (front, consumed, ends) = has told' in (
@@ -296,7 +298,7 @@ cut_short_after s form place old mid new check.Read reads has = λ told.
     )
 
 -- a header that isn't read is what is next
-pub header_cut_short_in : {T : Type 0} (d : FontData) (stage : Stage) (known : Option Progress) → known ≡ None → (r : Result T CheckFontFault) (old new : Option (List ℕ))
+pub header_cut_short_in : {T : Type 0} (d : FontData) (stage : Stage) (known : Option Progress) → known ≡ None → (r : Result T AnswerFault) (old new : Option (List ℕ))
     → IfErr r (HasRead old new IsCutHeader) → IfErr r (HasRead old new (EndsInCall (standing_at d stage (read_of known))))
 header_cut_short_in d stage known none (Ok x) old new has = tt
 header_cut_short_in d stage known none (Err e) old new has =

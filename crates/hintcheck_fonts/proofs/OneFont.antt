@@ -11,8 +11,8 @@ use Rattle.tt_cert.specs.Readers.{Input}
 use Rattle.hintcheck_fonts.specs.Certificates.{AreSectionsChecked, Finding, IsChecked, after_header, no_font_section, font_refused, no_cvt_section, cvt_refused, both_passed, no_header, other_number, sections_checked}
 use Rattle.hintcheck_fonts.specs.CheckedFonts.{AnswersFinding, Finds}
 use Rattle.hintcheck_fonts.specs.Verdicts.{Judgement}
-use Rattle.hintcheck_fonts.specs.declared.font_check.CheckFontFault.{CheckFontFault}
-use Rattle.hintcheck_fonts.specs.declared.font_check.CheckFontFault.TheVariants as check
+use Rattle.hintcheck_report.specs.declared.answer_fault.AnswerFault.{AnswerFault}
+use Rattle.hintcheck_report.specs.declared.answer_fault.AnswerFault.TheVariants as fault
 use Rattle.hintcheck_fonts.proofs.OneFinding.{one_finding}
 
 -- sums over lists with the same members, each once
@@ -140,17 +140,18 @@ same_check bytes d e r s certificate f checked =
     check_alike e d.component_reads certificate f (subst (λ (t : FontData). IsChecked t certificate f) (one_font bytes d e r s) checked)
 
 -- where the check of a font by the bytes refuses nothing, neither does what is answered
-pub check_accepts : (font bytes : List ℕ) (read : FontData) (r : Result Judgement CheckFontFault) → Reads font read
+pub check_accepts : (font bytes : List ℕ) (read : FontData) (r : Result Judgement AnswerFault) → Reads font read
     → Finds r (AnswersFinding read bytes) (λ place. IsChecked read bytes (Err place)) → (d : FontData) → Reads font d → IsChecked d bytes (Ok []) → Finds r (λ v. v.refused ≡ []) (λ _. ⊥)
 check_accepts font bytes read (Ok v) reads answers d reads_too checked =
     let same : ◌≡◌ {A = Finding} (Ok v.refused) (Ok []) =
     one_finding read bytes (Ok []) (Ok v.refused) (same_check font d read reads_too reads bytes (Ok []) checked) answers.0 refl in
     cc
-check_accepts font bytes read (Err (check.Form place)) reads answers d reads_too checked =
+check_accepts font bytes read (Err (fault.Form place)) reads answers d reads_too checked =
     let same : ◌≡◌ {A = Finding} (Err place) (Ok []) =
     one_finding read bytes (Ok []) (Err place) (same_check font d read reads_too reads bytes (Ok []) checked) answers refl in
     absurd cc
-check_accepts font bytes read (Err check.Read) reads answers d reads_too checked = tt
-check_accepts font bytes read (Err (check.Font e)) reads answers d reads_too checked = tt
-check_accepts font bytes read (Err (check.OutOfMemory e)) reads answers d reads_too checked = tt
-check_accepts font bytes read (Err check.Budget) reads answers d reads_too checked = tt
+check_accepts font bytes read (Err fault.Read) reads answers d reads_too checked = tt
+check_accepts font bytes read (Err (fault.Font e)) reads answers d reads_too checked = tt
+check_accepts font bytes read (Err fault.Write) reads answers d reads_too checked = tt
+check_accepts font bytes read (Err (fault.Print e)) reads answers d reads_too checked = tt
+check_accepts font bytes read (Err (fault.Exhausted by)) reads answers d reads_too checked = tt

@@ -159,13 +159,6 @@ can_start P d (after_font f known) x next can = can
 can_start P d (at_glyph f p known id) x next can = can
 can_start P d over x next can = absurd cc
 
--- after a refused program the next one, if there is one, starts with the same
-pub goes_on_refused : {K : Type 0} (P : List K → Type 0) (s : StageOf K) → CanGoOn P s → CanGoOn P (stage_after s None)
-goes_on_refused P at_start can = tt
-goes_on_refused P (after_font f known) can = tt
-goes_on_refused P (at_glyph f p known id) can = can
-goes_on_refused P over can = tt
-
 -- no section of the next program is a fault there
 pub no_next_section : (d : FontData) (form : Form) (s : Stage) (x : Subject) (i : Input) (place : ℕ) → next_program d s ≡ Some x → HasNoSection form i x.name place → IsFaultAt d form i s place
 no_next_section d form at_start x i place next none =

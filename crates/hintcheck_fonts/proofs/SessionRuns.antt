@@ -21,8 +21,8 @@ use Rattle.hintcheck_fonts.specs.FailedReads as cut
 use Rattle.hintcheck_fonts.specs.Programs.{HasGoodFamily}
 use Rattle.hintcheck_fonts.specs.Representation.SessionStages.{ListsOutcome}
 use Rattle.hintcheck_fonts.specs.Sessions.{AnswersNext, IsFaultAt, IsLast, IsNextFault, IsNothingLeft, IsOutcomeBySection, IsSoundAnswer, IsSoundOutcome, ReadsOn, Stage, Standing, after_font, all_read, already_over, another_number, at_glyph, at_header, at_section, at_start, cvt_ends, cvt_fails, cvt_passes, font_ends, font_fails, font_passes, glyph_fails, glyph_goes_on, glyph_passes, good_cvt, good_font, good_glyph, in_header, last_glyph, more_follows, new_standing, no_cvt, no_font, no_glyph, no_header_read, none_is_left, over, where_it_was}
-use Rattle.hintcheck_fonts.specs.declared.font_check.CheckFontFault.{CheckFontFault}
-use Rattle.hintcheck_fonts.specs.declared.font_check.CheckFontFault.TheVariants as fault
+use Rattle.hintcheck_report.specs.declared.answer_fault.AnswerFault.{AnswerFault}
+use Rattle.hintcheck_report.specs.declared.answer_fault.AnswerFault.TheVariants as fault
 use Rattle.hintcheck_report.specs.declared.refused.Refused.{Refused}
 use Rattle.hintcheck_fonts.specs.declared.session.Outcome.{Outcome}
 use Rattle.hintcheck_fonts.proofs.CheckedSections.{all_dropped, dropped, one_more}
@@ -326,12 +326,13 @@ unbroken d bytes s left rs front starts w (in_sections form from reads (after_al
   at_end = tt;
 }
 
-pub read_failed : (d : FontData) (bytes : Option (List ℕ)) (s : Standing) (left new : Option (List ℕ)) (rs : List Refused) (e : CheckFontFault) → IsCheckedSoFar d bytes s left rs
+pub read_failed : (d : FontData) (bytes : Option (List ℕ)) (s : Standing) (left new : Option (List ℕ)) (rs : List Refused) (e : AnswerFault) → IsCheckedSoFar d bytes s left rs
     → HasRead left new (EndsInCall s) e → HasRead bytes new (IsUnbroken d) e
 read_failed d bytes s left new rs (fault.Form place) so_far has = tt
 read_failed d bytes s left new rs (fault.Font font) so_far has = tt
-read_failed d bytes s left new rs (fault.OutOfMemory error) so_far has = tt
-read_failed d bytes s left new rs fault.Budget so_far has = tt
+read_failed d bytes s left new rs fault.Write so_far has = tt
+read_failed d bytes s left new rs (fault.Print failed) so_far has = tt
+read_failed d bytes s left new rs (fault.Exhausted by) so_far has = tt
 read_failed d bytes s left new rs fault.Read so_far has = λ told.
     let w = so_far.so_far told in
     let (front, consumed, ends) = has (so_far.told told) in

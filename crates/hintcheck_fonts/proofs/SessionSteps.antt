@@ -14,7 +14,7 @@ use Rattle.tt_cert.specs.Readers.{Input}
 use Rattle.tt_cert.specs.Reading.{header_at}
 use Rattle.tt_font.specs.Reading.{FontData}
 use Rattle.tt_stream.specs.Reads.{ConsumesBeginning}
-use Rattle.hintcheck_fonts.specs.CertificateFaults.{fault_of_decoding}
+use Rattle.hintcheck_report.specs.AnswerFaults.{fault_of_certificate}
 use Rattle.hintcheck_fonts.specs.Certificates.{IsSectionOf}
 use Rattle.hintcheck_fonts.specs.CheckedFonts.{Finds, IsTold}
 use Rattle.hintcheck_fonts.specs.FontPrograms.{cvt_subject, font_of, font_subject, glyph_subject}
@@ -23,8 +23,8 @@ use Rattle.hintcheck_fonts.specs.Representation.Judges.{AnswersSection, IsOutcom
 use Rattle.hintcheck_fonts.specs.Representation.ProgramOrder.{IsNext, cvt_done, cvt_stops, font_done, font_stops, glyph_done, glyph_stops, next_program}
 use Rattle.hintcheck_fonts.specs.Representation.SessionStages.{HasHeader, KeepsGood, read_of}
 use Rattle.hintcheck_fonts.specs.Sessions.{AnswersAt, AnswersNext, IsFaultAt, IsHeaderFault, IsLast, IsNextFault, IsNothingLeft, IsOutcomeBySection, IsSoundAnswer, IsSoundOutcome, ReadsOn, Stage, Standing, after_font, all_read, already_over, another_number, at_glyph, at_header, at_start, cvt_ends, cvt_fails, cvt_passes, font_ends, font_fails, font_passes, glyph_fails, glyph_goes_on, glyph_passes, good_cvt, good_font, good_glyph, in_header, more_follows, no_header_read, none_is_left, over, standing_at, where_it_was}
-use Rattle.hintcheck_fonts.specs.declared.font_check.CheckFontFault.{CheckFontFault}
-use Rattle.hintcheck_fonts.specs.declared.font_check.CheckFontFault.TheVariants as check
+use Rattle.hintcheck_report.specs.declared.answer_fault.AnswerFault.{AnswerFault}
+use Rattle.hintcheck_report.specs.declared.answer_fault.AnswerFault.TheVariants as fault
 use Rattle.hintcheck_fonts.specs.declared.programs.Next.{Next}
 use Rattle.hintcheck_fonts.specs.declared.section_check.SectionCheck.{SectionCheck}
 use Rattle.hintcheck_fonts.specs.declared.sections.Progress.{Progress}
@@ -34,7 +34,7 @@ use Rattle.hintcheck_fonts.proofs.ProgramSteps.{is_last, last_there}
 -- the header
 
 pub header_fault : {T : Type 0} (Is : T → Type 0) (d : FontData) (old new : Option (List ℕ)) (e : CertFault) → GivesHeader old new (Err e) (header_at (input_at 0 old))
-    → IsTold old → Finds {T = T} (Err (fault_of_decoding e)) Is (IsHeaderFault d old)
+    → IsTold old → Finds {T = T} (Err (fault_of_certificate e)) Is (IsHeaderFault d old)
 header_fault Is d old new (cert.Form p) gives told = no_header_read p (gives told)
 header_fault Is d old new cert.Read gives told = tt
 header_fault Is d old new cert.Write gives told = tt
@@ -116,7 +116,7 @@ follows d form f p known id place (Some (x ∷ xs)) last told more = more_follow
 
 pub fault_at_end : {T : Type 0} (Is : T → Type 0) (e : CertFault) (d : FontData) (form : Form) (f p : List Instruction) (known : List (ℕ × ℕ)) (id at : ℕ) (left : Option (List ℕ))
     → ((place : ℕ) → e ≡ cert.Form place → (place ≡ at) × IsMore left) → id ≡ length d.glyphs → IsTold left
-    → Finds {T = T} (Err (fault_of_decoding e)) Is (IsFaultAt d form (input_at at left) (at_glyph f p known id))
+    → Finds {T = T} (Err (fault_of_certificate e)) Is (IsFaultAt d form (input_at at left) (at_glyph f p known id))
 fault_at_end Is (cert.Form place) d form f p known id at left named last told =
     let both = named place refl in
     let F : ℕ → Type 0 = λ n. IsFaultAt d form (input_at at left) (at_glyph f p known id) n in
@@ -135,7 +135,7 @@ ends_there d (at_glyph f p known id) place left none going kept told at = nothin
 ends_there d over place left none going kept told at = absurd (going refl)
 
 pub more_there : {T : Type 0} (Is : T → Type 0) (e : CertFault) (d : FontData) (form : Form) (s : Stage) (at : ℕ) (left : Option (List ℕ)) → next_program d s ≡ None → s ≢ over → KeepsGood d s
-    → ((place : ℕ) → e ≡ cert.Form place → (place ≡ at) × IsMore left) → IsTold left → Finds {T = T} (Err (fault_of_decoding e)) Is (IsFaultAt d form (input_at at left) s)
+    → ((place : ℕ) → e ≡ cert.Form place → (place ≡ at) × IsMore left) → IsTold left → Finds {T = T} (Err (fault_of_certificate e)) Is (IsFaultAt d form (input_at at left) s)
 more_there Is e d form at_start at left none going kept named told = absurd cc
 more_there Is e d form (after_font f functions) at left none going kept named told = absurd cc
 more_there Is e d form (at_glyph f p known id) at left none going kept named told =
@@ -164,14 +164,15 @@ pub no_header_next : (d : FontData) (stage : Stage) (known : Option Progress) (b
 no_header_next d stage (Some q) bytes place none fault = absurd cc
 no_header_next d stage None bytes place none fault = in_header place refl fault
 
-pub finds_weaker : {T : Type 0} (r : Result T CheckFontFault) (Is Is' : T → Type 0) (At At' : ℕ → Type 0) → Finds r Is At → ((x : T) → Is x → Is' x)
+pub finds_weaker : {T : Type 0} (r : Result T AnswerFault) (Is Is' : T → Type 0) (At At' : ℕ → Type 0) → Finds r Is At → ((x : T) → Is x → Is' x)
     → ((place : ℕ) → At place → At' place) → Finds r Is' At'
 finds_weaker (Ok x) Is Is' At At' h f k = f x h
-finds_weaker (Err (check.Form place)) Is Is' At At' h f k = k place h
-finds_weaker (Err check.Read) Is Is' At At' h f k = tt
-finds_weaker (Err (check.Font e)) Is Is' At At' h f k = tt
-finds_weaker (Err (check.OutOfMemory e)) Is Is' At At' h f k = tt
-finds_weaker (Err check.Budget) Is Is' At At' h f k = tt
+finds_weaker (Err (fault.Form place)) Is Is' At At' h f k = k place h
+finds_weaker (Err fault.Read) Is Is' At At' h f k = tt
+finds_weaker (Err (fault.Font e)) Is Is' At At' h f k = tt
+finds_weaker (Err fault.Write) Is Is' At At' h f k = tt
+finds_weaker (Err (fault.Print e)) Is Is' At At' h f k = tt
+finds_weaker (Err (fault.Exhausted by)) Is Is' At At' h f k = tt
 
 -- a source that tells its bytes still does where a beginning of them was read
 pub still_told : (old new : Option (List ℕ)) → ConsumesBeginning old new → IsTold old → IsTold new

@@ -2,9 +2,6 @@
 use Rattle.std.proofs.Common.{◌≡◌, ◌∙◌, ℕ, zero, suc, ◌+◌, ◌-◌, ◌*◌, ◌<◌, ◌≤◌, List, [], ◌∷◌, Option, None, Some, ap, append-nil, arith, drop, length, refl, subst, sym}
 use Rattle.std.specs.Prelude.{IfSome}
 use Rattle.std.proofs.Math.Nat.{suc-mul}
-use Rattle.tt_abs.specs.declared.refusal.Refusal.{Refusal}
-use Rattle.tt_abs.specs.declared.refusal.Refusal.TheVariants as fault
-use Rattle.tt_cert.specs.declared.name.Name.{Name}
 use Rattle.tt_cert.specs.declared.name.Name.TheVariants as name
 use Rattle.tt_code.proofs.CutLemmas.{size_is}
 use Rattle.tt_code.specs.Cut.{Instruction, IsCut, size}
@@ -19,7 +16,6 @@ use Rattle.tt_symbolic_font.specs.Starts.{GlyphPrograms, StartsFontProgram}
 use Rattle.tt_symbolic_font.specs.declared.ends.Ends.{Ends}
 use Rattle.tt_symbolic_font.specs.declared.glyph_starts.GlyphStarts.{GlyphStarts}
 use Rattle.hintcheck_fonts.specs.FontPrograms.{font_of, glyph_subject, judgement_on}
-use Rattle.hintcheck_fonts.specs.ProgramVerdicts.{IfRefused}
 use Rattle.hintcheck_fonts.specs.Representation.ProgramOrder.{CanGoOn, cvt_done, cvt_stops, font_done, font_stops, glyph_done, glyph_stops, next_program, skipped_to}
 use Rattle.hintcheck_fonts.specs.Representation.SessionStages.{ListsOutcome}
 use Rattle.hintcheck_fonts.specs.Representation.SymbolicChecks.{AnswersBySymbols, AreCheckedInTurn, AreEnded, AreUnchecked, AreUncheckedTill, IsAfterCvt, IsAfterFont, IsCheckedBy, IsEnded, TellsRefused, accepted, no_glyph_left, refused}
@@ -34,10 +30,6 @@ use Rattle.hintcheck_fonts.proofs.ProgramSteps.{calls_left}
 use Rattle.hintcheck_fonts.proofs.VerdictSteps.{listed_first, none_dropped}
 
 -- what is reported is of the program
-
-pub of_program : (called : Name) (f : Refusal) → IfRefused called f (λ r. r.program ≡ called)
-of_program called (fault.Refused spot offset failed) = refl
-of_program called (fault.Exhausted e) = tt
 
 -- the font program
 

@@ -11,8 +11,8 @@ use Rattle.hintcheck_fonts.specs.Programs.{HasGoodFamily, IsCutInto, Subject}
 use Rattle.hintcheck_fonts.specs.Certificates.{Finding, IsCheckRefusal, IsChecked, IsSectionOf, Passes, after_header}
 use Rattle.hintcheck_fonts.specs.ProgramVerdicts.{IfRefused}
 use Rattle.hintcheck_fonts.specs.Verdicts.{Judgement}
-use Rattle.hintcheck_fonts.specs.declared.font_check.CheckFontFault.{CheckFontFault}
-use Rattle.hintcheck_fonts.specs.declared.font_check.CheckFontFault.TheVariants as fault
+use Rattle.hintcheck_report.specs.declared.answer_fault.AnswerFault.{AnswerFault}
+use Rattle.hintcheck_report.specs.declared.answer_fault.AnswerFault.TheVariants as fault
 use Rattle.hintcheck_report.specs.declared.refused.Refused.{Refused}
 use Rattle.tt_family.specs.Contents.{Contents}
 use Rattle.tt_abs.specs.declared.refusal.Refusal.{Refusal}
@@ -61,13 +61,10 @@ bytes_in known = unwrap_or known []
 
 -- What holds of an answer, or of the place that a fault of form names; a failed read, out of
 -- memory, a budget that is exceeded and the font's own faults are unspecified.
-abbrev pub Finds : {T : Type 0} → Result T CheckFontFault → (T → Type 0) → (ℕ → Type 0) → Type 0
+abbrev pub Finds : {T : Type 0} → Result T AnswerFault → (T → Type 0) → (ℕ → Type 0) → Type 0
 Finds (Ok x) Is At = Is x
 Finds (Err (fault.Form place)) Is At = At place
-Finds (Err fault.Read) Is At = Unit {0}
-Finds (Err (fault.Font font)) Is At = Unit {0}
-Finds (Err (fault.OutOfMemory error)) Is At = Unit {0}
-Finds (Err fault.Budget) Is At = Unit {0}
+Finds (Err other) Is At = Unit {0}
 
 -- refused programs, and then the others
 abbrev pub all_refused : List Refused → Finding → Finding

@@ -12,8 +12,8 @@ use Rattle.hintcheck_fonts.specs.Certificates.{Finding, IsChecked}
 use Rattle.hintcheck_fonts.specs.CheckedFonts.{IsTold}
 use Rattle.hintcheck_fonts.specs.Sessions.{IsFaultAt, IsLast, ReadsOn, Stage, Standing}
 use Rattle.hintcheck_fonts.specs.Upgrades.{UpgradesTo}
-use Rattle.hintcheck_fonts.specs.declared.font_check.CheckFontFault.{CheckFontFault}
-use Rattle.hintcheck_fonts.specs.declared.font_check.CheckFontFault.TheVariants as fault
+use Rattle.hintcheck_report.specs.declared.answer_fault.AnswerFault.{AnswerFault}
+use Rattle.hintcheck_report.specs.declared.answer_fault.AnswerFault.TheVariants as fault
 
 -- what holds of the bytes that were read from a source, where that tells its bytes
 abbrev pub OfRead : Option (List ℕ) → Option (List ℕ) → (List ℕ → Type 0) → Type 0
@@ -21,12 +21,9 @@ OfRead old new Is = IsTold old → (front : List ℕ) × Consumes old new front 
 
 -- what holds of the bytes that were read, where a read failed in the check of a font by a
 -- certificate
-abbrev pub HasRead : Option (List ℕ) → Option (List ℕ) → (List ℕ → Type 0) → CheckFontFault → Type 0
+abbrev pub HasRead : Option (List ℕ) → Option (List ℕ) → (List ℕ → Type 0) → AnswerFault → Type 0
 HasRead old new Is fault.Read = OfRead old new Is
-HasRead old new Is (fault.Form place) = Unit {0}
-HasRead old new Is (fault.Font font) = Unit {0}
-HasRead old new Is (fault.OutOfMemory error) = Unit {0}
-HasRead old new Is fault.Budget = Unit {0}
+HasRead old new Is other = Unit {0}
 
 -- what holds of the bytes that were read, where a read failed in an upgrade
 abbrev pub HasReadOld : Option (List ℕ) → Option (List ℕ) → (List ℕ → Type 0) → CertFault

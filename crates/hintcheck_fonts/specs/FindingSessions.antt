@@ -1,7 +1,8 @@
 -- What a session finds for the programs of a font, one by one.
-use Rattle.std.specs.Prelude.{◌≡◌, ◌⊎◌, ℕ, ◌+◌, List, [], ◌++◌, Option, Some, None, alloc_error, length, slice_get}
+use Rattle.std.specs.Prelude.{◌≡◌, ◌⊎◌, ℕ, ◌+◌, List, [], ◌++◌, Option, Some, None, length, slice_get}
 use Rattle.tt_code.specs.Cut.{Instruction, size}
 use Rattle.tt_abs.specs.declared.state.State.{State}
+use Rattle.tt_abs.specs.declared.exhausted.Exhausted.TheVariants as exhausted
 use Rattle.tt_family.specs.Contents.{family_of}
 use Rattle.tt_cert.specs.declared.form.Form.TheVariants.{Four}
 use Rattle.tt_cert.specs.declared.name.Name.TheVariants as name
@@ -14,10 +15,8 @@ use Rattle.hintcheck_fonts.specs.CertificateTexts.{IsLeastListing, WritesBeginni
 use Rattle.hintcheck_fonts.specs.FontPrograms.{RefusesNone, cvt_subject, font_of, font_subject, glyph_subject}
 use Rattle.hintcheck_fonts.specs.Programs.{IsRefusal, Subject}
 use Rattle.hintcheck_fonts.specs.Sessions.{IsLast, Stage, Standing, accepted_as, after_font, at_glyph, at_start, over, refused_as}
-use Rattle.hintcheck_fonts.specs.declared.font_check.CheckFontFault.{CheckFontFault}
-use Rattle.hintcheck_fonts.specs.declared.font_check.CheckFontFault.TheVariants as fault
-use Rattle.hintcheck_fonts.specs.declared.certificate.FindFontFault.{FindFontFault}
-use Rattle.hintcheck_fonts.specs.declared.certificate.FindFontFault.TheVariants as find
+use Rattle.hintcheck_report.specs.declared.answer_fault.AnswerFault.{AnswerFault}
+use Rattle.hintcheck_report.specs.declared.answer_fault.AnswerFault.TheVariants as fault
 use Rattle.hintcheck_report.specs.declared.refused.Refused.{Refused}
 use Rattle.hintcheck_fonts.specs.declared.session.Outcome.{Outcome}
 
@@ -76,29 +75,15 @@ abbrev pub IsFoundAnswer : FontData → Stage → Option (Outcome × Option Foun
 IsFoundAnswer d stage (Some (o, found)) stage' = IsOutcomeByFinding d stage o found stage'
 IsFoundAnswer d stage None stage' = IsLast d stage × (stage' ≡ over)
 
--- out of memory: the fault that a call that finds reports, and the one that the session keeps
-abbrev pub out_of_memory : FindFontFault
-out_of_memory = find.OutOfMemory alloc_error
-
-abbrev pub out_of_memory_here : CheckFontFault
-out_of_memory_here = fault.OutOfMemory alloc_error
-
--- the fault that a session keeps, as a call that finds reports it: that a budget is exceeded, or
--- otherwise that memory ran out
-abbrev pub found_fault : CheckFontFault → FindFontFault
-found_fault fault.Budget = find.Budget
-found_fault other = out_of_memory
+-- the fault where memory ran out
+abbrev pub out_of_memory : AnswerFault
+out_of_memory = fault.Exhausted exhausted.Memory
 
 -- the only faults of a session that finds are that memory or a budget ran out
-abbrev pub HasOnlyRunOut : Option CheckFontFault → Type 0
+abbrev pub HasOnlyRunOut : Option AnswerFault → Type 0
 HasOnlyRunOut None = Unit {0}
-HasOnlyRunOut (Some fault.Budget) = Unit {0}
-HasOnlyRunOut (Some other) = other ≡ out_of_memory_here
-
--- the session keeps a fault that is reported so
-abbrev pub KeepsFault : Standing → FindFontFault → Type 0
-KeepsFault s told =
-    (kept : CheckFontFault) × (s.fault ≡ Some kept) × (told ≡ found_fault kept)
+HasOnlyRunOut (Some (fault.Exhausted by)) = Unit {0}
+HasOnlyRunOut (Some other) = ⊥
 
 -- a session that was used for no other calls than those that find: no certificate was read
 pub record IsForFinding (s : Standing) : Type 0 where

@@ -13,7 +13,7 @@ use Rattle.hintcheck_fonts.specs.Certificates.{HasNoSection, IsCheckRefusal, IsS
 use Rattle.hintcheck_fonts.specs.CheckedFonts.{IsGoodAtEnd}
 use Rattle.hintcheck_fonts.specs.FontPrograms.{cvt_subject, font_of, font_subject, glyph_subject}
 use Rattle.hintcheck_fonts.specs.Programs.{HasGoodFamily}
-use Rattle.hintcheck_fonts.specs.declared.font_check.CheckFontFault.{CheckFontFault}
+use Rattle.hintcheck_report.specs.declared.answer_fault.AnswerFault.{AnswerFault}
 use Rattle.hintcheck_report.specs.declared.refused.Refused.{Refused}
 use Rattle.hintcheck_fonts.specs.declared.session.Outcome.{Outcome}
 
@@ -39,7 +39,7 @@ pub record Standing : Type 0 where
   -- the certificate's form, and how many of its bytes were read, once its header was
   pub read : Option (Form × ℕ)
   -- the fault of an earlier call, which each later call returns
-  pub fault : Option CheckFontFault
+  pub fault : Option AnswerFault
 
 -- a session without a fault
 abbrev pub standing_at : FontData → Stage → Option (Form × ℕ) → Standing

@@ -14,11 +14,12 @@ ghost use Rattle.tt_font.specs.Reading.{GlyphData, glyph_data};
 ghost use Rattle.tt_font.specs.Conditions.{maxp_fault};
 
 use crate::finding::Finding;
-use crate::font::{VerdictFault, list_outcome};
+use crate::font::list_outcome;
 use crate::judge::Judge;
 use crate::program::{Search, cut};
 use crate::programs::refused as refused_outcome;
 use crate::report::{Name, Refused, Verdict};
+use hintcheck_report::AnswerFault;
 use std::alloc::{AllocError, Global};
 use tt_abs::{Exhausted, Kind, Refusal, Setting};
 use tt_code::{CodeFault, Limits, Program};
@@ -140,9 +141,8 @@ pub fn bare(
     let mut budget = Budget::unlimited();
     match bare_within(alloc, maxp, cvt, points, contours, program, &mut budget) {
         Ok(verdict) => Ok(verdict),
-        Err(VerdictFault::Font(fault)) => Err(fault),
         // No program has so many points.
-        Err(VerdictFault::Budget) => Err(FontFault::OutOfMemory(AllocError)),
+        Err(fault) => Err(fault.into_font_fault()),
     }
 }
 
@@ -150,8 +150,8 @@ pub fn bare(
 /// the budget allows, as `verdict_within` does.
 ///
 /// # Errors
-/// As `bare`; `Budget` exactly where more points were to be made than the budget allows, in this
-/// call or in an earlier one.
+/// `Font` with the fault of the `maxp` table; `Exhausted` where memory ran out, and where more points
+/// were to be made than the budget allows, in this call or in an earlier one.
 pub fn bare_within(
     alloc: Global,
     maxp: &[u8],
@@ -160,7 +160,7 @@ pub fn bare_within(
     contours: u16,
     program: &[u8],
     budget: &mut Budget,
-) -> Result<Verdict, VerdictFault>
+) -> Result<Verdict, AnswerFault>
     requires { length program.now ≤ 65535 }
     ensures accepted { let glyph : GlyphData = glyph_with points contours program.now in
         IfOk result (λ v. v.refused ≡ [] → IsSafeGlyph (bare_font maxp.now cvt glyph) glyph) }
@@ -171,12 +171,12 @@ pub fn bare_within(
     ensures one { IfOk result (λ v. (v.programs ≡ 1) × (length v.refused ≤ 1)) }
     ensures faults { BareTellsTableFault budget.old (maxp_fault maxp.now) result }
     // What it costs: at most as many points as the budget has left. A verdict or out of memory
-    // comes only where that was enough, `Budget` only where it wasn't.
+    // comes only where that was enough, and the end of the budget only where it wasn't.
     ensures spends { Spends budget.old budget.new }
     ensures budget { VerdictTellsBudget budget.new result }
 {
     if budget.is_exceeded() {
-        return Err(VerdictFault::Budget);
+        return Err(AnswerFault::Exhausted(Exhausted::Budget));
     }
     let limits = read_maxp(maxp)?;
     let glyph = GlyphPart {

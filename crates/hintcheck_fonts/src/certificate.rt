@@ -4,8 +4,9 @@ ghost use Rattle.std.specs.Prelude.{◌≡◌, ◌⊎◌, [], Err, IfErr, IfOk, 
 ghost use Rattle.tt_family.specs.Budgets.{Spends};
 ghost use Rattle.tt_font.specs.FileFaults.{font_fault};
 ghost use Rattle.tt_font.specs.Reading.{FontData, Reads};
-ghost use Rattle.hintcheck_fonts.specs.BudgetAnswers.{FindTells, FindTellsBudget, FindWithinTellsFontFault, IsFindFaultOutsideFont, find_unlimited};
-ghost use Rattle.hintcheck_fonts.specs.CertificateFaults.{CountsFind, FindTellsFontFault, WritesNothing};
+ghost use Rattle.hintcheck_report.specs.declared.answer_fault.AnswerFault.{AnswerFault};
+ghost use Rattle.hintcheck_fonts.specs.BudgetAnswers.{AnswerTells, AnswerTellsFontFault, FindTellsBudget, IsOutsideFont};
+ghost use Rattle.hintcheck_fonts.specs.CertificateFaults.{CountsFind, TellsFontFault, WritesNothing};
 ghost use Rattle.hintcheck_fonts.specs.CertificateTexts.{IsPassingCertificate, WritesBeginning, WritesText};
 ghost use Rattle.hintcheck_fonts.specs.FindingSessions.{BeginsCertificate, IsBegunFor, IsCertificateBegun};
 ghost use Rattle.hintcheck_fonts.specs.Representation.FontVerdicts.{AreAllRefused};
@@ -18,94 +19,15 @@ use crate::font::{read_font, refused_programs};
 use crate::program::Search;
 use crate::programs::Programs;
 use crate::report::Verdict;
-use std::alloc::{AllocError, Global};
-use thiserror::Error;
+use std::alloc::Global;
 use tt_abs::Exhausted;
-use tt_cert::{CertFault, Encoder, NEWEST_FORM, write_header};
+use tt_cert::{Encoder, NEWEST_FORM, write_header};
 use tt_family::Budget;
-use tt_font::{Font, FontFault};
+use tt_font::Font;
 use tt_stream::Sink;
 
-/// Why a font's certificate isn't found or written.
-#[derive(Debug, Drop, Error)]
-pub enum FindFontFault {
-    /// The font's own fault, or that memory ran out while the font was read.
-    #[error(transparent)]
-    Font(FontFault),
-    /// The certificate can't be written.
-    #[error("write")]
-    Write,
-    /// Memory ran out.
-    #[error("out of memory")]
-    OutOfMemory(AllocError),
-    /// More points were to be made than the budget allows.
-    #[error("budget")]
-    Budget,
-}
-
-impl From<FontFault> for FindFontFault {
-    ghost use Rattle.std.specs.Prelude.{◌≡◌};
-    ghost use Rattle.hintcheck_fonts.specs.declared.certificate.FindFontFault.TheVariants.{Font};
-
-    ghost from_gives = { λ font fault. fault ≡ Font font };
-
-    fn from(font: FontFault) -> FindFontFault {
-        FindFontFault::Font(font)
-    }
-}
-
-impl From<AllocError> for FindFontFault {
-    ghost use Rattle.std.specs.Prelude.{◌≡◌};
-    ghost use Rattle.hintcheck_fonts.specs.declared.certificate.FindFontFault.TheVariants.{OutOfMemory};
-
-    ghost from_gives = { λ error fault. fault ≡ OutOfMemory error };
-
-    fn from(error: AllocError) -> FindFontFault {
-        FindFontFault::OutOfMemory(error)
-    }
-}
-
-impl From<Exhausted> for FindFontFault {
-    ghost use Rattle.std.specs.Prelude.{◌≡◌};
-    ghost use Rattle.hintcheck_fonts.specs.BudgetAnswers.{find_ended};
-
-    ghost from_gives = { λ by fault. fault ≡ find_ended by };
-
-    fn from(exhausted: Exhausted) -> FindFontFault {
-        match exhausted {
-            Exhausted::Memory => FindFontFault::OutOfMemory(AllocError),
-            Exhausted::Budget => FindFontFault::Budget,
-        }
-    }
-}
-
-impl From<CertFault> for FindFontFault {
-    ghost use Rattle.std.specs.Prelude.{◌≡◌};
-    ghost use Rattle.hintcheck_fonts.specs.CertificateFaults.{fault_of_encoding};
-
-    ghost from_gives = { λ encode fault. fault ≡ fault_of_encoding encode };
-
-    /// Writing answers `Write` or `OutOfMemory`: the others don't come.
-    fn from(fault: CertFault) -> FindFontFault {
-        match fault {
-            CertFault::OutOfMemory(error) => FindFontFault::OutOfMemory(error),
-            CertFault::Write | CertFault::Form(_) | CertFault::Read => FindFontFault::Write,
-        }
-    }
-}
-
-impl FindFontFault {
-    /// Returns the fault where the budget was the greatest: no font has so many points, and its end is
-    /// told as out of memory.
-    pub fn without_budget(self) -> FindFontFault
-        ensures { result ≡ find_unlimited self }
-    {
-        match self {
-            FindFontFault::Budget => FindFontFault::OutOfMemory(AllocError),
-            fault => fault,
-        }
-    }
-}
+/// Why a font's certificate isn't found or written. No `Form` comes, no `Read` and no `Print`.
+pub use hintcheck_report::AnswerFault as FindFontFault;
 
 /// Writes the sections of a font's programs, none of which is refused. Each program's family is
 /// found once more, so that one is held at a time.
@@ -122,9 +44,9 @@ fn write_sections<W: Sink>(
     ensures begun { OnErr result (WritesBeginning (W.contents sink.old) (W.contents sink.new)
         (AreSomeSections font.now)) }
     ensures failures { CountsFind result (W.failures sink.old) (W.failures sink.new) }
-    ensures font { IfErr result IsFindFaultOutsideFont }
+    ensures font { IfErr result IsOutsideFont }
     ensures spends { Spends budget.old budget.new }
-    ensures ends { FindTells budget.old budget.new result }
+    ensures ends { AnswerTells budget.old budget.new result }
 {
     let mut programs = Programs::new(font);
     let mut judge = Finding::new(alloc, Search::Writing);
@@ -152,9 +74,9 @@ fn write_certificate<W: Sink>(
     ensures begun { OnErr result (WritesBeginning (W.contents sink.old) (W.contents sink.new)
         (IsCertificateBegun font.now)) }
     ensures failures { CountsFind result (W.failures sink.old) (W.failures sink.new) }
-    ensures font { IfErr result IsFindFaultOutsideFont }
+    ensures font { IfErr result IsOutsideFont }
     ensures spends { Spends budget.old budget.new }
-    ensures ends { FindTells budget.old budget.new result }
+    ensures ends { AnswerTells budget.old budget.new result }
 {
     write_header(NEWEST_FORM, u32::from(font.glyph_count()) + 2, sink)?;
     write_sections(alloc, font, sink, budget)
@@ -179,14 +101,14 @@ pub fn find_programs<W: Sink>(
     ensures begun { OnErr result ((W.contents sink.new ≡ W.contents sink.old)
         ⊎ IsBegunFor font.now (W.contents sink.old) (W.contents sink.new)) }
     ensures unwritten { IfOk result (WritesNothing (W.contents sink.old) (W.contents sink.new)) }
-    ensures write_fault { result ≡ Err FindFontFault.Write → RefusesNone font.now }
+    ensures write_fault { result ≡ Err AnswerFault.Write → RefusesNone font.now }
     ensures failures { CountsFind result (W.failures sink.old) (W.failures sink.new) }
-    ensures font { IfErr result IsFindFaultOutsideFont }
+    ensures font { IfErr result IsOutsideFont }
     ensures spends { Spends budget.old budget.new }
     ensures budget { FindTellsBudget budget.new result }
 {
     if budget.is_exceeded() {
-        return Err(FindFontFault::Budget);
+        return Err(FindFontFault::Exhausted(Exhausted::Budget));
     }
     let refused = refused_programs(alloc, font, budget)?;
     if refused.is_empty() {
@@ -201,9 +123,9 @@ pub fn find_programs<W: Sink>(
 /// written.
 ///
 /// # Errors
-/// The faults of `Font::read`; `Write` exactly where a write failed; `OutOfMemory`. Before the
-/// verdict is made nothing was written, and after a verdict that refuses no program a beginning of
-/// the certificate was, perhaps an empty one.
+/// The faults of `Font::read`; `Write` exactly where a write failed; `Exhausted` where memory ran
+/// out. Before the verdict is made nothing was written, and after a verdict that refuses no program
+/// a beginning of the certificate was, perhaps an empty one.
 pub fn find_font<W: Sink>(
     alloc: Global,
     font: &[u8],
@@ -222,11 +144,11 @@ pub fn find_font<W: Sink>(
     ensures begun { OnErr result
         (BeginsCertificate font.now (W.contents sink.old) (W.contents sink.new)) }
     // A write fails only where the verdict refuses no program.
-    ensures write_fault { result ≡ Err FindFontFault.Write → RefusesNoneIn font.now }
+    ensures write_fault { result ≡ Err AnswerFault.Write → RefusesNoneIn font.now }
     ensures failures { CountsFind result (W.failures sink.old) (W.failures sink.new) }
     // A fault of the font is the first one of its bytes, unless memory ran out; any other answer
     // means that they have none.
-    ensures faults { FindTellsFontFault (font_fault font.now) result }
+    ensures faults { TellsFontFault (font_fault font.now) result }
 {
     match find_font_within(alloc, font, sink, &mut Budget::unlimited()) {
         Ok(verdict) => Ok(verdict),
@@ -239,7 +161,7 @@ pub fn find_font<W: Sink>(
 /// state is carried on, to find a family, to check it, or to find it once more.
 ///
 /// # Errors
-/// As `find_font`; `Budget` only where more points were to be made than the budget allows, in this
+/// As `find_font`; `Exhausted` too where more points were to be made than the budget allows, in this
 /// call or in an earlier one. Then too nothing was written, or after a verdict that refuses no
 /// program a beginning of the certificate. A fault of the font or a failed write may come first. A
 /// verdict that is returned is right, whether or not the budget is exceeded.
@@ -257,9 +179,9 @@ pub fn find_font_within<W: Sink>(
     ensures unwritten { IfOk result (WritesNothing (W.contents sink.old) (W.contents sink.new)) }
     ensures begun { OnErr result
         (BeginsCertificate font.now (W.contents sink.old) (W.contents sink.new)) }
-    ensures write_fault { result ≡ Err FindFontFault.Write → RefusesNoneIn font.now }
+    ensures write_fault { result ≡ Err AnswerFault.Write → RefusesNoneIn font.now }
     ensures failures { CountsFind result (W.failures sink.old) (W.failures sink.new) }
-    ensures faults { FindWithinTellsFontFault (font_fault font.now) result }
+    ensures faults { AnswerTellsFontFault (font_fault font.now) result }
     ensures spends { Spends budget.old budget.new }
     ensures budget { FindTellsBudget budget.new result }
 {

@@ -17,8 +17,8 @@ use crate::program::Search;
 use crate::programs::{FontPrograms, Programs};
 use crate::report::{Refused, Verdict};
 use crate::session::Outcome;
+use hintcheck_report::AnswerFault;
 use std::alloc::{AllocError, Global};
-use thiserror::Error;
 use tt_abs::Exhausted;
 use tt_family::Budget;
 use tt_font::{Font, FontFault};
@@ -105,45 +105,8 @@ pub fn verdict(alloc: Global, font: &[u8]) -> Result<Verdict, FontFault>
 {
     match verdict_within(alloc, font, &mut Budget::unlimited()) {
         Ok(verdict) => Ok(verdict),
-        Err(VerdictFault::Font(fault)) => Err(fault),
         // No font has so many points.
-        Err(VerdictFault::Budget) => Err(FontFault::OutOfMemory(AllocError)),
-    }
-}
-
-/// Why there is no verdict on a font within a budget.
-#[derive(Debug, Drop, Error)]
-pub enum VerdictFault {
-    /// The font's own fault, or that memory ran out.
-    #[error(transparent)]
-    Font(FontFault),
-    /// More points were to be made than the budget allows.
-    #[error("budget")]
-    Budget,
-}
-
-impl From<FontFault> for VerdictFault {
-    ghost use Rattle.std.specs.Prelude.{◌≡◌};
-    ghost use Rattle.hintcheck_fonts.specs.declared.font.VerdictFault.TheVariants.{Font};
-
-    ghost from_gives = { λ font fault. fault ≡ Font font };
-
-    fn from(font: FontFault) -> VerdictFault {
-        VerdictFault::Font(font)
-    }
-}
-
-impl From<Exhausted> for VerdictFault {
-    ghost use Rattle.std.specs.Prelude.{◌≡◌};
-    ghost use Rattle.hintcheck_fonts.specs.BudgetAnswers.{verdict_ended};
-
-    ghost from_gives = { λ by fault. fault ≡ verdict_ended by };
-
-    fn from(exhausted: Exhausted) -> VerdictFault {
-        match exhausted {
-            Exhausted::Memory => VerdictFault::Font(FontFault::OutOfMemory(AllocError)),
-            Exhausted::Budget => VerdictFault::Budget,
-        }
+        Err(fault) => Err(fault.into_font_fault()),
     }
 }
 
@@ -152,23 +115,23 @@ impl From<Exhausted> for VerdictFault {
 /// family or to check it.
 ///
 /// # Errors
-/// As `verdict`; `Budget` exactly where more points were to be made than the budget allows, in this
-/// call or in an earlier one.
+/// `Font` with the faults of `Font::read`; `Exhausted` where memory ran out, and where more points
+/// were to be made than the budget allows, in this call or in an earlier one.
 pub fn verdict_within(
     alloc: Global,
     font: &[u8],
     budget: &mut Budget,
-) -> Result<Verdict, VerdictFault>
+) -> Result<Verdict, AnswerFault>
     ensures exact { IfOk result (λ v. (d : FontData) × Reads font.now d × IsVerdict d v
         × (v.refused ≡ [] → IsSafeFont d)) }
     ensures faults { VerdictTellsFontFault (font_fault font.now) result }
     // What it costs: at most as many points as the budget has left. A verdict or out of memory
-    // comes only where that was enough, `Budget` only where it wasn't.
+    // comes only where that was enough, and the end of the budget only where it wasn't.
     ensures spends { Spends budget.old budget.new }
     ensures budget { VerdictTellsBudget budget.new result }
 {
     if budget.is_exceeded() {
-        return Err(VerdictFault::Budget);
+        return Err(AnswerFault::Exhausted(Exhausted::Budget));
     }
     let read = read_font(alloc, font)?;
     let refused = refused_programs(alloc, &read, budget)?;

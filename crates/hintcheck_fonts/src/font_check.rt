@@ -5,8 +5,8 @@ ghost use Rattle.tt_family.specs.Budgets.{Spends};
 ghost use Rattle.tt_font.specs.FileFaults.{font_fault};
 ghost use Rattle.tt_font.specs.Reading.{FontData, Reads};
 ghost use Rattle.tt_stream.specs.Reads.{ConsumesBeginning};
-ghost use Rattle.hintcheck_fonts.specs.BudgetAnswers.{CheckTells, CheckTellsBudget, CheckWithinTellsFontFault, IsCheckFaultOutsideFont, check_unlimited};
-ghost use Rattle.hintcheck_fonts.specs.CertificateFaults.{CheckTellsFontFault, CountsCheck, IsCheckFaultOutsideFontAndBudget};
+ghost use Rattle.hintcheck_fonts.specs.BudgetAnswers.{AnswerTells, AnswerTellsBudget, AnswerTellsFontFault, IsOutsideFont};
+ghost use Rattle.hintcheck_fonts.specs.CertificateFaults.{CountsCheck, IsOutsideFontAndBudget, TellsFontFault};
 ghost use Rattle.hintcheck_fonts.specs.Certificates.{IsChecked};
 ghost use Rattle.hintcheck_fonts.specs.CheckedFonts.{AnswersFinding, Finds, HasGoodFamilies, IsLeftBy, IsTold, bytes_in};
 ghost use Rattle.hintcheck_fonts.specs.FailedReads.{HasRead, IsCutHeader, IsUnbroken, IsUnbrokenFor};
@@ -18,99 +18,15 @@ use crate::font::{list_outcome, read_font};
 use crate::report::{Refused, Verdict};
 use crate::sections::{HEADER, Progress, SECTIONS};
 use crate::session::Session;
-use std::alloc::{AllocError, Global};
-use thiserror::Error;
+use std::alloc::Global;
 use tt_abs::Exhausted;
-use tt_cert::{CertFault, read_form};
+use tt_cert::read_form;
 use tt_family::Budget;
-use tt_font::{Font, FontFault};
+use tt_font::Font;
 use tt_stream::Source;
 
-/// Why a font isn't checked by its certificate.
-#[derive(Clone, Copy, Debug, Drop, Error)]
-pub enum CheckFontFault {
-    /// The font's own fault, or that memory ran out while the font was read.
-    #[error(transparent)]
-    Font(FontFault),
-    /// The bytes are no certificate for the font: the place of the first byte of what is wrong, or
-    /// of the certificate's end where that comes too early.
-    #[error("certificate form at byte {0}")]
-    Form(u64),
-    /// The certificate can't be read.
-    #[error("read")]
-    Read,
-    /// Memory ran out.
-    #[error("out of memory")]
-    OutOfMemory(AllocError),
-    /// More points were to be made than the budget allows.
-    #[error("budget")]
-    Budget,
-}
-
-impl From<FontFault> for CheckFontFault {
-    ghost use Rattle.std.specs.Prelude.{◌≡◌};
-    ghost use Rattle.hintcheck_fonts.specs.declared.font_check.CheckFontFault.TheVariants.{Font};
-
-    ghost from_gives = { λ font fault. fault ≡ Font font };
-
-    fn from(font: FontFault) -> CheckFontFault {
-        CheckFontFault::Font(font)
-    }
-}
-
-impl From<AllocError> for CheckFontFault {
-    ghost use Rattle.std.specs.Prelude.{◌≡◌};
-    ghost use Rattle.hintcheck_fonts.specs.declared.font_check.CheckFontFault.TheVariants.{OutOfMemory};
-
-    ghost from_gives = { λ error fault. fault ≡ OutOfMemory error };
-
-    fn from(error: AllocError) -> CheckFontFault {
-        CheckFontFault::OutOfMemory(error)
-    }
-}
-
-impl From<Exhausted> for CheckFontFault {
-    ghost use Rattle.std.specs.Prelude.{◌≡◌};
-    ghost use Rattle.hintcheck_fonts.specs.BudgetAnswers.{check_ended};
-
-    ghost from_gives = { λ by fault. fault ≡ check_ended by };
-
-    fn from(exhausted: Exhausted) -> CheckFontFault {
-        match exhausted {
-            Exhausted::Memory => CheckFontFault::OutOfMemory(AllocError),
-            Exhausted::Budget => CheckFontFault::Budget,
-        }
-    }
-}
-
-impl From<CertFault> for CheckFontFault {
-    ghost use Rattle.std.specs.Prelude.{◌≡◌};
-    ghost use Rattle.hintcheck_fonts.specs.CertificateFaults.{fault_of_decoding};
-
-    ghost from_gives = { λ decode fault. fault ≡ fault_of_decoding decode };
-
-    /// Reading answers `Form`, `Read` or `OutOfMemory`: `Write` doesn't come.
-    fn from(fault: CertFault) -> CheckFontFault {
-        match fault {
-            CertFault::Form(place) => CheckFontFault::Form(place),
-            CertFault::OutOfMemory(error) => CheckFontFault::OutOfMemory(error),
-            CertFault::Read | CertFault::Write => CheckFontFault::Read,
-        }
-    }
-}
-
-impl CheckFontFault {
-    /// Returns the fault where the budget was the greatest: no font has so many points, and its end is
-    /// told as out of memory.
-    pub fn without_budget(self) -> CheckFontFault
-        ensures { result ≡ check_unlimited self }
-    {
-        match self {
-            CheckFontFault::Budget => CheckFontFault::OutOfMemory(AllocError),
-            fault => fault,
-        }
-    }
-}
+/// Why a font isn't checked by its certificate. No `Write` comes, and no `Print`.
+pub use hintcheck_report::AnswerFault as CheckFontFault;
 
 /// Reads the header of the font's certificate, which has a section for each program.
 pub(crate) fn read_start<S: Source>(
@@ -125,7 +41,7 @@ pub(crate) fn read_start<S: Source>(
     ensures stopped { IfErr result
         (HasRead (S.remaining source.old) (S.remaining source.new) IsCutHeader) }
     ensures failures { CountsCheck result (S.failures source.old) (S.failures source.new) }
-    ensures font { IfErr result IsCheckFaultOutsideFontAndBudget }
+    ensures font { IfErr result IsOutsideFontAndBudget }
 {
     let (form, sections) = read_form(source)?;
     if sections != u32::from(font.glyph_count()) + 2 {
@@ -156,9 +72,9 @@ fn check_programs<S: Source>(
     ensures whole_units { IfErr result
         (HasRead (S.remaining source.old) (S.remaining source.new) (IsUnbroken font.now)) }
     ensures failures { CountsCheck result (S.failures source.old) (S.failures source.new) }
-    ensures font { IfErr result IsCheckFaultOutsideFont }
+    ensures font { IfErr result IsOutsideFont }
     ensures spends { Spends budget.old budget.new }
-    ensures ends { CheckTells budget.old budget.new result }
+    ensures ends { AnswerTells budget.old budget.new result }
 {
     let mut session = Session::new(font);
     let mut refused = Vec::new(alloc);
@@ -191,12 +107,12 @@ pub fn check_read_font<S: Source>(
     ensures whole_units { IfErr result
         (HasRead (S.remaining source.old) (S.remaining source.new) (IsUnbroken font.now)) }
     ensures failures { CountsCheck result (S.failures source.old) (S.failures source.new) }
-    ensures font { IfErr result IsCheckFaultOutsideFont }
+    ensures font { IfErr result IsOutsideFont }
     ensures spends { Spends budget.old budget.new }
-    ensures budget { CheckTellsBudget budget.new result }
+    ensures budget { AnswerTellsBudget budget.new result }
 {
     if budget.is_exceeded() {
-        return Err(CheckFontFault::Budget);
+        return Err(CheckFontFault::Exhausted(Exhausted::Budget));
     }
     let refused = check_programs(alloc, font, source, budget)?;
     Ok(Verdict::new(u32::from(font.glyph_count()) + 2, refused))
@@ -211,7 +127,7 @@ pub fn check_read_font<S: Source>(
 ///
 /// # Errors
 /// The faults of `Font::read`; `Form` where the bytes are no certificate for the font; `Read`
-/// exactly where a read failed; `OutOfMemory`.
+/// exactly where a read failed; `Exhausted` where memory ran out.
 pub fn check_font<S: Source>(
     alloc: Global,
     font: &[u8],
@@ -245,7 +161,7 @@ pub fn check_font<S: Source>(
     ensures failures { CountsCheck result (S.failures source.old) (S.failures source.new) }
     // A fault of the font is the first one of its bytes, unless memory ran out; any other answer
     // means that they have none.
-    ensures faults { CheckTellsFontFault (font_fault font.now) result }
+    ensures faults { TellsFontFault (font_fault font.now) result }
 {
     match check_font_within(alloc, font, source, &mut Budget::unlimited()) {
         Ok(verdict) => Ok(verdict),
@@ -258,8 +174,8 @@ pub fn check_font<S: Source>(
 /// carried on.
 ///
 /// # Errors
-/// As `check_font`; `Budget` where more points were to be made than the budget allows, in this call
-/// or in an earlier one, unless a fault of the font or of form, or a failed read, comes first.
+/// As `check_font`; `Exhausted` too where more points were to be made than the budget allows, in this
+/// call or in an earlier one, unless a fault of the font or of form, or a failed read, comes first.
 pub fn check_font_within<S: Source>(
     alloc: Global,
     font: &[u8],
@@ -282,11 +198,11 @@ pub fn check_font_within<S: Source>(
     ensures whole_units { IfErr result
         (HasRead (S.remaining source.old) (S.remaining source.new) (IsUnbrokenFor font.now)) }
     ensures failures { CountsCheck result (S.failures source.old) (S.failures source.new) }
-    ensures faults { CheckWithinTellsFontFault (font_fault font.now) result }
+    ensures faults { AnswerTellsFontFault (font_fault font.now) result }
     // What it costs: at most as many points as the budget has left. A verdict or out of memory
-    // comes only where that was enough, `Budget` only where it wasn't.
+    // comes only where that was enough, and the end of the budget only where it wasn't.
     ensures spends { Spends budget.old budget.new }
-    ensures budget { CheckTellsBudget budget.new result }
+    ensures budget { AnswerTellsBudget budget.new result }
 {
     let read = read_font(alloc, font)?;
     check_read_font(alloc, &read, source, budget)

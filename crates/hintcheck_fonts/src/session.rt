@@ -4,16 +4,16 @@
 ghost use Rattle.std.specs.Prelude.{◌≡◌, ◌≢◌, IfErr, IfOk, None, Ok, Err, Some};
 ghost use Rattle.tt_family.specs.Budgets.{EndTellsBudget, Spends};
 ghost use Rattle.tt_stream.specs.Reads.{ConsumesBeginning};
-ghost use Rattle.hintcheck_fonts.specs.BudgetAnswers.{CheckTells, CheckTellsBudget, FindNextTellsBudget, IsCheckFaultOutsideFont};
-ghost use Rattle.hintcheck_fonts.specs.CertificateFaults.{CountsCheck, IsCheckFaultOutsideFontAndBudget};
+ghost use Rattle.hintcheck_fonts.specs.BudgetAnswers.{AnswerTells, AnswerTellsBudget, IsOutsideFont};
+ghost use Rattle.hintcheck_fonts.specs.CertificateFaults.{CountsCheck, IsOutsideFontAndBudget};
 ghost use Rattle.hintcheck_fonts.specs.CheckedFonts.{Finds, IsTold};
 ghost use Rattle.hintcheck_fonts.specs.FailedReads.{EndsInCall, HasRead};
-ghost use Rattle.hintcheck_fonts.specs.FindingSessions.{IsForFinding, IsFoundAnswer, KeepsFault, found_fault, out_of_memory, out_of_memory_here};
+ghost use Rattle.hintcheck_fonts.specs.FindingSessions.{IsForFinding, IsFoundAnswer, out_of_memory};
 ghost use Rattle.hintcheck_fonts.specs.FontPrograms.{IsFontInRange};
 ghost use Rattle.hintcheck_fonts.specs.Sessions.{AnswersNext, IsForChecking, IsNextFault, IsSoundAnswer, ReadsOn, Stage, new_standing, over, standing_at};
 ghost use Rattle.hintcheck_fonts.specs.Representation.ProgramOrder.{stage_of};
 ghost use Rattle.hintcheck_fonts.specs.Representation.SessionStages.{KeepsFound, KeepsGood, KeepsKnown, StepsBySection, StopsInSection, read_of, standing_of};
-ghost use Rattle.hintcheck_fonts.specs.declared.font_check.CheckFontFault.{CheckFontFault as AnyFault};
+ghost use Rattle.hintcheck_report.specs.declared.answer_fault.AnswerFault.{AnswerFault as AnyFault};
 ghost use Rattle.hintcheck_fonts.specs.Representation.ReadProgress.{input_from};
 
 use crate::certificate::FindFontFault;
@@ -24,7 +24,8 @@ use crate::programs::{FontPrograms, Programs};
 use crate::report::{Name, Refused};
 use crate::section_check::SectionCheck;
 use crate::sections::{Progress, next_section};
-use std::alloc::{AllocError, Global};
+use hintcheck_report::AnswerFault;
+use std::alloc::Global;
 use std::marker::Model;
 use tt_abs::Exhausted;
 use tt_cert::{Decoder, read_end};
@@ -38,16 +39,6 @@ use tt_stream::Source;
 pub struct Outcome {
     pub program: Name,
     pub refused: Option<Refused>,
-}
-
-/// Returns the fault of a session as each call that finds returns it.
-fn found(fault: CheckFontFault) -> FindFontFault
-    ensures { result ≡ found_fault fault }
-{
-    match fault {
-        CheckFontFault::Budget => FindFontFault::Budget,
-        _ => FindFontFault::OutOfMemory(AllocError),
-    }
 }
 
 /// Returns how far the certificate was read: this far, or through its header, which is read if it
@@ -67,7 +58,7 @@ fn progress_of<S: Source>(
         (HasRead (S.remaining source.old) (S.remaining source.new)
         (EndsInCall (standing_at font.now stage (read_of known)))) }
     ensures failures { CountsCheck result (S.failures source.old) (S.failures source.new) }
-    ensures font { IfErr result IsCheckFaultOutsideFontAndBudget }
+    ensures font { IfErr result IsOutsideFontAndBudget }
 {
     match known {
         Some(progress) => Ok(progress),
@@ -100,9 +91,9 @@ fn check_section<'a, S: Source>(
     ensures stopped { IfErr result (StopsInSection programs.old.font.now (stage_of programs.old)
         progress.old (S.remaining source.old) (S.remaining source.new)) }
     ensures failures { CountsCheck result (S.failures source.old) (S.failures source.new) }
-    ensures no_font_fault { IfErr result IsCheckFaultOutsideFont }
+    ensures no_font_fault { IfErr result IsOutsideFont }
     ensures spends { Spends budget.old budget.new }
-    ensures ends { CheckTells budget.old budget.new result }
+    ensures ends { AnswerTells budget.old budget.new result }
 {
     let Some(next) = programs.next() else {
         read_end(source, progress.place)?;
@@ -148,9 +139,9 @@ fn check_from<'a, S: Source>(
     ensures stopped { IfErr result (HasRead (S.remaining source.old) (S.remaining source.new)
         (EndsInCall (standing_of programs.old read.old))) }
     ensures failures { CountsCheck result (S.failures source.old) (S.failures source.new) }
-    ensures no_font_fault { IfErr result IsCheckFaultOutsideFont }
+    ensures no_font_fault { IfErr result IsOutsideFont }
     ensures spends { Spends budget.old budget.new }
-    ensures ends { CheckTells budget.old budget.new result }
+    ensures ends { AnswerTells budget.old budget.new result }
 {
     let mut progress = progress_of(programs.font, *read, source)?;
     let answer = check_section(alloc, decoder, programs, source, &mut progress, budget)?;
@@ -192,7 +183,7 @@ pub struct Session<'a> {
     programs: FontPrograms<'a>,
     decoder: Decoder,
     progress: Option<Progress>,
-    fault: Option<CheckFontFault>,
+    fault: Option<AnswerFault>,
 }
 
 // Written out, so that who holds a session proves in one step that its memory is given back.
@@ -251,7 +242,7 @@ impl<'a> Session<'a> {
     ///
     /// # Errors
     /// `Form` where the bytes are no certificate for the font; `Read` exactly where a read failed;
-    /// `OutOfMemory`. After a fault each call returns it, and reads nothing.
+    /// `Exhausted` where memory ran out. After a fault each call returns it, and reads nothing.
     pub fn check_next<S: Source>(
         &mut self,
         alloc: Global,
@@ -283,16 +274,16 @@ impl<'a> Session<'a> {
         ensures failures { self.old.fault ≡ None
             → CountsCheck result (S.failures source.old) (S.failures source.new) }
         ensures no_font_fault { self.old.fault ≡ None
-            → IfErr result IsCheckFaultOutsideFontAndBudget }
+            → IfErr result IsOutsideFontAndBudget }
     {
         if let Some(fault) = self.fault {
             return Err(fault);
         }
         let checked = self.check_next_within(alloc, source, &mut Budget::unlimited());
-        if let Some(CheckFontFault::Budget) = self.fault {
+        if let Some(AnswerFault::Exhausted(Exhausted::Budget)) = self.fault {
             // No font has so many points.
-            self.fault = Some(CheckFontFault::OutOfMemory(AllocError));
-            return Err(CheckFontFault::OutOfMemory(AllocError));
+            self.fault = Some(AnswerFault::Exhausted(Exhausted::Memory));
+            return Err(CheckFontFault::Exhausted(Exhausted::Memory));
         }
         checked
     }
@@ -302,8 +293,8 @@ impl<'a> Session<'a> {
     /// another budget.
     ///
     /// # Errors
-    /// As `check_next`; `Budget` where more points were to be made than the budget allows, in this
-    /// call or in an earlier one, unless a fault of form or a failed read comes first, or no
+    /// As `check_next`; `Exhausted` too where more points were to be made than the budget allows, in
+    /// this call or in an earlier one, unless a fault of form or a failed read comes first, or no
     /// program is left. After a fault each call returns it, and reads nothing.
     pub fn check_next_within<S: Source>(
         &mut self,
@@ -336,11 +327,11 @@ impl<'a> Session<'a> {
             (HasRead (S.remaining source.old) (S.remaining source.new) (EndsInCall self.old)) }
         ensures failures { self.old.fault ≡ None
             → CountsCheck result (S.failures source.old) (S.failures source.new) }
-        ensures no_font_fault { self.old.fault ≡ None → IfErr result IsCheckFaultOutsideFont }
+        ensures no_font_fault { self.old.fault ≡ None → IfErr result IsOutsideFont }
         ensures spends { Spends budget.old budget.new }
         ensures budget { self.old.fault ≡ None → self.old.stage ≢ over
-            → CheckTellsBudget budget.new result }
-        ensures ends { self.old.fault ≡ None → CheckTells budget.old budget.new result }
+            → AnswerTellsBudget budget.new result }
+        ensures ends { self.old.fault ≡ None → AnswerTells budget.old budget.new result }
     {
         if let Some(fault) = self.fault {
             return Err(fault);
@@ -349,8 +340,8 @@ impl<'a> Session<'a> {
             return Ok(None);
         }
         if budget.is_exceeded() {
-            self.fault = Some(CheckFontFault::Budget);
-            return Err(CheckFontFault::Budget);
+            self.fault = Some(AnswerFault::Exhausted(Exhausted::Budget));
+            return Err(CheckFontFault::Exhausted(Exhausted::Budget));
         }
         let answer = check_from(
             alloc,
@@ -372,7 +363,7 @@ impl<'a> Session<'a> {
     /// calls that find.
     ///
     /// # Errors
-    /// `OutOfMemory`. After a fault each call returns it.
+    /// `Exhausted` where memory ran out. After a fault each call returns it.
     pub fn find_next(
         &mut self,
         alloc: Global,
@@ -383,24 +374,24 @@ impl<'a> Session<'a> {
         ensures found { IfOk result
             (λ answer. IsFoundAnswer self.old.font self.old.stage answer self.new.stage) }
         ensures after_fault { (fault : AnyFault) → self.old.fault ≡ Some fault
-            → (result ≡ Err (found_fault fault)) × (self.new ≡ self.old) }
+            → (result ≡ Err fault) × (self.new ≡ self.old) }
         ensures after_none { self.old.fault ≡ None → self.old.stage ≡ over
             → (result ≡ Ok None) × (self.new ≡ self.old) }
         ensures fault { self.old.fault ≡ None → IfErr result
-            (λ fault. (fault ≡ out_of_memory) × (self.new.fault ≡ Some out_of_memory_here)) }
+            (λ fault. (fault ≡ out_of_memory) × (self.new.fault ≡ Some out_of_memory)) }
         ensures no_fault { IfOk result (λ _. self.new.fault ≡ None) }
         ensures font { self.new.font ≡ self.old.font }
         ensures finding { IsForFinding self.new }
     {
         if let Some(fault) = self.fault {
-            return Err(found(fault));
+            return Err(fault);
         }
         match self.find_next_within(alloc, &mut Budget::unlimited()) {
             Ok(found) => Ok(found),
             Err(_) => {
                 // No font has so many points.
-                self.fault = Some(CheckFontFault::OutOfMemory(AllocError));
-                Err(FindFontFault::OutOfMemory(AllocError))
+                self.fault = Some(AnswerFault::Exhausted(Exhausted::Memory));
+                Err(FindFontFault::Exhausted(Exhausted::Memory))
             }
         }
     }
@@ -410,8 +401,9 @@ impl<'a> Session<'a> {
     /// to check it. The next call may have another budget.
     ///
     /// # Errors
-    /// `OutOfMemory`; `Budget` where more points were to be made than the budget allows, in this
-    /// call or in an earlier one, unless no program is left. After a fault each call returns it.
+    /// `Exhausted` where memory ran out, and where more points were to be made than the budget allows,
+    /// in this call or in an earlier one, unless no program is left. After a fault each call returns
+    /// it.
     pub fn find_next_within(
         &mut self,
         alloc: Global,
@@ -423,32 +415,32 @@ impl<'a> Session<'a> {
         ensures found { IfOk result
             (λ answer. IsFoundAnswer self.old.font self.old.stage answer self.new.stage) }
         ensures after_fault { (fault : AnyFault) → self.old.fault ≡ Some fault
-            → (result ≡ Err (found_fault fault)) × (self.new ≡ self.old) }
+            → (result ≡ Err fault) × (self.new ≡ self.old) }
         ensures after_none { self.old.fault ≡ None → self.old.stage ≡ over
             → (result ≡ Ok None) × (self.new ≡ self.old) }
-        ensures fault { self.old.fault ≡ None → IfErr result (KeepsFault self.new) }
+        ensures fault { IfErr result (λ fault. self.new.fault ≡ Some fault) }
         ensures no_fault { IfOk result (λ _. self.new.fault ≡ None) }
         ensures font { self.new.font ≡ self.old.font }
         ensures finding { IsForFinding self.new }
         ensures spends { Spends budget.old budget.new }
         ensures budget { self.old.fault ≡ None → self.old.stage ≢ over
-            → FindNextTellsBudget budget.new result }
+            → AnswerTellsBudget budget.new result }
     {
         if let Some(fault) = self.fault {
-            return Err(found(fault));
+            return Err(fault);
         }
         if self.programs.is_over() {
             return Ok(None);
         }
         if budget.is_exceeded() {
-            self.fault = Some(CheckFontFault::Budget);
-            return Err(FindFontFault::Budget);
+            self.fault = Some(AnswerFault::Exhausted(Exhausted::Budget));
+            return Err(FindFontFault::Exhausted(Exhausted::Budget));
         }
         match find_from(alloc, &mut self.programs, budget) {
             Ok(found) => Ok(found),
             Err(by) => {
-                self.fault = Some(CheckFontFault::from(by));
-                Err(FindFontFault::from(by))
+                self.fault = Some(AnswerFault::Exhausted(by));
+                Err(FindFontFault::Exhausted(by))
             }
         }
     }

@@ -9,8 +9,8 @@ ghost use Rattle.hintcheck_needs.specs.Needs.{AreNeeds, IsNeed, need_of};
 
 use crate::analysis::Analysis;
 use crate::least::least_enough;
-use hintcheck_fonts::{VerdictFault, read_font};
-use hintcheck_report::Bound;
+use hintcheck_fonts::read_font;
+use hintcheck_report::{AnswerFault, Bound};
 use std::alloc::Global;
 use tt_abs::Exhausted;
 use tt_family::Budget;
@@ -103,14 +103,14 @@ fn all_needs(
 /// while the others are those that the font declares.
 ///
 /// # Errors
-/// The faults of `Font::read`; `OutOfMemory`; `Budget` exactly where more points were to be made
-/// than the budget allows, in this call or in an earlier one.
+/// `Font` with the faults of `Font::read`; `Exhausted` where memory ran out, and where more points
+/// were to be made than the budget allows, in this call or in an earlier one.
 pub fn needs_in(
     alloc: Global,
     bytes: &[u8],
     analysis: Analysis,
     points: &mut Budget,
-) -> Result<Needs, VerdictFault>
+) -> Result<Needs, AnswerFault>
     ensures needs { IfOk result (λ needs.
         (d : FontData) × Reads bytes.now d × AreNeeds analysis d needs) }
     ensures faults { VerdictTellsFontFault (font_fault bytes.now) result }
@@ -118,7 +118,7 @@ pub fn needs_in(
     ensures budget { VerdictTellsBudget points.new result }
 {
     if points.is_exceeded() {
-        return Err(VerdictFault::Budget);
+        return Err(AnswerFault::Exhausted(Exhausted::Budget));
     }
     let mut font = read_font(alloc, bytes)?;
     Ok(all_needs(alloc, &mut font, analysis, points)?)

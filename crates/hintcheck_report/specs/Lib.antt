@@ -1,3 +1,4 @@
+pub mod AnswerFaults
 pub mod Bounds
 pub mod Places
 pub mod ReasonNumbers

@@ -2,7 +2,7 @@
 
 use crate::PROGRAMS;
 use hintcheck_fonts::{
-    VerdictFault, bare, bare_symbolic, check_font, find_font, read_font, upgrade, verdict,
+    AnswerFault, bare, bare_symbolic, check_font, find_font, read_font, upgrade, verdict,
     verdict_symbolic,
 };
 use hintcheck_needs::{Analysis, Bound, least_enough};
@@ -61,7 +61,7 @@ struct OnFont<'a> {
 }
 
 /// Returns how many storage cells a font needs.
-fn storage_needed(alloc: Global, font: &[u8]) -> Result<u16, VerdictFault> {
+fn storage_needed(alloc: Global, font: &[u8]) -> Result<u16, AnswerFault> {
     let mut font = read_font(alloc, font)?;
     let mut points = Budget::unlimited();
     let least = least_enough(

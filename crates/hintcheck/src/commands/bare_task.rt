@@ -11,8 +11,10 @@ use hintcheck_fonts::bare_program::{bare, bare_within};
 use hintcheck_fonts::report::Verdict;
 use hintcheck_fonts::symbolic_bare::bare_symbolic_within;
 use hintcheck_fonts::symbolic_verdict::USUAL_STEPS;
+use hintcheck_report::AnswerFault;
 use hintcheck_words::{Profile, word_bytes};
 use std::alloc::Global;
+use tt_abs::Exhausted;
 use tt_family::Budget;
 
 /// What `bare` is given: a `maxp` table and a glyph program in words of hexadecimal digits, and how
@@ -66,7 +68,11 @@ pub(super) fn bare_verdict(
         (Profile::Strict, None) => Ok(bare(alloc, &maxp, cvt, points, contours, &program)?),
         (Profile::Strict, Some(most)) => {
             let mut budget = Budget::of(most);
-            Ok(bare_within(alloc, &maxp, cvt, points, contours, &program, &mut budget)?)
+            match bare_within(alloc, &maxp, cvt, points, contours, &program, &mut budget) {
+                Ok(verdict) => Ok(verdict),
+                Err(AnswerFault::Exhausted(Exhausted::Budget)) => Err(CommandFault::Budget),
+                Err(fault) => Err(CommandFault::from(fault.into_font_fault())),
+            }
         }
         (Profile::Symbolic, budget) => {
             let steps = budget.unwrap_or(USUAL_STEPS);

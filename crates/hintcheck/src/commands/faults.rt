@@ -7,11 +7,8 @@ ghost use Rattle.hintcheck.specs.Representation.ToldFaults.{is_of_font_file};
 ghost use Rattle.hintcheck.specs.Scans.{IsOfScan};
 
 use crate::neighbours::Neighbours;
-use hintcheck_explain::ExplainFault;
-use hintcheck_fonts::certificate::FindFontFault;
 use hintcheck_fonts::certificate_upgrade::UpgradeFault;
-use hintcheck_fonts::font::VerdictFault;
-use hintcheck_fonts::font_check::CheckFontFault;
+use hintcheck_report::AnswerFault;
 use hintcheck_words::{TaskFault, WordFault};
 use std::alloc::AllocError;
 use std::error::Error;
@@ -307,46 +304,19 @@ impl From<Numbered> for CommandFault {
     }
 }
 
-impl From<VerdictFault> for CommandFault {
-    ghost use Rattle.hintcheck.specs.Commands.{fault_of_verdict};
+impl From<AnswerFault> for CommandFault {
+    ghost use Rattle.hintcheck.specs.Commands.{fault_of_answer};
 
-    ghost from_gives = { λ judging fault. fault ≡ fault_of_verdict judging };
+    ghost from_gives = { λ answer fault. fault ≡ fault_of_answer answer };
 
-    fn from(fault: VerdictFault) -> CommandFault {
+    fn from(fault: AnswerFault) -> CommandFault {
         match fault {
-            VerdictFault::Font(font) => CommandFault::Font(Numbered(font, Container::Other)),
-            VerdictFault::Budget => CommandFault::Budget,
-        }
-    }
-}
-
-impl From<CheckFontFault> for CommandFault {
-    ghost use Rattle.hintcheck.specs.Commands.{fault_of_check};
-
-    ghost from_gives = { λ check fault. fault ≡ fault_of_check check };
-
-    fn from(fault: CheckFontFault) -> CommandFault {
-        match fault {
-            CheckFontFault::Font(font) => CommandFault::Font(Numbered(font, Container::Other)),
-            CheckFontFault::Form(place) => CommandFault::Form(place),
-            CheckFontFault::Read => CommandFault::Read,
-            CheckFontFault::OutOfMemory(AllocError) => CommandFault::OutOfMemory,
-            CheckFontFault::Budget => CommandFault::Budget,
-        }
-    }
-}
-
-impl From<FindFontFault> for CommandFault {
-    ghost use Rattle.hintcheck.specs.Commands.{fault_of_find};
-
-    ghost from_gives = { λ find fault. fault ≡ fault_of_find find };
-
-    fn from(fault: FindFontFault) -> CommandFault {
-        match fault {
-            FindFontFault::Font(font) => CommandFault::Font(Numbered(font, Container::Other)),
-            FindFontFault::Write => CommandFault::File,
-            FindFontFault::OutOfMemory(AllocError) => CommandFault::OutOfMemory,
-            FindFontFault::Budget => CommandFault::Budget,
+            AnswerFault::Font(font) => CommandFault::Font(Numbered(font, Container::Other)),
+            AnswerFault::Form(place) => CommandFault::Form(place),
+            AnswerFault::Read => CommandFault::Read,
+            AnswerFault::Write => CommandFault::File,
+            AnswerFault::Print(failed) => CommandFault::from(failed),
+            AnswerFault::Exhausted(by) => CommandFault::from(by),
         }
     }
 }
@@ -364,31 +334,13 @@ impl From<Exhausted> for CommandFault {
     }
 }
 
-impl From<ExplainFault> for CommandFault {
-    ghost use Rattle.hintcheck.specs.Commands.{fault_of_explain};
-
-    ghost from_gives = { λ explain fault. fault ≡ fault_of_explain explain };
-
-    fn from(fault: ExplainFault) -> CommandFault {
-        match fault {
-            ExplainFault::Write(failed) => CommandFault::from(failed),
-            ExplainFault::Exhausted(by) => CommandFault::from(by),
-        }
-    }
-}
-
 impl From<UpgradeFault> for CommandFault {
     ghost use Rattle.hintcheck.specs.Commands.{fault_of_upgrade};
 
     ghost from_gives = { λ upgrade fault. fault ≡ fault_of_upgrade upgrade };
 
     fn from(fault: UpgradeFault) -> CommandFault {
-        match fault {
-            UpgradeFault::Form(place) => CommandFault::Form(place),
-            UpgradeFault::Read => CommandFault::Read,
-            UpgradeFault::Write => CommandFault::File,
-            UpgradeFault::OutOfMemory(AllocError) => CommandFault::OutOfMemory,
-        }
+        CommandFault::from(AnswerFault::from(fault))
     }
 }
 
@@ -400,8 +352,8 @@ impl CommandFault {
         ensures unwritten { IsNoWriteFault result }
     {
         match fault {
-            WordFault::BadWord => bad,
-            WordFault::OutOfMemory(AllocError) => CommandFault::OutOfMemory,
+            WordFault::OutOfMemory => CommandFault::OutOfMemory,
+            _ => bad,
         }
     }
 

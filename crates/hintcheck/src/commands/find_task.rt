@@ -2,9 +2,11 @@
 
 ghost use Rattle.std.specs.Prelude.{◌≡◌, ◌≢◌, IfErr, IfOk, List, Err, Ok, OnOk, None, ℕ, []};
 ghost use Rattle.std.specs.Io.KnownBytes.{Keeps};
-ghost use Rattle.hintcheck_fonts.specs.BudgetAnswers.{IsFindFaultOutsideFont};
-ghost use Rattle.hintcheck_fonts.specs.CertificateFaults.{WritesNothing};
+ghost use Rattle.hintcheck_fonts.specs.BudgetAnswers.{IsOutsideFont};
+ghost use Rattle.hintcheck_fonts.specs.CertificateFaults.{CountsFind, WritesNothing};
 ghost use Rattle.hintcheck_fonts.specs.CertificateTexts.{IsPassingCertificate, WritesText};
+ghost use Rattle.hintcheck_report.specs.declared.answer_fault.AnswerFault.{AnswerFault};
+ghost use Rattle.tt_abs.specs.declared.exhausted.Exhausted.{Exhausted as By};
 ghost use Rattle.hintcheck.specs.Commands.{IsNoWriteFault};
 ghost use Rattle.hintcheck.specs.CommandFaults.{IsFaultOfCertifying, IsFaultOfFinding, IsWithin};
 ghost use Rattle.hintcheck_fonts.specs.FontPrograms.{IsFontInRange, IsVerdict};
@@ -36,8 +38,9 @@ fn find_within_points<W: Sink>(
     ensures written { IfOk result (λ v. v.refused ≡ []
         → WritesText (W.contents sink.old) (W.contents sink.new) (IsPassingCertificate font.now)) }
     ensures unwritten { IfOk result (WritesNothing (W.contents sink.old) (W.contents sink.new)) }
-    ensures font { IfErr result IsFindFaultOutsideFont }
-    ensures within { IfErr result (λ fault. fault ≡ FindFontFault.Budget → budget ≢ None) }
+    ensures failures { CountsFind result (W.failures sink.old) (W.failures sink.new) }
+    ensures font { IfErr result IsOutsideFont }
+    ensures within { IfErr result (λ fault. fault ≡ AnswerFault.Exhausted By.Budget → budget ≢ None) }
 {
     match budget {
         Some(most) => find_programs(alloc, font, sink, &mut Budget::of(most)),

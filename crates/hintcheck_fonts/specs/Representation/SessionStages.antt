@@ -18,7 +18,7 @@ use Rattle.hintcheck_fonts.specs.Representation.ProgramOrder.{next_program, stag
 use Rattle.hintcheck_fonts.specs.Representation.ReadProgress.{input_from}
 use Rattle.hintcheck_fonts.specs.Sessions.{AnswersAt, IsFaultAt, Stage, Standing, after_font, at_glyph, at_start, over, standing_at}
 use Rattle.hintcheck_fonts.specs.declared.programs.Programs.{Programs}
-use Rattle.hintcheck_fonts.specs.declared.font_check.CheckFontFault.{CheckFontFault}
+use Rattle.hintcheck_report.specs.declared.answer_fault.AnswerFault.{AnswerFault}
 use Rattle.hintcheck_fonts.specs.declared.sections.Progress.{Progress}
 use Rattle.hintcheck_report.specs.declared.refused.Refused.{Refused}
 use Rattle.hintcheck_fonts.specs.declared.session.Outcome.{Outcome}
@@ -105,13 +105,13 @@ IsFaultInSection d stage from old place = IsFaultAt d from.form (input_from from
 
 -- So it is where the source tells its bytes.
 abbrev pub StepsBySection : FontData → Stage → Progress → Option (List ℕ) → Progress
-    → Option (List ℕ) → Stage → Result (Option Outcome) CheckFontFault → Type 0
+    → Option (List ℕ) → Stage → Result (Option Outcome) AnswerFault → Type 0
 StepsBySection d stage from old to new stage' result = IsTold old → Finds result
     (λ answer. AnswersBySection d stage from old to new answer stage')
     (IsFaultInSection d stage from old)
 
 -- Where the fault is a failed read, what was read is at fault nowhere but at its end, if at all.
 abbrev pub StopsInSection : FontData → Stage → Progress → Option (List ℕ) → Option (List ℕ)
-    → CheckFontFault → Type 0
+    → AnswerFault → Type 0
 StopsInSection d stage from old new fault =
     HasRead old new (λ front. EndsInSection d from.form stage (input_from from (Some front))) fault

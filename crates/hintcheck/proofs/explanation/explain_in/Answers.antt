@@ -8,7 +8,7 @@ pub returns-in_err-explained-clause-failures : goal.returns-in_err-explained-cla
 returns-in_err-explained-clause-failures g c = failed_text Explained c.in_err-explained.field-0.0 c.from_residual.result _ _ c.in_err-explained.ensures.failures c.from_residual.ensures.1
 
 pub returns-in_err-explained-clause-faults : goal.returns-in_err-explained-clause-faults
-returns-in_err-explained-clause-faults g c = fault_of_text c.in_err-explained.field-0.0 c.from_residual.result c.from_residual.ensures.1
+returns-in_err-explained-clause-faults g c = fault_of_text Explained c.in_err-explained.field-0.0 c.from_residual.result _ _ c.in_err-explained.ensures.failures c.from_residual.ensures.1
 
 pub returns-clause-answered : goal.returns-clause-answered
 returns-clause-answered g c = λ x subject same.

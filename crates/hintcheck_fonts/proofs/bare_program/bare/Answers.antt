@@ -1,7 +1,6 @@
-use Rattle.std.proofs.Common.{inr}
+use Rattle.hintcheck_fonts.proofs.UnlimitedFaults.{table_fault_told}
 use Rattle.hintcheck_fonts.proofs.bare_program.bare.Goals as goal
 
-pub returns-in-Err-Budget-clause-faults : goal.returns-in-Err-Budget-clause-faults
-returns-in-Err-Budget-clause-faults c =
-    let told = rw c.in-Err-Budget.field-0-is at c.in-Err-Budget.ensures.faults in
-    inr (tt, told (λ exceeded. let never = rw c.unlimited-budget.ensures at exceeded in cc))
+pub returns-in-Err-clause-faults : goal.returns-in-Err-clause-faults
+returns-in-Err-clause-faults c =
+    rw c.into_font_fault.ensures (table_fault_told c.unlimited-budget.result _ c.in-Err.fault (λ exceeded. let never = rw c.unlimited-budget.ensures at exceeded in cc) c.in-Err.ensures.faults)

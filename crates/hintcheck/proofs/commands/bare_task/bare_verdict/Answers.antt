@@ -26,8 +26,8 @@ returns-in-Strict-None-clause-refused c = λ some. rw c.in-Strict-None.is-0 (rec
   none_good = search rules;
 })
 
-pub returns-in-Strict-Some-clause-given : goal.returns-in-Strict-Some-clause-given
-returns-in-Strict-Some-clause-given c = rw c.in-Strict-Some.is-0 (record {
+pub returns-in-Ok-clause-given : goal.returns-in-Ok-clause-given
+returns-in-Ok-clause-given c = rw c.in-Strict-Some.is-0 (record {
   table = c.in_ok-maxp.maxp.items;
   table_spelled = search rules;
   glyph = record { points = c.args.words.points; contours = c.args.words.contours; program = c.in_ok-program.program.items };
@@ -40,8 +40,8 @@ returns-in-Strict-Some-clause-given c = rw c.in-Strict-Some.is-0 (record {
   refused = search rules;
 })
 
-pub returns-in-Strict-Some-clause-refused : goal.returns-in-Strict-Some-clause-refused
-returns-in-Strict-Some-clause-refused c = λ some. rw c.in-Strict-Some.is-0 (record {
+pub returns-in-Ok-clause-refused : goal.returns-in-Ok-clause-refused
+returns-in-Ok-clause-refused c = λ some. rw c.in-Strict-Some.is-0 (record {
   table = c.in_ok-maxp.maxp.items;
   table_spelled = search rules;
   glyph = record { points = c.args.words.points; contours = c.args.words.contours; program = c.in_ok-program.program.items };
