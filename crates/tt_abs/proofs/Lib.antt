@@ -26,6 +26,7 @@ pub mod Pushes
 pub mod Steps
 pub mod StateCoverage
 pub mod EntriesInRange
+pub mod EntriesInTurn
 pub mod EntryMerge
 pub mod SameEntries
 pub mod RunningOnCells

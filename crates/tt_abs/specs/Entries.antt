@@ -24,6 +24,11 @@ with_entry n v (e ∷ es) =
     else if nat_eq n e.0 then (n, v) ∷ es
     else e ∷ with_entry n v es
 
+-- the list after these entries were put into it, one after the other
+abbrev pub with_entries : {V : Type 0} → List (ℕ × V) → List (ℕ × V) → List (ℕ × V)
+with_entries es [] = es
+with_entries es (e ∷ more) = with_entries (with_entry e.0 e.1 es) more
+
 -- the list without the entries of a number
 abbrev pub without_entry : {V : Type 0} → ℕ → List (ℕ × V) → List (ℕ × V)
 without_entry n es = filter (λ e. not (nat_eq e.0 n)) es

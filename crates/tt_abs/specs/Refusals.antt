@@ -29,3 +29,14 @@ abbrev pub IsOfNoBudget : Refusal → Type 0
 IsOfNoBudget (Refused spot offset failed) = Unit {0}
 IsOfNoBudget (Exhausted Memory) = Unit {0}
 IsOfNoBudget (Exhausted Budget) = ⊥
+
+-- the same answer of work that has no budget: whatever ended the work is told as memory
+abbrev pub unlimited : Refusal → Refusal
+unlimited (Refused spot offset failed) = Refused spot offset failed
+unlimited (Exhausted by) = Exhausted Memory
+
+-- what holds of a refusal, and of memory that ran out, holds of the same answer without a budget
+pub unlimited_keeps : (P : Refusal → Type 0) → P (Exhausted Memory) → (fault : Refusal) → P fault
+    → P (unlimited fault)
+unlimited_keeps P memory (Refused spot offset failed) holds = holds
+unlimited_keeps P memory (Exhausted by) holds = memory

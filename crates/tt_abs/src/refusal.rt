@@ -1,7 +1,7 @@
 //! Why a program is refused, and where.
 
 ghost use Rattle.std.specs.Prelude.{◌≡◌};
-ghost use Rattle.tt_abs.specs.Refusals.{told_reason};
+ghost use Rattle.tt_abs.specs.Refusals.{IsOfNoBudget, told_reason, unlimited};
 ghost use Rattle.tt_abs.specs.declared.failed.Failed.TheVariants.{Only};
 
 use crate::exhausted::Exhausted;
@@ -48,6 +48,18 @@ impl Refusal {
         match self {
             Refusal::Refused { failed, .. } => Some(failed.reason()),
             Refusal::Exhausted(_) => None,
+        }
+    }
+
+    /// Returns the same answer of work that has no budget: the end of the greatest one is told as
+    /// out of memory.
+    pub fn without_budget(self) -> Refusal
+        ensures same { result ≡ unlimited self }
+        ensures within { IsOfNoBudget result }
+    {
+        match self {
+            Refusal::Exhausted(_) => Refusal::Exhausted(Exhausted::Memory),
+            refusal => refusal,
         }
     }
 }

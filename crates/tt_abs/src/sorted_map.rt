@@ -1,12 +1,12 @@
 //! Sorted maps: entries in ascending order of their numbers, such as functions with their bodies
 //! and storage cells with their numbers.
 
-ghost use Rattle.std.specs.Prelude.{◌≡◌, ◌↔◌, ℕ, ◌<◌, ◌≤◌, List, [], IsTrue, IfOk, MatchResult, OnOk, OnErr, take, length};
+ghost use Rattle.std.specs.Prelude.{◌≡◌, ◌↔◌, ℕ, ◌<◌, ◌≤◌, List, [], true, IsTrue, IfOk, MatchResult, OnOk, OnErr, take, length};
 ghost use Rattle.std.specs.Option.{IsSome};
 ghost use Rattle.std.specs.Result.{IsOk};
 ghost use Rattle.std.specs.List.{insert};
 ghost use Rattle.tt_abs.specs.Orders.{IsLeastAbove};
-ghost use Rattle.tt_abs.specs.Entries.{Ascends, listed, with_entry, without_entry};
+ghost use Rattle.tt_abs.specs.Entries.{Ascends, listed, with_entries, with_entry, without_entry};
 ghost use Rattle.tt_abs.specs.EntryLists.{IsEquality, IsAt, IsGap, EntriesBelow, EntriesInRange, entry_order, after_entry, entries_from, begins_with_entry, common_entries};
 
 use crate::order::{DepthMismatch, Order};
@@ -140,6 +140,21 @@ fn put_entry<T: Copy>(entries: &mut Vec<(u16, T)>, number: u16, value: T) -> Res
     }
 }
 
+/// Whether the numbers ascend.
+fn do_ascend<T>(entries: &[(u16, T)]) -> bool
+    ensures { result ≡ true → Ascends entries.now }
+{
+    let mut least = 0;
+    for entry in entries {
+        let number = u32::from(entry.0);
+        if number < least {
+            return false;
+        }
+        least = number + 1;
+    }
+    true
+}
+
 /// Removes the entry of a number.
 fn remove_entry<T: Copy>(entries: &mut Vec<(u16, T)>, number: u16)
     requires { Ascends entries.old.items }
@@ -262,6 +277,25 @@ impl<T: Copy> SortedMap<T> {
         Ok(SortedMap {
             entries: Vec::from_slice(alloc, entries)?,
         })
+    }
+
+    /// Makes a map of these entries, put one after the other: of several of one number the last
+    /// stays.
+    ///
+    /// # Errors
+    /// If memory runs out, or there are 65,536 numbers.
+    pub fn from_entries(alloc: Global, entries: &[(u16, T)]) -> Result<SortedMap<T>, AllocError>
+        ensures in_turn { IfOk result (λ made. made ≡ with_entries [] entries.now) }
+        ensures ascending { Ascends entries.now → IfOk result (λ made. made ≡ entries.now) }
+    {
+        if do_ascend(entries) {
+            return SortedMap::from_slice(alloc, entries);
+        }
+        let mut made = SortedMap::new(alloc);
+        for entry in entries {
+            made.put(entry.0, entry.1)?;
+        }
+        Ok(made)
     }
 
     /// Makes a map with the same entries.

@@ -51,27 +51,29 @@ const DEFAULT: Graphics<Cell, ZoneCell> = Graphics {
 impl State {
     ghost use Rattle.std.specs.Prelude.{◌≡◌, ◌<◌, ◌≤◌, ◌+◌, ◌^◌, ◌∷◌, ◌↔◌, length, reverse, slice_get, IsTrue, IfOk, OnOk, OnErr, [], drop};
     ghost use Rattle.tt_code.specs.States.{pointer, reference, with_pointer, with_reference};
-    ghost use Rattle.tt_abs.specs.Entries.{Ascends, storage_of, with_cell, with_entry};
+    ghost use Rattle.tt_abs.specs.Entries.{Ascends, storage_of, with_cell, with_entries, with_entry};
     ghost use Rattle.tt_abs.specs.Registers.{pointer_numbered, reference_numbered};
     ghost use Rattle.tt_abs.specs.Stacks.{ShareBottom};
     ghost use Rattle.tt_abs.specs.States.{KeepsRange, start_of, state_order};
     ghost use Rattle.tt_abs.specs.Transfers.{cells_on};
 
     /// Makes the state in which a program starts: an empty stack, the default graphics state, and
-    /// these functions, in ascending order of their numbers, each with its body. Nothing is known
-    /// of the storage area.
+    /// these functions, each with its body, defined one after the other: of several of one number
+    /// the last stays. Nothing is known of the storage area.
     ///
     /// # Errors
-    /// If memory runs out.
+    /// If memory runs out, or there are 65,536 functions.
     pub fn start(alloc: Global, functions: &[(u16, u32)]) -> Result<State, AllocError>
-        requires { Ascends functions.now }
-        ensures value { IfOk result (λ state. state ≡ start_of functions.now) }
+        ensures in_turn { IfOk result
+            (λ state. state ≡ start_of (with_entries [] functions.now)) }
+        ensures ascending { Ascends functions.now
+            → IfOk result (λ state. state ≡ start_of functions.now) }
         ensures in_range { IfOk result (λ state. state_order.InRange state) }
     {
         Ok(State {
             stack: Stack::new(alloc),
             graphics: DEFAULT,
-            functions: SortedMap::from_slice(alloc, functions)?,
+            functions: SortedMap::from_entries(alloc, functions)?,
             storage: SortedMap::new(alloc),
         })
     }

@@ -269,7 +269,7 @@ pub fn check_listing(
 /// `check_listing` checks a whole listing.
 ///
 /// # Errors
-/// `Refused` with what is broken first; `Exhausted`.
+/// `Refused` with what is broken first; `Exhausted` by memory.
 pub fn check_full(
     alloc: Global,
     setting: &Setting<'_>,
@@ -280,9 +280,13 @@ pub fn check_full(
     ensures safe { IfOk result (λ _. IsSafeFor setting.now certificate.now) }
     ensures exact { IsGoodFor setting.now certificate.now → IfErr result IsExhausted }
     ensures first { IfErr result (NamesBrokenFirst setting.now certificate.now) }
+    ensures within { IfErr result IsOfNoBudget }
 {
     let mut budget = Budget::unlimited();
-    check_listing(alloc, setting, Listing::Whole, certificate, &mut budget)
+    match check_listing(alloc, setting, Listing::Whole, certificate, &mut budget) {
+        Ok(()) => Ok(()),
+        Err(fault) => Err(fault.without_budget()),
+    }
 }
 
 /// Checks that the family, filled up with the states that it leaves out, is good for the program of
@@ -290,16 +294,20 @@ pub fn check_full(
 /// listing.
 ///
 /// # Errors
-/// `Refused` with what is broken first; `Exhausted`.
+/// `Refused` with what is broken first; `Exhausted` by memory.
 pub fn check(alloc: Global, setting: &Setting<'_>, certificate: &Certificate) -> Result<(), Refusal>
     requires ascends { Ascends setting.now.start.now }
     ensures filling { IfOk result (λ _. HasGoodFillingFor setting.now certificate.now) }
     ensures safe { IfOk result (λ _. HasSafeFillingFor setting.now certificate.now) }
     ensures exact { HasGoodFillingFor setting.now certificate.now → IfErr result IsExhausted }
     ensures first { IfErr result (NamesFillingBrokenFirst setting.now certificate.now) }
+    ensures within { IfErr result IsOfNoBudget }
 {
     let mut budget = Budget::unlimited();
-    check_listing(alloc, setting, Listing::Sparse, certificate, &mut budget)
+    match check_listing(alloc, setting, Listing::Sparse, certificate, &mut budget) {
+        Ok(()) => Ok(()),
+        Err(fault) => Err(fault.without_budget()),
+    }
 }
 
 /// States that a family has at most one good filling. The function does nothing: its contract is

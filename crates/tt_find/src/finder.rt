@@ -4,6 +4,7 @@
 ghost use Rattle.std.specs.Prelude.{◌≡◌, None, [], ◌∷◌, IfErr, IfOk, IfSome, OnErr, OnOk, is_some, option_map};
 ghost use Rattle.std.specs.Option.{option_copied};
 ghost use Rattle.tt_abs.specs.Entries.{Ascends};
+ghost use Rattle.tt_abs.specs.Refusals.{IsOfNoBudget};
 ghost use Rattle.tt_abs.specs.Settings.{setting_of};
 ghost use Rattle.tt_abs.specs.StateFlow.{FunctionsFit};
 ghost use Rattle.tt_family.specs.Budgets.{IsExceeded, Spends, TellsBudget};
@@ -415,7 +416,8 @@ impl Finder {
 /// `Refused`, for a glyph program longer than maxSizeOfInstructions, at that offset; for a state
 /// that an instruction refuses, with its reason, at that instruction; for two states of different
 /// depths, where they meet; for more than 65,535 contexts, at the instruction that enters one more;
-/// for a font program or a CVT program that never comes to its end, at its start. `Exhausted`.
+/// for a font program or a CVT program that never comes to its end, at its start. `Exhausted` by
+/// memory.
 pub fn find(alloc: Global, setting: &Setting<'_>) -> Result<Found, Refusal>
     requires ascends { Ascends setting.now.start.now }
     requires fits { FunctionsFit (setting_of setting.now) setting.now.start.now }
@@ -425,6 +427,7 @@ pub fn find(alloc: Global, setting: &Setting<'_>) -> Result<Found, Refusal>
     ensures justified { IfErr result (IsJustifiedFor setting.now) }
     ensures none_good { IfErr result (TellsNoneIsGood setting.now) }
     ensures never_ends { TellsNoEnd setting.now result }
+    ensures within { IfErr result IsOfNoBudget }
 {
     let mut finder = Finder::new(alloc);
     match finder.find(
@@ -434,7 +437,8 @@ pub fn find(alloc: Global, setting: &Setting<'_>) -> Result<Found, Refusal>
         &mut Budget::unlimited(),
     ) {
         Ok(_) => Ok(finder.into_found().unwrap()),
-        Err(fault) => Err(fault),
+        // No program has so many points.
+        Err(fault) => Err(fault.without_budget()),
     }
 }
 

@@ -2,5 +2,6 @@ pub mod Covering
 pub mod Copying
 pub mod Starts
 pub mod Walking
+pub mod Answers
 pub mod Checked
 pub mod Laws

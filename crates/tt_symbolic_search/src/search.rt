@@ -2,6 +2,7 @@
 
 ghost use Rattle.std.specs.Prelude.{IfErr};
 ghost use Rattle.tt_abs.specs.Refusals.{IsOfNoBudget};
+ghost use Rattle.tt_symbolic_search.specs.Answers.{IsAnswerOfSearch};
 
 use crate::blending::Merges;
 use crate::cell_names::CellName;
@@ -169,6 +170,7 @@ impl Search {
     /// `KeptEntry` for one that writes kept entries: `starts_after` leaves these out from now on; with
     /// `TooManySteps`, at the program's start, where more steps would be needed or too many states
     /// are listed. `Exhausted`, if memory runs out.
+    #[tactic(auto, using(crate::specs::Answers::answered_by_search))]
     pub fn find(
         &mut self,
         setting: &Setting<'_>,
@@ -176,7 +178,8 @@ impl Search {
         starts: &[Start],
         effort: Effort,
     ) -> Result<Found, Refusal>
-        ensures { IfErr result IsOfNoBudget }
+        ensures answer { IfErr result (IsAnswerOfSearch setting.now) }
+        ensures within { IfErr result IsOfNoBudget }
     {
         self.merges.thresholds = thresholds(self.alloc, setting)?;
         self.apart.retain(|name| name.body.is_some());
