@@ -4,7 +4,8 @@
 Usage: bench/specs.py
 A module in `specs/` itself is meaning: a clause of a public function cites it, or another such module needs it, and docs/DEFINITIONS.md leads
 through it. A module in `specs/Representation/` says how the code keeps what the others speak of: no clause of a public function cites it, and
-no module of meaning imports it. What differs is printed, and the exit status is then 1.
+no module of meaning imports it. The lemma of a closed definition is named by the one function whose contract shows it. What differs is
+printed, and the exit status is then 1.
 """
 
 import pathlib
@@ -19,6 +20,8 @@ PAGE = TOP / "docs/DEFINITIONS.md"
 FOLDER = "Representation"
 # The road through a font, which `explain` goes too, in another crate: its clauses say how the code keeps what is known, and users don't call it.
 SHARED = ("Programs::", "Judge::", "Finding::", "cut")
+# The lemmas that show closed definitions, each with the file of the one function that may name it.
+CLOSED = {"answered_by_check": "tt_symbolic_check/src/checking.rt", "answered_by_search": "tt_symbolic_search/src/search.rt"}
 IMPORT = re.compile(r"^(?:pub )?use Rattle\.(\w+)\.specs\.((?:Representation\.)?\w+)", re.M)
 
 
@@ -89,8 +92,20 @@ def sections() -> dict[str, str]:
     return {crate: text for crates, text in heads for crate in crates.split(", ")}
 
 
+def openings() -> typing.Iterator[str]:
+    """The files that name the lemma of a closed definition and may not."""
+    files = [*TOP.glob("crates/*/src/**/*.rt"), *TOP.glob("crates/*/proofs/**/*.antt"), *TOP.glob("crates/*/specs/**/*.antt")]
+    texts = {file.relative_to(TOP / "crates").as_posix(): file.read_text() for file in files}
+    for lemma, owner in CLOSED.items():
+        declared = f"{owner.split('/')[0]}/specs/Answers.antt"
+        yield from (f"{file} names {lemma}" for file, text in sorted(texts.items()) if lemma in text and file not in (owner, declared))
+        if texts[owner].count(lemma) != 1:
+            yield f"{owner} names {lemma} {texts[owner].count(lemma)} times"
+
+
 def faults() -> typing.Iterator[str]:
     """All that is wrong."""
+    yield from openings()
     cited = cited_by_clauses()
     yield from (f"{function} cites {module}" for module, function in cited.items() if module.is_representation)
     meaning = modules()

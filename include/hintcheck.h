@@ -18,8 +18,8 @@
  * C asks, and `refusals`, `may_hint` and `answer` overlap neither each other nor the bytes of the font or of the certificate. Memory is
  * taken with malloc while a call runs, and given back before it returns. Threads: calls may run at once in several threads, each with its
  * own `refusals`, `may_hint` and `answer`; not from a signal handler, and not in the forked child of a process with threads. Time: `points`
- * bounds how often a state is carried on (that no more is counted is proved); docs/EMBEDDING.md says which numbers real fonts need, and
- * what time that bounds. `steps` bounds the search by the symbolic profile.
+ * bounds how often a state is carried on (that no more is counted is proved; that all of the work is counted so is tested); docs/EMBEDDING.md
+ * says which numbers real fonts need, and what time that bounds. `steps` bounds the search by the symbolic profile, which is tested.
  */
 #ifndef HINTCHECK_H
 #define HINTCHECK_H

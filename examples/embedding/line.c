@@ -14,6 +14,10 @@ enum { SIZE = 24, WIDTH = 480, HEIGHT = 40, BASELINE = 30, LISTED = 3 };
 /* More than three times what real fonts need, and a bound on the time: some seconds. */
 #define POINTS 20000000u
 
+/* How glyphs are loaded without hints: under FT_LOAD_NO_HINTING alone FreeType runs the programs of a font that it takes for a "tricky" one
+ * all the same, for example by its family name, which the font's maker chooses. */
+#define NO_HINTS (FT_LOAD_NO_HINTING | FT_LOAD_NO_AUTOHINT)
+
 static unsigned char image[HEIGHT][WIDTH];
 
 /* The bytes of a file, or null. */
@@ -74,10 +78,10 @@ static int load_flags(const unsigned char *font, size_t length, const char *cert
                    hintcheck_reason_text(refusals[i].reason));
         }
         printf("refused: %u of %u programs, not hinted\n", (unsigned)answer.refused, (unsigned)answer.programs);
-        return FT_LOAD_NO_HINTING;
+        return NO_HINTS;
     default:
         printf("status %u, fault %u, not hinted\n", (unsigned)status, (unsigned)answer.fault);
-        return FT_LOAD_NO_HINTING;
+        return NO_HINTS;
     }
 }
 

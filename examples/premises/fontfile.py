@@ -35,7 +35,7 @@ class Glyph:
 class Font:
     """A font's programs, and what is expected of its loads where both sizes are equal and where
     they aren't: `holds` (no load fails), `fails` (one or more do), `faults` (all do), or `any`
-    (that differs from one FreeType to another)."""
+    (that differs from one FreeType to another). `way` is how premises.c loads it."""
 
     name: str
     glyphs: list[Glyph]
@@ -43,6 +43,8 @@ class Font:
     prep: bytes = b""
     equal: str = "holds"
     unequal: str = "holds"
+    family: str = "Premises"
+    way: str = "hinted"
 
 
 def push_one(number: int) -> bytes:
@@ -123,6 +125,13 @@ def maxp_table(glyphs: int, longest: int) -> bytes:
     return struct.pack(">I14H", 0x00010000, glyphs, *outlines, *programs)
 
 
+def name_table(family: str) -> bytes:
+    """The `name` table, with the family name alone."""
+    text = family.encode("utf-16-be")
+    record = struct.pack(">6H", 3, 1, 0x0409, 1, len(text), 0)
+    return struct.pack(">3H", 0, 1, 18) + record + text
+
+
 def tables_of(font: Font) -> dict[bytes, bytes]:
     """The tables of a font's file."""
     glyphs = [composite(glyph.components, glyph.program) if glyph.components
@@ -141,6 +150,7 @@ def tables_of(font: Font) -> dict[bytes, bytes]:
         b"hmtx": struct.pack(">Hh", 1000, 0) + bytes(2 * (count - 1)),
         b"loca": struct.pack(f">{count + 1}I", *places),
         b"maxp": maxp_table(count, longest),
+        b"name": name_table(font.family),
         b"post": glyph_names(font.glyphs),
         b"prep": font.prep,
     }

@@ -2,11 +2,12 @@
 """Writes the fonts that try the premises, and a list of them with what is expected of each.
 
 Usage: fonts.py FOLDER
-The list, FOLDER/fonts.txt, has a line for each font: its name, and what is expected of its loads at
-equal and at unequal sizes in x and y.
+The list, FOLDER/fonts.txt, has a line for each font and each way in which it is loaded: the font's
+name, the way, and what is expected of its loads at equal and at unequal sizes in x and y.
 """
 
 import collections.abc
+import dataclasses
 import itertools
 import pathlib
 import sys
@@ -300,13 +301,26 @@ def other_errors() -> Font:
     return Font("other-errors", glyphs, equal="faults", unequal="faults")
 
 
+def hints_off() -> list[Font]:
+    """A program that faults, in two fonts that are loaded with hints and with flags against them:
+    FreeType takes the first one for a tricky font by its family name."""
+    tricky = Font("tricky", [Glyph("underflow", POP)], family="DFKaiShu")
+    ordinary = dataclasses.replace(tricky, name="ordinary", family="Premises")
+    ways = {"hinted": ("faults", "faults"), "no-hinting": ("faults", "holds"),
+            "no-scale": ("faults", "holds"), "force-autohint": ("faults", "holds"),
+            "both-flags": ("holds", "holds")}
+    return [dataclasses.replace(font, way=way, equal=expected, unequal=expected)
+            for way, of_both in ways.items()
+            for font, expected in zip((tricky, ordinary), of_both)]
+
+
 def fonts() -> list[Font]:
     """All fonts."""
     exact = [tried("extremes", extremes()), tried("products", products()),
              tried("quotients", quotients()), tried("rounded", rounded()), tried("sums", sums())]
     return [*itertools.chain(*exact), wide_numbers(), *control_values(), *changed_control_values(),
             *memory(), *fresh_start(), *functions(), *effects(), nested_calls(32), nested_calls(33),
-            other_errors()]
+            other_errors(), *hints_off()]
 
 
 def main() -> None:
@@ -314,7 +328,7 @@ def main() -> None:
     lines = []
     for font in fonts():
         (folder / f"{font.name}.ttf").write_bytes(file_of(font))
-        lines.append(f"{font.name} {font.equal} {font.unequal}\n")
+        lines.append(f"{font.name} {font.way} {font.equal} {font.unequal}\n")
     (folder / "fonts.txt").write_text("".join(lines))
 
 

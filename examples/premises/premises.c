@@ -1,5 +1,6 @@
-/* Loads the fonts of a list with FreeType's pedantic interpreter, at several sizes and in several
- * orders of their glyphs, and says of each whether its loads fail as expected.
+/* Loads the fonts of a list with FreeType's pedantic interpreter, in the way that the list says, at
+ * several sizes and in several orders of their glyphs, and says of each whether its loads fail as
+ * expected.
  * Usage: premises FOLDER, where fonts.py has written the fonts and fonts.txt. */
 #include <ft2build.h>
 #include FT_FREETYPE_H
@@ -22,6 +23,22 @@ static const FT_UInt unequal[][2] = {{72, 96}, {96, 72}, {72, 200}};
 static const FT_Int32 targets[] = {FT_LOAD_TARGET_NORMAL, FT_LOAD_TARGET_MONO, FT_LOAD_TARGET_LCD};
 static const char *const target_names[] = {"normal", "mono", "lcd"};
 
+/* The ways in which a font is loaded: with its hints, and with flags that are to keep its programs
+ * from being run. */
+static const struct {
+    const char *name;
+    FT_Int32 flags;
+} ways[] = {{"hinted", FT_LOAD_NO_AUTOHINT},
+            {"no-hinting", FT_LOAD_NO_HINTING},
+            {"no-scale", FT_LOAD_NO_SCALE},
+            {"force-autohint", FT_LOAD_FORCE_AUTOHINT},
+            {"both-flags", FT_LOAD_NO_HINTING | FT_LOAD_NO_AUTOHINT}};
+
+/* A line of the list. */
+struct line {
+    char font[NAME], way[NAME], equal[NAME], unequal[NAME];
+};
+
 /* What came of a font's loads, and where the first failed one was. */
 struct tally {
     unsigned long loads, failures;
@@ -30,6 +47,7 @@ struct tally {
 
 /* Where a load is. */
 struct place {
+    FT_Int32 flags;
     FT_UInt version, target;
     const FT_UInt *resolution;
     FT_F26Dot6 size;
@@ -45,9 +63,19 @@ static void must(FT_Error error, const char *what)
     }
 }
 
+/* The flags of a way. */
+static FT_Int32 flags_of(const char *way)
+{
+    for (size_t each = 0; each < COUNT(ways); each++)
+        if (!strcmp(ways[each].name, way))
+            return ways[each].flags;
+    fprintf(stderr, "%s: not a way to load a font\n", way);
+    exit(2);
+}
+
 static void load(FT_Face face, FT_UInt glyph, const struct place *place, struct tally *tally)
 {
-    FT_Int32 flags = FT_LOAD_PEDANTIC | FT_LOAD_NO_BITMAP | FT_LOAD_NO_AUTOHINT;
+    FT_Int32 flags = FT_LOAD_PEDANTIC | FT_LOAD_NO_BITMAP | place->flags;
     FT_Error error = FT_Load_Glyph(face, glyph, flags | targets[place->target]);
     tally->loads++;
     if (!error)
@@ -101,15 +129,15 @@ static void load_at_two_sizes(FT_Face face, struct place *place, struct tally *t
 }
 
 /* A face of its own for a version and a resolution, at all sizes. */
-static void load_font(const char *file, FT_UInt version, const FT_UInt *resolution,
-                      struct tally *tally)
+static void load_font(const char *file, FT_Int32 flags, FT_UInt version,
+                      const FT_UInt *resolution, struct tally *tally)
 {
     FT_Library library;
     FT_Face face;
     must(FT_Init_FreeType(&library), "FreeType");
     must(FT_Property_Set(library, "truetype", "interpreter-version", &version), "version");
     must(FT_New_Face(library, file, 0, &face), file);
-    struct place place = {.version = version, .resolution = resolution};
+    struct place place = {.flags = flags, .version = version, .resolution = resolution};
     for (size_t size = 0; size < COUNT(sizes); size++) {
         place.size = sizes[size];
         must(FT_Set_Char_Size(face, sizes[size], 0, resolution[0], resolution[1]), "size");
@@ -123,7 +151,7 @@ static void load_font(const char *file, FT_UInt version, const FT_UInt *resoluti
 }
 
 /* Whether the loads came out as expected, which is printed. */
-static int is_as_expected(const char *font, const char *where, const char *expected,
+static int is_as_expected(const struct line *line, const char *where, const char *expected,
                           const struct tally *tally)
 {
     const char *found = tally->failures == 0              ? "holds"
@@ -131,7 +159,7 @@ static int is_as_expected(const char *font, const char *where, const char *expec
                                                           : "faults";
     int as_expected = !strcmp(expected, found) || !strcmp(expected, "any")
                       || (!strcmp(expected, "fails") && tally->failures > 0);
-    printf("%-26s %-8s %-6s %s, %lu of %lu loads fail\n", font, where, found,
+    printf("%-26s %-14s %-8s %-6s %s, %lu of %lu loads fail\n", line->font, line->way, where, found,
            as_expected ? "as expected" : "NOT EXPECTED", tally->failures, tally->loads);
     if (tally->failures > 0 && (strcmp(expected, "faults") || !as_expected))
         printf("    first: %s\n", tally->first);
@@ -139,16 +167,17 @@ static int is_as_expected(const char *font, const char *where, const char *expec
 }
 
 /* Whether a font's loads come out as expected at resolutions of one kind. */
-static int tries(const char *folder, const char *font, const char *where, const char *expected,
-                 const FT_UInt (*resolutions)[2], size_t count)
+static int tries(const char *folder, const struct line *line, const char *where,
+                 const char *expected, const FT_UInt (*resolutions)[2], size_t count)
 {
     char file[4 * NAME];
+    FT_Int32 flags = flags_of(line->way);
     struct tally tally = {0};
-    snprintf(file, sizeof file, "%s/%s.ttf", folder, font);
+    snprintf(file, sizeof file, "%s/%s.ttf", folder, line->font);
     for (size_t version = 0; version < COUNT(versions); version++)
         for (size_t each = 0; each < count; each++)
-            load_font(file, versions[version], resolutions[each], &tally);
-    return is_as_expected(font, where, expected, &tally);
+            load_font(file, flags, versions[version], resolutions[each], &tally);
+    return is_as_expected(line, where, expected, &tally);
 }
 
 static void print_version(void)
@@ -163,7 +192,8 @@ static void print_version(void)
 
 int main(int argc, char **argv)
 {
-    char list[4 * NAME], font[NAME], at_equal[NAME], at_unequal[NAME];
+    char list[4 * NAME];
+    struct line line;
     if (argc != 2) {
         fprintf(stderr, "usage: premises FOLDER\n");
         return 2;
@@ -176,9 +206,10 @@ int main(int argc, char **argv)
     }
     print_version();
     int all = 1;
-    while (fscanf(lines, "%127s %127s %127s", font, at_equal, at_unequal) == 3) {
-        all &= tries(argv[1], font, "equal", at_equal, equal, COUNT(equal));
-        all &= tries(argv[1], font, "unequal", at_unequal, unequal, COUNT(unequal));
+    while (fscanf(lines, "%127s %127s %127s %127s", line.font, line.way, line.equal, line.unequal)
+           == 4) {
+        all &= tries(argv[1], &line, "equal", line.equal, equal, COUNT(equal));
+        all &= tries(argv[1], &line, "unequal", line.unequal, unequal, COUNT(unequal));
     }
     fclose(lines);
     puts(all ? "all as expected" : "not all as expected");

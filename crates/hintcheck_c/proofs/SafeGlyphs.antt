@@ -21,6 +21,7 @@ use Rattle.hintcheck_fonts.specs.SymbolicVerdicts.{AreOthersThan, IsGlyphSetting
 use Rattle.hintcheck_fonts.specs.SymbolicVerdicts as symbolic
 use Rattle.hintcheck_fonts.specs.Verdicts.{Judgement}
 use Rattle.hintcheck_fonts.proofs.FontSafety.{good_end, good_families_are_safe}
+use Rattle.hintcheck_fonts.proofs.SymbolicAnswers.{refusal_named}
 use Rattle.hintcheck_report.specs.declared.refused.Refused.{Refused}
 use Rattle.hintcheck_c.specs.MayHint.{AreAccepted, HoldSafeGlyph, HoldSymbolicSafeGlyphs, IsAnothers, MayHint, with_only}
 
@@ -138,10 +139,10 @@ is_among font programs id gs rs (symbolic.accepted n x xs qs s there is rest) (s
     let I : ℕ → Type 0 = λ j. IsAmong font programs j g in
     let e : n + suc k ≡ (n + 1) + k = omega arith in
     subst I (sym e) (is_among font programs (n + 1) xs qs rest k g at (subst A e fine))
-is_among font programs id gs rs (symbolic.refused n x xs r qs is none rest) zero g at fine =
+is_among font programs id gs rs (symbolic.refused n x xs r qs fs is none rest) zero g at fine =
     let e : n + zero ≡ n = omega arith in
-    absurd (not_named r (name.Glyph n) (n + zero) (first_is_anothers r qs (n + zero) fine) is (sym e))
-is_among font programs id gs rs (symbolic.refused n x xs r qs is none rest) (suc k) g at fine =
+    absurd (not_named r (name.Glyph n) (n + zero) (first_is_anothers r qs (n + zero) fine) (refusal_named (glyph_subject font fs n x) r is) (sym e))
+is_among font programs id gs rs (symbolic.refused n x xs r qs fs is none rest) (suc k) g at fine =
     let A : ℕ → Type 0 = AreAccepted qs in
     let I : ℕ → Type 0 = λ j. IsAmong font programs j g in
     let e : n + suc k ≡ (n + 1) + k = omega arith in
@@ -151,9 +152,9 @@ is_among font programs id gs rs (symbolic.refused n x xs r qs is none rest) (suc
 pub glyphs_are_safe_symbolic : (bytes : List ℕ) (d : FontData) (v : Judgement) (entries : List ℕ) (id : ℕ) → Reads bytes d → IsSymbolicVerdict d v
     → ((k : ℕ) → slice_index entries k ≡ 1 → MayHint bytes v.refused k) → slice_index entries id ≡ 1 → HoldSymbolicSafeGlyphs bytes entries
 glyphs_are_safe_symbolic bytes d v entries id reads (symbolic.font_refused r is) may one =
-    absurd (not_named r name.Font id (first_is_anothers r [] id ((may id one).accepted id (reaches_itself (font_outlines bytes) id))) is)
-glyphs_are_safe_symbolic bytes d v entries id reads (symbolic.cvt_refused f r cut safe is) may one =
-    absurd (not_named r name.Cvt id (first_is_anothers r [] id ((may id one).accepted id (reaches_itself (font_outlines bytes) id))) is)
+    absurd (not_named r name.Font id (first_is_anothers r [] id ((may id one).accepted id (reaches_itself (font_outlines bytes) id))) (refusal_named (font_subject d) r is))
+glyphs_are_safe_symbolic bytes d v entries id reads (symbolic.cvt_refused f ends r cut safe known is) may one =
+    absurd (not_named r name.Cvt id (first_is_anothers r [] id ((may id one).accepted id (reaches_itself (font_outlines bytes) id))) (refusal_named (cvt_subject d f ends.functions) r is))
 glyphs_are_safe_symbolic bytes d v entries id reads (symbolic.none_ended f p programs rs font cvt glyphs safe) may one = record {
   font = d;
   reads = reads;

@@ -7,11 +7,11 @@ use Rattle.tt_abs.specs.Failures.{reason_of}
 use Rattle.tt_abs.specs.declared.refusal.Refusal.{Refusal}
 use Rattle.tt_abs.specs.declared.refusal.Refusal.TheVariants as fault
 use Rattle.hintcheck_fonts.specs.BarePrograms.{IsJudged}
-use Rattle.hintcheck_fonts.specs.ProgramVerdicts.{IfRefused}
+use Rattle.hintcheck_fonts.specs.ProgramVerdicts.{IfRefused, IsUncut}
 use Rattle.hintcheck_report.specs.Places.{reported_at}
 use Rattle.hintcheck_fonts.specs.Programs.{HasLeastFamily, Subject}
 use Rattle.hintcheck_fonts.specs.Representation.Judges.{IsRefusedFor}
-use Rattle.hintcheck_fonts.specs.Representation.ProgramOrder.{IsUncut, TellsOutcome}
+use Rattle.hintcheck_fonts.specs.Representation.ProgramOrder.{TellsOutcome}
 use Rattle.hintcheck_fonts.specs.Representation.SessionStages.{ListsOutcome}
 use Rattle.hintcheck_fonts.specs.Sessions.{refused_as}
 use Rattle.hintcheck_report.specs.declared.refused.Refused.{Refused}

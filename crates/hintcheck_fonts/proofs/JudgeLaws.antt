@@ -15,12 +15,11 @@ use Rattle.tt_family.specs.Contents.{Contents, family_of}
 use Rattle.tt_find.specs.declared.finder.Found.{Found}
 use Rattle.hintcheck_fonts.specs.Certificates.{IsCheckRefusal}
 use Rattle.hintcheck_fonts.specs.Certificates as check
-use Rattle.hintcheck_fonts.specs.ProgramVerdicts.{IfRefused, IsFaultOfProgram, IsSubjectOf, NoneIsGoodFor}
+use Rattle.hintcheck_fonts.specs.ProgramVerdicts.{IfRefused, IsFaultOfProgram, IsProgramOf, IsSubjectOf, IsUncut, NoneIsGoodFor, no_cut, no_structure, with_start}
 use Rattle.hintcheck_fonts.specs.Programs.{Subject}
 use Rattle.hintcheck_fonts.specs.Programs as cause
 use Rattle.hintcheck_fonts.specs.Representation.Judges.{IsFoundIn, IsFoundToEndIn, IsRefusedFor}
 use Rattle.hintcheck_fonts.specs.Representation.FontVerdicts.{ComesToEnd}
-use Rattle.hintcheck_fonts.specs.Representation.ProgramOrder.{IsProgramOf, IsUncut, no_cut, no_structure, with_start}
 use Rattle.hintcheck_fonts.specs.declared.finding.Finding.{Finding}
 use Rattle.hintcheck_report.specs.declared.refused.Refused.{Refused}
 use Rattle.hintcheck_fonts.proofs.FontEnds.{found_at_end, found_to_end, known_of_accepted}

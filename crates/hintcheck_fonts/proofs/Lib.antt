@@ -25,4 +25,5 @@ pub mod SecondFindings
 pub mod FailedReads
 pub mod UpgradeReads
 pub mod SymbolicStarts
+pub mod SymbolicAnswers
 pub mod SymbolicSteps

@@ -18,11 +18,11 @@ use Rattle.tt_cert.specs.Readers.{Input}
 use Rattle.tt_font.specs.Reading.{FontData, GlyphData}
 use Rattle.hintcheck_fonts.specs.Certificates.{HasNoSection}
 use Rattle.hintcheck_fonts.specs.FontPrograms.{cvt_subject, font_of, font_subject, glyph_subject}
-use Rattle.hintcheck_fonts.specs.ProgramVerdicts.{IfRefused}
+use Rattle.hintcheck_fonts.specs.ProgramVerdicts.{IfRefused, IsProgramOf, IsUncut}
 use Rattle.hintcheck_report.specs.Places.{reported_at}
 use Rattle.hintcheck_fonts.specs.Programs.{IsCutInto, Subject}
 use Rattle.hintcheck_fonts.specs.Representation.FontVerdicts.{ComesToEnd}
-use Rattle.hintcheck_fonts.specs.Representation.ProgramOrder.{CanGoOn, IsAcceptedTo, IsAnswerBy, IsNext, IsOutcomeBy, IsProgramOf, IsSettingOf, IsUncut, TellsOutcome, cvt_done, cvt_stops, font_done, font_stops, glyph_done, glyph_stops, next_program, stage_after, start_at}
+use Rattle.hintcheck_fonts.specs.Representation.ProgramOrder.{CanGoOn, IsAcceptedTo, IsAnswerBy, IsNext, IsOutcomeBy, IsSettingOf, TellsOutcome, cvt_done, cvt_stops, font_done, font_stops, glyph_done, glyph_stops, next_program, stage_after, start_at}
 use Rattle.hintcheck_fonts.specs.Representation.SessionStages.{KeepsGood}
 use Rattle.hintcheck_fonts.specs.Sessions.{IsFaultAt, IsLast, Stage, StageOf, accepted_as, after_font, at_glyph, at_start, last_glyph, no_cvt, no_font, no_glyph, none_is_left, over, refused_as}
 use Rattle.hintcheck_fonts.specs.declared.programs.Ended.{Ended}

@@ -15,11 +15,12 @@ use Rattle.tt_symbolic_font.specs.Known.{IsGlyphChecked, StartGlyphs, StartsKnow
 use Rattle.tt_symbolic_font.specs.Starts.{GlyphPrograms, StartsFontProgram}
 use Rattle.tt_symbolic_font.specs.declared.ends.Ends.{Ends}
 use Rattle.tt_symbolic_font.specs.declared.glyph_starts.GlyphStarts.{GlyphStarts}
-use Rattle.hintcheck_fonts.specs.FontPrograms.{font_of, glyph_subject, judgement_on}
+use Rattle.hintcheck_fonts.specs.FontPrograms.{cvt_subject, font_of, font_subject, glyph_subject, judgement_on}
 use Rattle.hintcheck_fonts.specs.Representation.ProgramOrder.{CanGoOn, cvt_done, cvt_stops, font_done, font_stops, glyph_done, glyph_stops, next_program, skipped_to}
 use Rattle.hintcheck_fonts.specs.Representation.SessionStages.{ListsOutcome}
 use Rattle.hintcheck_fonts.specs.Representation.SymbolicChecks.{AnswersBySymbols, AreCheckedInTurn, AreEnded, AreUnchecked, AreUncheckedTill, IsAfterCvt, IsAfterFont, IsCheckedBy, IsEnded, TellsRefused, accepted, no_glyph_left, refused}
 use Rattle.hintcheck_fonts.specs.Sessions.{Stage, after_font, at_glyph, at_start, over}
+use Rattle.hintcheck_fonts.specs.SymbolicRefusals.{IsSymbolicRefusal}
 use Rattle.hintcheck_fonts.specs.SymbolicVerdicts.{AreOthersThan, IsGlyphSetting, IsSafeAlone, IsSymbolicVerdict, cvt_refused, font_refused, none_ended, only_program}
 use Rattle.hintcheck_fonts.specs.SymbolicVerdicts as told
 use Rattle.hintcheck_report.specs.declared.refused.Refused.{Refused}
@@ -49,7 +50,7 @@ font_stops_at d j t None told r answers some is = absurd (let no = answers.0 in 
 font_stops_at d j t (Some o) told r (font_done f known ends) some is = absurd (let same = sym is ∙ some o refl in cc)
 font_stops_at d j t (Some o) told r (font_stops q of) some is =
     let same : q ≡ r = let e = sym (some o refl) ∙ is in cc in
-    font_refused r (subst (λ (x : Refused). x.program ≡ name.Font) same of)
+    font_refused r (subst (λ (x : Refused). IsSymbolicRefusal (font_subject d) x) same of)
 
 font_program_stops : (d : FontData) (j : SymbolicCheck) (s t : Stage) (told : Option Refused) (r : Refused) → s ≡ at_start → TellsRefused d j s told t → told ≡ Some r
     → IsSymbolicVerdict d (judgement_on d (r ∷ []))
@@ -91,7 +92,8 @@ cvt_stops_at d first j f known t None told r after answers some is = absurd (let
 cvt_stops_at d first j f known t (Some o) told r after (cvt_done g p start known' ends) some is = absurd (let e = sym is ∙ some o refl in cc)
 cvt_stops_at d first j f known t (Some o) told r (cut, font, same) (cvt_stops g start q of) some is =
     let e : q ≡ r = let both = sym (some o refl) ∙ is in cc in
-    cvt_refused f r cut (λ m n q starts. font.safe m n q (knows_nothing m starts)) (subst (λ (x : Refused). x.program ≡ name.Cvt) e of)
+    let of_start = subst (λ (fs : List (ℕ × ℕ)). IsSymbolicRefusal (cvt_subject d f fs) q) same of in
+    cvt_refused f first r cut (λ m n q starts. font.safe m n q (knows_nothing m starts)) font.shown (subst (λ (x : Refused). IsSymbolicRefusal (cvt_subject d f first.functions) x) e of_start)
 
 cvt_program_stops : (d : FontData) (first : Ends) (j : SymbolicCheck) (s t : Stage) (told : Option Refused) (r : Refused) → IsAfterFont d first s → TellsRefused d j s told t → told ≡ Some r
     → IsSymbolicVerdict d (judgement_on d (r ∷ []))
@@ -169,7 +171,7 @@ next_glyph d ends j f p known id t o rs rs' (glyph_stops f' p' known' id' g r th
       let F : Font = font_of d f p in
       let G : List GlyphData → Type 0 = λ gs. AreUnchecked F j.starts id gs (r ∷ others) in
       let R : List Refused → Type 0 = λ l. AreUnchecked F j.starts 0 d.glyphs l in
-      let one = refused id g (drop (id + 1) d.glyphs) r others of from in
+      let one = refused id g (drop (id + 1) d.glyphs) r others known of from in
       subst R (listed_first rs rs' (Some r) others listed) (till (r ∷ others) (subst G (sym (dropped d.glyphs id g there)) one)),
 )
 
@@ -205,7 +207,7 @@ glyph_after d ends j (at_glyph f p known id) t answer o is answers after =
 abbrev settings_of : (font : Font) (starts : GlyphStarts) (id : ℕ) (gs : List GlyphData) (rs : List Refused) → AreUnchecked font starts id gs rs → List (Option Setting)
 settings_of font starts id gs rs (no_glyph_left n) = []
 settings_of font starts id gs rs (accepted n g gs' rs' s is checked rest) = Some s ∷ settings_of font starts (n + 1) gs' rs' rest
-settings_of font starts id gs rs (refused n g gs' r rs' of rest) = None ∷ settings_of font starts (n + 1) gs' rs' rest
+settings_of font starts id gs rs (refused n g gs' r rs' fs of rest) = None ∷ settings_of font starts (n + 1) gs' rs' rest
 
 abbrev programs_in : List (Option Setting) → ℕ → Option Setting
 programs_in [] n = None
@@ -220,9 +222,9 @@ others font starts id gs rs (accepted n g gs' rs' s is checked rest) programs sa
     let e : n + 0 ≡ n = omega arith in
     told.accepted n g gs' rs' s (subst (λ (k : ℕ). programs k ≡ Some s) e (same 0)) is
     (others font starts (n + 1) gs' rs' rest programs (λ k. let q : n + suc k ≡ n + 1 + k = omega arith in subst (λ (i : ℕ). programs i ≡ programs_in (settings_of font starts (n + 1) gs' rs' rest) k) q (same (suc k))))
-others font starts id gs rs (refused n g gs' r rs' of rest) programs same =
+others font starts id gs rs (refused n g gs' r rs' fs of rest) programs same =
     let e : n + 0 ≡ n = omega arith in
-    told.refused n g gs' r rs' of (subst (λ (k : ℕ). programs k ≡ None) e (same 0))
+    told.refused n g gs' r rs' fs of (subst (λ (k : ℕ). programs k ≡ None) e (same 0))
     (others font starts (n + 1) gs' rs' rest programs (λ k. let q : n + suc k ≡ n + 1 + k = omega arith in subst (λ (i : ℕ). programs i ≡ programs_in (settings_of font starts (n + 1) gs' rs' rest) k) q (same (suc k))))
 
 checked_in : (font : Font) (starts : GlyphStarts) (id : ℕ) (gs : List GlyphData) (rs : List Refused) (all : AreUnchecked font starts id gs rs) (k : ℕ) (s : Setting)
@@ -230,8 +232,8 @@ checked_in : (font : Font) (starts : GlyphStarts) (id : ℕ) (gs : List GlyphDat
 checked_in font starts id gs rs (no_glyph_left n) k s e = absurd cc
 checked_in font starts id gs rs (accepted n g gs' rs' s' is checked rest) zero s e = let same : s' ≡ s = cc in subst (λ (x : Setting). IsGlyphChecked x starts) same checked
 checked_in font starts id gs rs (accepted n g gs' rs' s' is checked rest) (suc k) s e = checked_in font starts (n + 1) gs' rs' rest k s e
-checked_in font starts id gs rs (refused n g gs' r rs' of rest) zero s e = absurd cc
-checked_in font starts id gs rs (refused n g gs' r rs' of rest) (suc k) s e = checked_in font starts (n + 1) gs' rs' rest k s e
+checked_in font starts id gs rs (refused n g gs' r rs' fs of rest) zero s e = absurd cc
+checked_in font starts id gs rs (refused n g gs' r rs' fs of rest) (suc k) s e = checked_in font starts (n + 1) gs' rs' rest k s e
 
 checked_font : (d : FontData) (f p : List Instruction) (ends : Ends) (starts : GlyphStarts) (rs : List Refused) → AreEnded d f p ends → StartGlyphs ends starts
     → AreUnchecked (font_of d f p) starts 0 d.glyphs rs → IsSymbolicVerdict d (judgement_on d rs)

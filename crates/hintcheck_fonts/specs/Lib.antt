@@ -13,6 +13,7 @@ pub mod Sessions
 pub mod FindingSessions
 pub mod FailedReads
 pub mod BudgetAnswers
+pub mod SymbolicRefusals
 pub mod SymbolicVerdicts
 pub mod FontAnswers
 pub mod Representation

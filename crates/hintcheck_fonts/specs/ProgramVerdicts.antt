@@ -1,6 +1,8 @@
 -- What the verdict on one program is, and what is reported of it.
-use Rattle.std.specs.Prelude.{◌≡◌, List, [], ◌∷◌, ◌++◌, Option, Some}
-use Rattle.tt_code.specs.Cut.{Instruction}
+use Rattle.std.specs.Prelude.{◌≡◌, ℕ, List, [], ◌∷◌, ◌++◌, Option, Some}
+use Rattle.tt_code.specs.Cut.{CannotBeCut, Instruction, IsCut}
+use Rattle.tt_code.specs.Grammar.{IsFault}
+use Rattle.tt_code.specs.declared.reason.Reason.TheVariants as reason
 use Rattle.tt_abs.specs.Failures.{reason_of}
 use Rattle.tt_abs.specs.declared.setting.Setting.{Setting}
 use Rattle.tt_abs.specs.declared.state.State.{State}
@@ -10,6 +12,7 @@ use Rattle.tt_abs.specs.StateFlow.{FitsLimits, Place}
 use Rattle.tt_family.specs.Contents.{Contents, family_of}
 use Rattle.tt_family.specs.Fillings.{HasGoodFilling, IsFilling}
 use Rattle.tt_family.specs.GoodFamilies.{IsGoodFamily}
+use Rattle.tt_abs.specs.declared.spot.Spot.TheVariants as spot
 use Rattle.tt_abs.specs.declared.refusal.Refusal.{Refusal}
 use Rattle.tt_abs.specs.declared.refusal.Refusal.TheVariants.{Refused, Exhausted}
 use Rattle.tt_find.specs.Found.{IsLeast}
@@ -27,6 +30,22 @@ pub record IsSubjectOf (x : Subject) (s : Setting) : Type 0 where
   pub cut : IsCutInto x s.main.now
   pub setting : x.setting s.main.now ≡ setting_of s
   pub functions : x.functions ≡ s.start.now
+
+-- this is the program of this setting, whatever it starts with
+pub record IsProgramOf (x : Subject) (s : Setting) : Type 0 where
+  pub cut : IsCutInto x s.main.now
+  pub setting : x.setting s.main.now ≡ setting_of s
+
+-- a program with the functions with which it starts
+abbrev pub with_start : Subject → List (ℕ × ℕ) → Subject
+with_start x functions = record x { functions = functions }
+
+-- The program of these bytes can't be cut, or its structure is at fault, and this is reported of it.
+pub data IsUncut (called : Name) (bytes : List ℕ) : AnyRefused → Type 0 where
+  no_cut : (offset : ℕ) → CannotBeCut bytes offset
+      → IsUncut called bytes (reported_at called spot.Main offset reason.CannotCut)
+  no_structure : (is : List Instruction) (offset : ℕ) → IsCut bytes is → IsFault is offset
+      → IsUncut called bytes (reported_at called spot.Main offset reason.Structure)
 
 -- The program has these instructions, and the family's filling is good for it, the least that is,
 -- and within the font's limits; so every machine that a run comes to is covered, and doesn't fault.

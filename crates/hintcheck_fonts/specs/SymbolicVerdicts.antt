@@ -1,17 +1,19 @@
 -- The verdict on a font by symbolic states. A refusal tells no more than that this search found no
--- way to accept the program.
+-- way to accept the program, or why its bytes can't be looked at.
 use Rattle.std.specs.Prelude.{◌≡◌, ℕ, ◌+◌, ◌≤◌, zero, suc, List, [], ◌∷◌, None, Some, length}
 use Rattle.tt_code.specs.Cut.{Instruction, IsCut}
 use Rattle.tt_code.specs.Fonts.{Font, font_setting, glyph_setting}
 use Rattle.tt_code.specs.Grammar.{IsStructured}
 use Rattle.tt_code.specs.Settings.{Setting}
-use Rattle.tt_cert.specs.declared.name.Name.TheVariants as name
 use Rattle.tt_font.specs.Reading.{FontData, GlyphData}
+use Rattle.tt_symbolic_font.specs.Known.{AreEndsKnowing}
 use Rattle.tt_symbolic_font.specs.Laws.{IsFontSafe}
 use Rattle.tt_symbolic_font.specs.Starts.{GlyphPrograms, StartsFontProgram}
+use Rattle.tt_symbolic_font.specs.declared.ends.Ends.{Ends}
 use Rattle.tt_symbolic_state.specs.CvtMachine.{CvtNeverFaults}
-use Rattle.hintcheck_fonts.specs.FontPrograms.{cvt_subject, font_of, font_subject, judgement_on}
+use Rattle.hintcheck_fonts.specs.FontPrograms.{cvt_subject, font_of, font_subject, glyph_subject, judgement_on}
 use Rattle.hintcheck_fonts.specs.Programs.{IsCutInto}
+use Rattle.hintcheck_fonts.specs.SymbolicRefusals.{IsSymbolicRefusal}
 use Rattle.hintcheck_fonts.specs.Verdicts.{Judgement}
 use Rattle.hintcheck_report.specs.declared.refused.Refused.{Refused}
 
@@ -34,19 +36,23 @@ pub data AreOthersThan (font : Font) (programs : GlyphPrograms) : ℕ → List G
       → programs id ≡ Some s → IsGlyphSetting font g s
       → AreOthersThan font programs (id + 1) gs rs → AreOthersThan font programs id (g ∷ gs) rs
   refused : (id : ℕ) (g : GlyphData) (gs : List GlyphData) (r : Refused) (rs : List Refused)
-      → r.program ≡ name.Glyph id → programs id ≡ None
+      (functions : List (ℕ × ℕ)) → IsSymbolicRefusal (glyph_subject font functions id g) r
+      → programs id ≡ None
       → AreOthersThan font programs (id + 1) gs rs
       → AreOthersThan font programs id (g ∷ gs) (r ∷ rs)
 
 -- The verdict on a font. A refused font program or CVT program ends it; of a font whose CVT program
--- is refused no run of the font program faults. A refused glyph program doesn't end it: as long as
+-- is refused no run of the font program faults, and it starts with the functions that are known
+-- where that one ends. A refused glyph program doesn't end it: as long as
 -- only the others are run, no run of the font program, of the CVT program, or of one of these
 -- glyph programs faults.
 pub data IsSymbolicVerdict (d : FontData) : Judgement → Type 0 where
-  font_refused : (r : Refused) → r.program ≡ name.Font
+  font_refused : (r : Refused) → IsSymbolicRefusal (font_subject d) r
       → IsSymbolicVerdict d (judgement_on d (r ∷ []))
-  cvt_refused : (f : List Instruction) (r : Refused) → IsCutInto (font_subject d) f
-      → CvtNeverFaults (font_setting (font_of d f [])) StartsFontProgram → r.program ≡ name.Cvt
+  cvt_refused : (f : List Instruction) (ends : Ends) (r : Refused) → IsCutInto (font_subject d) f
+      → CvtNeverFaults (font_setting (font_of d f [])) StartsFontProgram
+      → AreEndsKnowing (font_setting (font_of d f [])) [] ends
+      → IsSymbolicRefusal (cvt_subject d f ends.functions) r
       → IsSymbolicVerdict d (judgement_on d (r ∷ []))
   none_ended : (f p : List Instruction) (programs : GlyphPrograms) (rs : List Refused)
       → IsCutInto (font_subject d) f → IsCutInto (cvt_subject d f []) p

@@ -7,7 +7,7 @@ ghost use Rattle.tt_abs.specs.Settings.{setting_of};
 ghost use Rattle.tt_code.specs.Cut.{size};
 ghost use Rattle.hintcheck_fonts.specs.Representation.FontVerdicts.{ComesToEnd};
 ghost use Rattle.hintcheck_fonts.specs.Representation.Judges.{AreWithin, IsFoundIn, IsFoundToEndIn, IsRefusedFor};
-ghost use Rattle.hintcheck_fonts.specs.Representation.ProgramOrder.{with_start};
+ghost use Rattle.hintcheck_fonts.specs.ProgramVerdicts.{with_start};
 
 use crate::judge::Judge;
 use crate::program::{Search, find_and_check};

@@ -5,10 +5,9 @@ ghost use Rattle.tt_abs.specs.Settings.{setting_of};
 ghost use Rattle.tt_code.specs.Cut.{Instruction};
 ghost use Rattle.tt_code.specs.declared.limits.Limits.{Limits};
 ghost use Rattle.tt_family.specs.Budgets.{Spends, TellsBudget};
-ghost use Rattle.hintcheck_fonts.specs.ProgramVerdicts.{IfRefused};
+ghost use Rattle.hintcheck_fonts.specs.ProgramVerdicts.{IfRefused, IsProgramOf, IsUncut};
 ghost use Rattle.hintcheck_fonts.specs.Programs.{Subject};
 ghost use Rattle.hintcheck_fonts.specs.Representation.FontVerdicts.{ComesToEnd};
-ghost use Rattle.hintcheck_fonts.specs.Representation.ProgramOrder.{IsProgramOf, IsUncut};
 ghost use Rattle.hintcheck_report.specs.declared.refused.Refused.{Refused};
 
 use crate::report::Name;

@@ -13,9 +13,8 @@ ghost use Rattle.tt_family.specs.Budgets.{Spends, TellsBudget};
 ghost use Rattle.tt_family.specs.Checks.{IsExhausted};
 ghost use Rattle.tt_cert.specs.declared.name.Name.{Name as ProgramName};
 ghost use Rattle.hintcheck_fonts.specs.Programs.{Subject};
-ghost use Rattle.hintcheck_fonts.specs.ProgramVerdicts.{IfRefused, IsFaultOfProgram, IsFilledIn, IsForCertificate, IsSubjectOf, NoneIsGoodFor};
+ghost use Rattle.hintcheck_fonts.specs.ProgramVerdicts.{IfRefused, IsFaultOfProgram, IsFilledIn, IsForCertificate, IsSubjectOf, IsUncut, NoneIsGoodFor};
 ghost use Rattle.hintcheck_fonts.specs.Representation.Judges.{IsFoundHere};
-ghost use Rattle.hintcheck_fonts.specs.Representation.ProgramOrder.{IsUncut};
 
 use std::alloc::Global;
 use tt_abs::{Refusal, Setting};

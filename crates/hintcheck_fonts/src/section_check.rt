@@ -6,9 +6,8 @@ ghost use Rattle.tt_abs.specs.Settings.{setting_of};
 ghost use Rattle.tt_family.specs.Budgets.{Spends, TellsBudget};
 ghost use Rattle.tt_family.specs.Checks.{IsExhausted, Names};
 ghost use Rattle.hintcheck_fonts.specs.Certificates.{IsCheckRefusal, IsListingBrokenFirst};
-ghost use Rattle.hintcheck_fonts.specs.ProgramVerdicts.{IsFilledIn, IsListedIn};
+ghost use Rattle.hintcheck_fonts.specs.ProgramVerdicts.{IsFilledIn, IsListedIn, with_start};
 ghost use Rattle.hintcheck_fonts.specs.Representation.Judges.{IsPassedBy, IsPassedToEnd};
-ghost use Rattle.hintcheck_fonts.specs.Representation.ProgramOrder.{with_start};
 
 use crate::judge::Judge;
 use crate::report::Name;

@@ -1,9 +1,13 @@
 //! The verdict on one program by symbolic states.
 
 ghost use Rattle.std.specs.Prelude.{◌≡◌, ◌≤◌, ◌<◌, ◌^◌, ◌⊎◌, [], IfErr, IfOk, None, OnOk, length};
+ghost use Rattle.std.specs.List.{All};
 ghost use Rattle.tt_font.specs.Conditions.{maxp_fault};
 ghost use Rattle.tt_font.specs.Reading.{GlyphData, glyph_data};
 ghost use Rattle.hintcheck_fonts.specs.BarePrograms.{IsMemory, bare_font, font_around, glyph_with};
+ghost use Rattle.tt_cert.specs.declared.name.Name.TheVariants as name;
+ghost use Rattle.hintcheck_fonts.specs.ProgramVerdicts.{IfRefused};
+ghost use Rattle.hintcheck_fonts.specs.SymbolicRefusals.{IsRefusedAlone};
 ghost use Rattle.hintcheck_fonts.specs.SymbolicVerdicts.{IsSafeAlone};
 
 use crate::bare_program::empty_program;
@@ -23,6 +27,7 @@ use tt_font::{FontFault, GlyphPart, read_maxp};
 ///
 /// # Errors
 /// `Refused`; `Exhausted`.
+#[tactic(auto, using(crate::proofs::SymbolicAnswers::memory_refuses, crate::proofs::SymbolicAnswers::turn_refuses, crate::proofs::SymbolicAnswers::cut_refuses))]
 fn judge_bare(
     alloc: Global,
     limits: Limits,
@@ -31,7 +36,9 @@ fn judge_bare(
     steps: u64,
 ) -> Result<(), Refusal>
     requires { length glyph.now.program.now < 2 ^ 31 }
-    ensures { OnOk result (IsSafeAlone (font_around limits cvt) (glyph_data glyph.now)) }
+    ensures safe { OnOk result (IsSafeAlone (font_around limits cvt) (glyph_data glyph.now)) }
+    ensures told { IfErr result (λ fault.
+        IfRefused (name.Glyph 0) fault (IsRefusedAlone (glyph_data glyph.now))) }
 {
     let empty = empty_program(alloc)?;
     let program = cut(alloc, glyph.program)?;
@@ -73,6 +80,8 @@ fn refused_programs(
     ensures safe { IfOk result (λ refused. refused.items ≡ []
         → IsSafeAlone (font_around limits cvt) (glyph_data glyph.now)) }
     ensures one { IfOk result (λ refused. length refused.items ≤ 1) }
+    ensures told { IfOk result (λ refused.
+        All (IsRefusedAlone (glyph_data glyph.now)) refused.items) }
 {
     match judge_bare(alloc, limits, cvt, glyph, steps) {
         Ok(()) => Ok(Vec::new(alloc)),
@@ -104,6 +113,8 @@ pub fn bare_symbolic(
     ensures accepted { let glyph : GlyphData = glyph_with points contours program.now in
         IfOk result (λ v. v.refused ≡ [] → IsSafeAlone (bare_font maxp.now cvt glyph) glyph) }
     ensures one { IfOk result (λ v. (v.programs ≡ 1) × (length v.refused ≤ 1)) }
+    ensures told { let glyph : GlyphData = glyph_with points contours program.now in
+        IfOk result (λ v. All (IsRefusedAlone glyph) v.refused) }
     ensures fields { OnOk result (maxp_fault maxp.now ≡ None) }
     ensures faults { IfErr result
         (λ e. (maxp_fault maxp.now ≡ Some e) ⊎ (IsMemory e × (maxp_fault maxp.now ≡ None))) }
@@ -130,6 +141,8 @@ pub fn bare_symbolic_within(
     ensures accepted { let glyph : GlyphData = glyph_with points contours program.now in
         IfOk result (λ v. v.refused ≡ [] → IsSafeAlone (bare_font maxp.now cvt glyph) glyph) }
     ensures one { IfOk result (λ v. (v.programs ≡ 1) × (length v.refused ≤ 1)) }
+    ensures told { let glyph : GlyphData = glyph_with points contours program.now in
+        IfOk result (λ v. All (IsRefusedAlone glyph) v.refused) }
     ensures fields { OnOk result (maxp_fault maxp.now ≡ None) }
     ensures faults { IfErr result
         (λ e. (maxp_fault maxp.now ≡ Some e) ⊎ (IsMemory e × (maxp_fault maxp.now ≡ None))) }

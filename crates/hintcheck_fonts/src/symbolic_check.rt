@@ -1,10 +1,12 @@
 //! The judge that searches and checks a program by symbolic states.
 
-ghost use Rattle.std.specs.Prelude.{◌≡◌, IfErr, IfOk, IsTrue, OnOk, Some, refl};
+ghost use Rattle.std.specs.Prelude.{◌≡◌, ℕ, List, IfErr, IfOk, IsTrue, OnOk, Some, refl};
 ghost use Rattle.tt_abs.specs.Entries.{Ascends};
 ghost use Rattle.tt_abs.specs.Refusals.{IsOfNoBudget, told_reason};
 ghost use Rattle.tt_abs.specs.Settings.{setting_of};
 ghost use Rattle.tt_symbolic_font.specs.Known.{StartGlyphs};
+ghost use Rattle.hintcheck_fonts.specs.ProgramVerdicts.{with_start};
+ghost use Rattle.hintcheck_fonts.specs.SymbolicRefusals.{IsSymbolicAnswer, IsSymbolicRefusal, IsToldInTurn};
 ghost use Rattle.hintcheck_fonts.specs.Representation.FontVerdicts.{ComesToEnd};
 ghost use Rattle.hintcheck_fonts.specs.Representation.SymbolicChecks.{AreCheckedInTurn, IsCheckedBy, IsEnded, IsEndedBy, IsRunnable};
 
@@ -68,6 +70,7 @@ fn effort_left(search: &Search, most_steps: u64) -> Effort {
 ///
 /// # Errors
 /// Those of `Search::find` and of `check_before_glyphs`.
+#[tactic(auto, using(crate::proofs::SymbolicAnswers::memory_answers, crate::proofs::SymbolicAnswers::search_answers, crate::proofs::SymbolicAnswers::ends_answer))]
 fn check_to_end(
     alloc: Global,
     search: &mut Search,
@@ -77,6 +80,7 @@ fn check_to_end(
 ) -> Result<Ends, Refusal>
     requires { Ascends functions.now }
     ensures ended { IfOk result (IsEnded (setting_of setting.now) functions.now) }
+    ensures answer { IfErr result (IsSymbolicAnswer setting.now functions.now) }
     ensures within { IfErr result IsOfNoBudget }
 {
     let functions = SortedMap::from_slice(alloc, functions)?;
@@ -96,6 +100,7 @@ fn check_to_end(
 /// # Errors
 /// `Refused` too where it is longer than the font allows; those of `Search::find` and of
 /// `check_glyph_program`.
+#[tactic(auto, using(crate::proofs::SymbolicAnswers::memory_answers, crate::proofs::SymbolicAnswers::search_answers, crate::proofs::SymbolicAnswers::check_answers))]
 fn check_glyph(
     alloc: Global,
     search: &mut Search,
@@ -104,6 +109,8 @@ fn check_glyph(
     starts: &GlyphStarts,
 ) -> Result<(), Refusal>
     ensures runnable { OnOk result (IsRunnable (setting_of setting.now) starts.now) }
+    ensures answer { (functions : List (ℕ × ℕ))
+        → IfErr result (IsSymbolicAnswer setting.now functions) }
     ensures within { IfErr result IsOfNoBudget }
 {
     if !is_short(setting) {
@@ -153,6 +160,7 @@ fn starts_after(alloc: Global, search: &mut Search, ends: &Ends) -> Result<Glyph
 ///
 /// # Errors
 /// Those of `Search::find`, of `check_before_glyphs` and of `check_glyph_program`.
+#[tactic(auto, using(crate::proofs::SymbolicAnswers::answer_in_turn, crate::proofs::SymbolicAnswers::memory_in_turn))]
 fn check_found(
     alloc: Global,
     search: &mut Search,
@@ -163,6 +171,7 @@ fn check_found(
 ) -> Result<(), Refusal>
     ensures checked { OnOk result (AreCheckedInTurn (setting_of font.now) (setting_of cvt.now)
         (setting_of glyph.now)) }
+    ensures told { IfErr result IsToldInTurn }
     ensures within { IfErr result IsOfNoBudget }
 {
     let effort = effort_left(search, most_steps);
@@ -189,6 +198,7 @@ pub(crate) fn check_in_turn(
 ) -> Result<(), Refusal>
     ensures checked { OnOk result (AreCheckedInTurn (setting_of font.now) (setting_of cvt.now)
         (setting_of glyph.now)) }
+    ensures told { IfErr result IsToldInTurn }
     ensures within { IfErr result IsOfNoBudget }
 {
     let mut search = Search::new(alloc);
@@ -279,6 +289,7 @@ impl SymbolicCheck {
         ensures runnable { OnOk result ((ComesToEnd (setting_of setting.now).kind → ⊥)
             → IsRunnable (setting_of setting.now) self.new.starts) }
         ensures starts { self.new.starts ≡ self.old.starts }
+        ensures answer { IfErr result (IsSymbolicAnswer setting.now functions.now) }
         ensures within { IfErr result IsOfNoBudget }
     {
         let effort = effort_left(&self.search, self.most_steps);
@@ -318,7 +329,7 @@ impl Judge for SymbolicCheck {
 
     ghost Ends = { λ j x start is known. IsEndedBy j x start is known };
 
-    ghost Refuses = { λ j x start r. r.program ≡ x.name };
+    ghost Refuses = { λ j x start r. IsSymbolicRefusal (with_start x start) r };
 
     ghost Keeps = { λ j k. k.starts ≡ j.starts };
 

@@ -1,7 +1,6 @@
 //! States as text: `[1 2 ?] rp0=1 zp0=? loop=2 f3=40 s1=7`.
 
 ghost use Rattle.std.specs.Prelude.{IfOk};
-ghost use Rattle.tt_abs.specs.Entries.{Ascends};
 ghost use Rattle.tt_abs.specs.States.{state_order};
 
 use crate::places::body_text;
@@ -113,7 +112,6 @@ pub(crate) fn state_from(
     words: &mut Words<'_>,
     start: &[(u16, u32)],
 ) -> Result<State>
-    requires { Ascends start.now }
     ensures { IfOk result (λ state. state_order.InRange state) }
 {
     let mut state = State::start(alloc, start)?;

@@ -1,3 +1,4 @@
+pub mod Answering
 pub mod Checked
 pub mod Following
 pub mod Fonts

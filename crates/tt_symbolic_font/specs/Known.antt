@@ -38,6 +38,12 @@ pub record AreEndsKnowing (s : Setting) (functions : List (ℕ × ℕ)) (ends : 
 abbrev pub IsSafeKnowing : Setting → List (ℕ × ℕ) → Type 0
 IsSafeKnowing s functions = CvtNeverFaults s (StartsKnowing functions)
 
+-- no run from such a start comes to the end
+abbrev pub NeverComesToEnd : Setting → List (ℕ × ℕ) → Type 0
+NeverComesToEnd s functions =
+    (m n : CvtMachine) → StartsKnowing functions m → CvtRuns s m n
+    → is_at_end s n.machine ≡ true → ⊥
+
 -- a program starts with the second machine, with the memory of the first, and has these functions
 pub record StartsThen (functions : List (ℕ × ℕ)) (m n : CvtMachine) : Type 0 where
   pub fresh : IsFresh n.machine

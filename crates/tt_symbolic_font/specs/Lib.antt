@@ -1,3 +1,4 @@
 pub mod Starts
 pub mod Known
+pub mod Answers
 pub mod Laws

@@ -3,6 +3,7 @@
 ghost use Rattle.std.specs.Prelude.{◌≡◌, IfErr, IfOk, true};
 ghost use Rattle.tt_abs.specs.Refusals.{IsOfNoBudget};
 ghost use Rattle.tt_abs.specs.Settings.{setting_of};
+ghost use Rattle.tt_symbolic_font.specs.Answers.{IsAnswerBeforeGlyphs};
 ghost use Rattle.tt_symbolic_font.specs.Known.{AreEndsKnowing, AreKnown, IsSafeKnowing, StartsKnowing};
 ghost use Rattle.tt_symbolic_check.specs.Starts.{StartsAs};
 ghost use Rattle.tt_symbolic_state.specs.CvtMachine.{CvtMachine};
@@ -96,8 +97,8 @@ fn known_functions(alloc: Global, states: &[State]) -> Result<SortedMap<u32>, Al
 /// listed states. Returns what is known at its end.
 ///
 /// # Errors
-/// Those of `check`; and `NeverEnds`, at the program's first byte, where no run that was walked
-/// comes to the end.
+/// Those of `check`; and `NeverEnds`, at the program's first byte, where no run comes to the end.
+#[tactic(auto, using(crate::proofs::Answering::memory_answers, crate::proofs::Answering::check_answers))]
 pub fn check_before_glyphs(
     alloc: Global,
     setting: &Setting<'_>,
@@ -107,6 +108,7 @@ pub fn check_before_glyphs(
 ) -> Result<Ends, Refusal>
     ensures safe { IfOk result (λ ends. IsSafeKnowing (setting_of setting.now) functions.now) }
     ensures ends { IfOk result (AreEndsKnowing (setting_of setting.now) functions.now) }
+    ensures answer { IfErr result (IsAnswerBeforeGlyphs setting.now functions.now) }
     ensures within { IfErr result IsOfNoBudget }
 {
     let start = start_with(alloc, functions)?;

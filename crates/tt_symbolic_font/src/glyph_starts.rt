@@ -4,6 +4,7 @@ ghost use Rattle.std.specs.Prelude.{◌≡◌, ℕ, IfErr, IfOk, IfSome, OnOk, S
 ghost use Rattle.tt_abs.specs.Refusals.{IsOfNoBudget};
 ghost use Rattle.tt_abs.specs.Settings.{setting_of};
 ghost use Rattle.tt_symbolic.specs.Kept.{IsAmong};
+ghost use Rattle.tt_symbolic_check.specs.Answers.{IsAnswerOfCheck};
 ghost use Rattle.tt_symbolic_check.specs.Starts.{StartsAs};
 ghost use Rattle.tt_symbolic_font.specs.Known.{IsFollowed, IsGlyphChecked, ListsAmong, StartGlyphs, StartsThen};
 ghost use Rattle.tt_symbolic_state.specs.CvtMachine.{CvtMachine};
@@ -155,6 +156,7 @@ impl GlyphStarts {
     ) -> Result<(), Refusal>
         ensures checked { IfOk result (λ done.
             IsGlyphChecked (setting_of setting.now) self.now) }
+        ensures answer { IfErr result (IsAnswerOfCheck setting.now) }
         ensures within { IfErr result IsOfNoBudget }
     {
         let kept = Kept {

@@ -13,10 +13,10 @@ use Rattle.tt_font.specs.Reading.{FontData}
 use Rattle.hintcheck_fonts.specs.Certificates.{IsCheckRefusal, Passes, PassesToEnd}
 use Rattle.hintcheck_fonts.specs.CheckedFonts.{IsGoodAtEnd}
 use Rattle.hintcheck_fonts.specs.FindingSessions.{IsFoundFor, IsFoundToEnd}
-use Rattle.hintcheck_fonts.specs.ProgramVerdicts.{IsAccepted, IsForCertificate}
+use Rattle.hintcheck_fonts.specs.ProgramVerdicts.{IsAccepted, IsForCertificate, with_start}
 use Rattle.hintcheck_fonts.specs.Programs.{HasGoodFamily, HasLeastFamily, IsRefusal, Subject}
 use Rattle.hintcheck_fonts.specs.Representation.FontVerdicts.{ComesToEnd, IsKnownAtEnd}
-use Rattle.hintcheck_fonts.specs.Representation.ProgramOrder.{IsAnswerBy, IsOutcomeBy, with_start}
+use Rattle.hintcheck_fonts.specs.Representation.ProgramOrder.{IsAnswerBy, IsOutcomeBy}
 use Rattle.hintcheck_fonts.specs.Sessions.{Stage}
 use Rattle.hintcheck_fonts.specs.declared.finding.Finding.{Finding}
 use Rattle.hintcheck_fonts.specs.declared.program.Search.{Search}

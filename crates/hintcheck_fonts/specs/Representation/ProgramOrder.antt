@@ -2,13 +2,10 @@
 -- (Representation: no public clause cites it.)
 use Rattle.std.specs.Prelude.{◌≡◌, ℕ, ◌+◌, ◌<◌, ◌^◌, List, [], Option, Some, None, Result, Ok, Err, option_map, length, slice_get}
 use Rattle.tt_abs.specs.declared.exhausted.Exhausted.{Exhausted}
-use Rattle.tt_code.specs.Cut.{CannotBeCut, Instruction, IsCut}
-use Rattle.tt_code.specs.Grammar.{IsFault}
-use Rattle.tt_code.specs.declared.reason.Reason.TheVariants as reason
+use Rattle.tt_code.specs.Cut.{Instruction}
 use Rattle.tt_abs.specs.declared.refusal.Refusal.{Refusal}
 use Rattle.tt_abs.specs.declared.refusal.Refusal.TheVariants as fault
 use Rattle.tt_abs.specs.declared.setting.Kind.{Kind}
-use Rattle.tt_abs.specs.declared.spot.Spot.TheVariants as spot
 use Rattle.tt_abs.specs.Failures.{reason_of}
 use Rattle.tt_abs.specs.Settings.{kind_of, setting_of}
 use Rattle.tt_abs.specs.declared.setting.Setting.{Setting}
@@ -41,10 +38,6 @@ start_at at_start = []
 start_at (after_font f known) = known
 start_at (at_glyph f p known id) = known
 start_at over = []
-
--- a program with the functions with which it starts
-abbrev pub with_start : Subject → List (ℕ × ℕ) → Subject
-with_start x functions = record x { functions = functions }
 
 -- which program is next, after which one comes the glyph of this number
 abbrev pub stage_in : {K : Type 0} → Before K → ℕ → StageOf K
@@ -100,23 +93,11 @@ pub record IsTold (x : Subject) (n : Next) : Type 0 where
 abbrev pub IsNext : {K : Type 0} → FontData → StageOf K → Next → Type 0
 IsNext d stage n = (x : Subject) × (next_program d stage ≡ Some x) × IsTold x n
 
--- this is the program of this setting, whatever it starts with
-pub record IsProgramOf (x : Subject) (s : Setting) : Type 0 where
-  pub cut : IsCutInto x s.main.now
-  pub setting : x.setting s.main.now ≡ setting_of s
-
 -- the setting is that of the next program with these instructions, if it is of this kind
 abbrev pub IsSettingOf : {K : Type 0} → FontData → StageOf K → Kind → List Instruction → Setting
     → Type 0
 IsSettingOf d stage kind is s = (x : Subject) → next_program d stage ≡ Some x
     → (x.setting is).kind ≡ kind_of kind → x.setting is ≡ setting_of s
-
--- The program of these bytes can't be cut, or its structure is at fault, and this is reported of it.
-pub data IsUncut (called : Name) (bytes : List ℕ) : Refused → Type 0 where
-  no_cut : (offset : ℕ) → CannotBeCut bytes offset
-      → IsUncut called bytes (reported_at called spot.Main offset reason.CannotCut)
-  no_structure : (is : List Instruction) (offset : ℕ) → IsCut bytes is → IsFault is offset
-      → IsUncut called bytes (reported_at called spot.Main offset reason.Structure)
 
 -- the answer is the outcome of a program of this name that the fault refuses; or what ended the work
 -- without one

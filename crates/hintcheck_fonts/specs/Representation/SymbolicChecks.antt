@@ -3,17 +3,18 @@ use Rattle.std.specs.Prelude.{◌≡◌, ℕ, ◌+◌, ◌++◌, List, [], ◌�
 use Rattle.tt_code.specs.Cut.{Instruction}
 use Rattle.tt_code.specs.Fonts.{Font, cvt_setting, font_setting}
 use Rattle.tt_code.specs.Settings.{Setting}
-use Rattle.tt_cert.specs.declared.name.Name.TheVariants as name
 use Rattle.tt_family.specs.GoodFamilies.{IsShortEnough}
 use Rattle.tt_font.specs.Reading.{FontData, GlyphData}
 use Rattle.tt_symbolic_font.specs.Known.{AreEndsKnowing, IsGlyphChecked, IsSafeKnowing, StartGlyphs}
 use Rattle.tt_symbolic_font.specs.declared.ends.Ends.{Ends}
 use Rattle.tt_symbolic_font.specs.declared.glyph_starts.GlyphStarts.{GlyphStarts}
-use Rattle.hintcheck_fonts.specs.FontPrograms.{cvt_subject, font_of, font_subject}
+use Rattle.hintcheck_fonts.specs.FontPrograms.{cvt_subject, font_of, font_subject, glyph_subject}
+use Rattle.hintcheck_fonts.specs.ProgramVerdicts.{with_start}
 use Rattle.hintcheck_fonts.specs.Programs.{IsCutInto, Subject}
 use Rattle.hintcheck_fonts.specs.Representation.FontVerdicts.{ComesToEnd}
 use Rattle.hintcheck_fonts.specs.Representation.ProgramOrder.{IsAnswerBy}
 use Rattle.hintcheck_fonts.specs.Sessions.{Stage, after_font, at_glyph}
+use Rattle.hintcheck_fonts.specs.SymbolicRefusals.{IsSymbolicRefusal}
 use Rattle.hintcheck_fonts.specs.SymbolicVerdicts.{IsGlyphSetting}
 use Rattle.hintcheck_report.specs.declared.refused.Refused.{Refused}
 use Rattle.hintcheck_fonts.specs.declared.session.Outcome.{Outcome}
@@ -47,7 +48,8 @@ pub record IsEndedBy (j : SymbolicCheck) (x : Subject) (functions : List (ℕ ×
 -- what comes of the next program, and which one is next then
 abbrev pub AnswersBySymbols : FontData → SymbolicCheck → Stage → Option Outcome → Stage → Type 0
 AnswersBySymbols d j = IsAnswerBy d (λ x start is. IsCheckedBy j x start is)
-    (λ x start is known. IsEndedBy j x start is known) (λ x start r. r.program ≡ x.name)
+    (λ x start is known. IsEndedBy j x start is known)
+    (λ x start r. IsSymbolicRefusal (with_start x start) r)
 
 -- what is reported of the next program, if it is refused
 pub record TellsRefused (d : FontData) (j : SymbolicCheck) (s : Stage) (refused : Option Refused)
@@ -87,7 +89,8 @@ pub data AreUnchecked (font : Font) (starts : GlyphStarts) : ℕ → List GlyphD
       → IsGlyphSetting font g s → IsGlyphChecked s starts
       → AreUnchecked font starts (id + 1) gs rs → AreUnchecked font starts id (g ∷ gs) rs
   refused : (id : ℕ) (g : GlyphData) (gs : List GlyphData) (r : Refused) (rs : List Refused)
-      → r.program ≡ name.Glyph id → AreUnchecked font starts (id + 1) gs rs
+      (functions : List (ℕ × ℕ)) → IsSymbolicRefusal (glyph_subject font functions id g) r
+      → AreUnchecked font starts (id + 1) gs rs
       → AreUnchecked font starts id (g ∷ gs) (r ∷ rs)
 
 -- With these refused ones so far, those from a stage on complete the glyph programs.

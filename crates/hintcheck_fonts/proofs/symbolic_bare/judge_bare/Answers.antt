@@ -12,8 +12,8 @@ use Rattle.hintcheck_fonts.proofs.symbolic_bare.judge_bare.Goals as goal
 abbrev setting_with : Limits → ℕ → Kind → List Instruction → List Instruction → Setting
 setting_with limits cvt kind main others = record { limits = limits; cvt = cvt; kind = kind; main = main; font = others; prep = others }
 
-pub returns : goal.returns
-returns c =
+pub returns-clause-safe : goal.returns-clause-safe
+returns-clause-safe c =
     let main = c.in_ok-program.program in
     let g : GlyphData = glyph_data c.args.glyph.now in
     let P : ℕ → List Instruction → Type 0 = λ n is. let with = setting_with c.args.limits n in

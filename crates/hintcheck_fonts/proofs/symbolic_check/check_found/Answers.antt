@@ -1,7 +1,8 @@
-use Rattle.std.proofs.Common.{ℕ, List, subst}
-use Rattle.std.proofs.lemmas.Result.{on_ok_weaker}
+use Rattle.std.proofs.Common.{ℕ, List, [], subst}
+use Rattle.std.proofs.lemmas.Result.{IfErr-weaker, on_ok_weaker}
 use Rattle.tt_abs.specs.Settings.{setting_of}
 use Rattle.hintcheck_fonts.specs.Representation.SymbolicChecks.{IsEnded}
+use Rattle.hintcheck_fonts.proofs.SymbolicAnswers.{answer_in_turn}
 use Rattle.hintcheck_fonts.proofs.symbolic_check.check_found.Goals as goal
 
 pub returns-clause-checked : goal.returns-clause-checked
@@ -14,3 +15,6 @@ returns-clause-checked c = on_ok_weaker c.check_glyph.result (λ run. record {
   begun = c.in_ok-starts.ensures;
   runnable = run;
 }) c.check_glyph.ensures.runnable
+
+pub returns-clause-told : goal.returns-clause-told
+returns-clause-told c = IfErr-weaker c.check_glyph.result _ _ (λ refusal answer. answer_in_turn c.args.glyph.now [] refusal answer) (c.check_glyph.ensures.answer [])

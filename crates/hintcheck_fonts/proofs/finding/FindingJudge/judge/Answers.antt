@@ -3,7 +3,7 @@ use Rattle.std.proofs.lemmas.Result.{IfOk-weaker}
 use Rattle.tt_code.specs.Settings.{Setting as MachineSetting}
 use Rattle.tt_family.specs.Contents.{family_of}
 use Rattle.hintcheck_fonts.specs.Representation.FontVerdicts.{ComesToEnd}
-use Rattle.hintcheck_fonts.specs.Representation.ProgramOrder.{with_start}
+use Rattle.hintcheck_fonts.specs.ProgramVerdicts.{with_start}
 use Rattle.hintcheck_fonts.proofs.EmptyPrograms.{least_without_instructions}
 use Rattle.hintcheck_fonts.proofs.FontEnds.{least_of}
 use Rattle.hintcheck_fonts.proofs.JudgeLaws.{refused_by, started, starts}

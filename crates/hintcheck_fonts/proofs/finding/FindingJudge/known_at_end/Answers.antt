@@ -4,7 +4,7 @@ use Rattle.std.specs.Prelude.{is_some}
 use Rattle.std.proofs.lemmas.Result.{IfOk-weaker}
 use Rattle.tt_code.specs.Settings.{Setting as MachineSetting}
 use Rattle.hintcheck_fonts.specs.Representation.Judges.{AreWithin}
-use Rattle.hintcheck_fonts.specs.Representation.ProgramOrder.{with_start}
+use Rattle.hintcheck_fonts.specs.ProgramVerdicts.{with_start}
 use Rattle.hintcheck_fonts.proofs.JudgeLaws.{comes_with, end_is_found, known_in}
 use Rattle.hintcheck_fonts.proofs.finding.FindingJudge.known_at_end.Goals as goal
 

@@ -1,4 +1,4 @@
-use Rattle.hintcheck_fonts.specs.Representation.ProgramOrder.{with_start}
+use Rattle.hintcheck_fonts.specs.ProgramVerdicts.{with_start}
 use Rattle.hintcheck_fonts.proofs.JudgeLaws.{uncut_is_refused}
 use Rattle.hintcheck_fonts.proofs.finding.FindingJudge.uncut_facts.Goals as goal
 

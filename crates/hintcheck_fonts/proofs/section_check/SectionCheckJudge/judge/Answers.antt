@@ -1,4 +1,4 @@
-use Rattle.hintcheck_fonts.specs.Representation.ProgramOrder.{with_start}
+use Rattle.hintcheck_fonts.specs.ProgramVerdicts.{with_start}
 use Rattle.hintcheck_fonts.proofs.CheckRefusals.{broken_result}
 use Rattle.hintcheck_fonts.proofs.JudgeLaws.{started, starts}
 use Rattle.hintcheck_fonts.proofs.section_check.SectionCheckJudge.judge.Goals as goal

@@ -3,7 +3,7 @@ use Rattle.std.proofs.lemmas.Result.{IfOk-weaker}
 use Rattle.tt_code.specs.Cut.{size}
 use Rattle.tt_code.specs.Settings.{Setting as MachineSetting}
 use Rattle.tt_family.specs.Contents.{family_of}
-use Rattle.hintcheck_fonts.specs.Representation.ProgramOrder.{with_start}
+use Rattle.hintcheck_fonts.specs.ProgramVerdicts.{with_start}
 use Rattle.hintcheck_fonts.proofs.CheckRefusals.{passed_to_end}
 use Rattle.hintcheck_fonts.proofs.FontEnds.{listed_at_end}
 use Rattle.hintcheck_fonts.proofs.JudgeLaws.{comes_with}

@@ -1,4 +1,4 @@
-use Rattle.hintcheck_fonts.specs.Representation.ProgramOrder.{with_start}
+use Rattle.hintcheck_fonts.specs.ProgramVerdicts.{with_start}
 use Rattle.hintcheck_fonts.proofs.JudgeLaws.{uncut_fails_check}
 use Rattle.hintcheck_fonts.proofs.section_check.SectionCheckJudge.uncut_facts.Goals as goal
 

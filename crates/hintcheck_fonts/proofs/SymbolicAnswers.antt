@@ -1,0 +1,79 @@
+-- Why a program isn't accepted by symbolic states, from where it is told to what is reported.
+use Rattle.std.proofs.Common.{◌≡◌, ℕ, List, [], ◌∷◌, ◌++◌, refl, subst, sym}
+use Rattle.std.specs.Prelude.{Option, None, Some, Result, Ok, Err, IfOk}
+use Rattle.std.specs.List.{All}
+use Rattle.tt_code.specs.declared.reason.Reason.TheVariants.{ProgramTooLong}
+use Rattle.tt_abs.specs.Settings.{setting_of}
+use Rattle.tt_abs.specs.declared.exhausted.Exhausted.TheVariants.{Memory}
+use Rattle.tt_abs.specs.declared.failed.Failed.TheVariants.{Only}
+use Rattle.tt_abs.specs.declared.refusal.Refusal.{Refusal}
+use Rattle.tt_abs.specs.declared.refusal.Refusal.TheVariants.{Refused, Exhausted}
+use Rattle.tt_abs.specs.declared.setting.Setting.{Setting}
+use Rattle.tt_abs.specs.declared.spot.Spot.TheVariants.{Main}
+use Rattle.tt_cert.specs.declared.name.Name.{Name}
+use Rattle.tt_cert.specs.declared.name.Name.TheVariants as name
+use Rattle.tt_family.specs.GoodFamilies.{IsShortEnough}
+use Rattle.tt_font.specs.Reading.{GlyphData}
+use Rattle.tt_symbolic_check.specs.Answers.{IsAnswerOfCheck}
+use Rattle.tt_symbolic_font.specs.Answers.{IsAnswerBeforeGlyphs}
+use Rattle.tt_symbolic_search.specs.Answers.{IsAnswerOfSearch}
+use Rattle.hintcheck_fonts.specs.ProgramVerdicts.{IfRefused, IsProgramOf, IsUncut, no_cut, no_structure, with_start}
+use Rattle.hintcheck_fonts.specs.Programs.{Subject}
+use Rattle.hintcheck_fonts.specs.SymbolicRefusals.{IsRefusedAlone, IsSymbolicAnswer, IsSymbolicRefusal, IsToldInTurn, before_glyphs, checked, judged, out_of_memory, searched, told_in_turn, too_long, uncut, uncut_alone}
+use Rattle.hintcheck_report.specs.declared.refused.Refused.{Refused as AnyRefused}
+
+pub memory_answers : (s : Setting) (functions : List (ℕ × ℕ)) (refusal : Refusal) → refusal ≡ Exhausted Memory → IsSymbolicAnswer s functions refusal
+memory_answers s functions refusal is = subst (λ (r : Refusal). IsSymbolicAnswer s functions r) (sym is) out_of_memory
+
+pub search_answers : (s : Setting) (functions : List (ℕ × ℕ)) (refusal : Refusal) → IsAnswerOfSearch s refusal → IsSymbolicAnswer s functions refusal
+search_answers s functions refusal answer = searched refusal answer
+
+pub ends_answer : (s : Setting) (functions : List (ℕ × ℕ)) (refusal : Refusal) → IsAnswerBeforeGlyphs s functions refusal → IsSymbolicAnswer s functions refusal
+ends_answer s functions refusal answer = before_glyphs refusal answer
+
+pub check_answers : (s : Setting) (functions : List (ℕ × ℕ)) (refusal : Refusal) → IsAnswerOfCheck s refusal → IsSymbolicAnswer s functions refusal
+check_answers s functions refusal answer = checked refusal answer
+
+pub length_answers : (s : Setting) (functions : List (ℕ × ℕ)) (refusal : Refusal) (most : ℕ) → (IsShortEnough (setting_of s) (setting_of s).kind → ⊥) → most ≡ s.limits.program_size
+    → refusal ≡ Refused Main most (Only ProgramTooLong) → IsSymbolicAnswer s functions refusal
+length_answers s functions refusal most long is told =
+    let same : refusal ≡ Refused Main s.limits.program_size (Only ProgramTooLong) = cc in
+    subst (λ (r : Refusal). IsSymbolicAnswer s functions r) (sym same) (too_long long)
+
+-- what a judge's answer is that says why the program isn't accepted
+pub answer_refuses : (x : Subject) (s : Setting) (start : List (ℕ × ℕ)) (refusal : Refusal) → IsProgramOf x s → IsSymbolicAnswer s start refusal
+    → IfRefused x.name refusal (IsSymbolicRefusal (with_start x start))
+answer_refuses x s start (Refused at offset failed) is answer =
+    judged s at offset failed (record { cut = record { is_cut = is.cut.is_cut; structured = is.cut.structured }; setting = is.setting }) answer
+answer_refuses x s start (Exhausted by) is answer = tt
+
+-- what is reported is reported of the program
+
+uncut_named : (called : Name) (bytes : List ℕ) (r : AnyRefused) → IsUncut called bytes r → r.program ≡ called
+uncut_named called bytes r (no_cut offset cannot) = refl
+uncut_named called bytes r (no_structure is offset cut fault) = refl
+
+pub refusal_named : (x : Subject) (r : AnyRefused) → IsSymbolicRefusal x r → r.program ≡ x.name
+refusal_named x r (uncut q is) = uncut_named x.name x.bytes q is
+refusal_named x r (judged s at offset failed is answer) = refl
+
+-- one program by itself
+
+pub answer_in_turn : (s : Setting) (functions : List (ℕ × ℕ)) (refusal : Refusal) → IsSymbolicAnswer s functions refusal → IsToldInTurn refusal
+answer_in_turn s functions (Refused at offset failed) answer = (s, functions, answer)
+answer_in_turn s functions (Exhausted by) answer = tt
+
+pub memory_in_turn : (refusal : Refusal) → refusal ≡ Exhausted Memory → IsToldInTurn refusal
+memory_in_turn refusal is = subst (λ (r : Refusal). IsToldInTurn r) (sym is) tt
+
+pub turn_refuses : (glyph : GlyphData) (refusal : Refusal) → IsToldInTurn refusal → IfRefused (name.Glyph 0) refusal (IsRefusedAlone glyph)
+turn_refuses glyph (Refused at offset failed) told = told_in_turn at offset failed told
+turn_refuses glyph (Exhausted by) told = tt
+
+pub cut_refuses : (glyph : GlyphData) (refusal : Refusal) → IfRefused (name.Glyph 0) refusal (IsUncut (name.Glyph 0) glyph.program)
+    → IfRefused (name.Glyph 0) refusal (IsRefusedAlone glyph)
+cut_refuses glyph (Refused at offset failed) told = uncut_alone _ told
+cut_refuses glyph (Exhausted by) told = tt
+
+pub memory_refuses : (glyph : GlyphData) (refusal : Refusal) → refusal ≡ Exhausted Memory → IfRefused (name.Glyph 0) refusal (IsRefusedAlone glyph)
+memory_refuses glyph refusal is = subst (λ (r : Refusal). IfRefused (name.Glyph 0) r (IsRefusedAlone glyph)) (sym is) tt
