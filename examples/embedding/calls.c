@@ -205,6 +205,26 @@ static void call_within(const uint8_t *font, size_t length, uint32_t status, con
     expect(answer.points > 0 && answer.points <= needed, "a check makes no more points");
 }
 
+/* By symbolic states, with each number of steps up to the one that the font needs: programs are refused for want of steps until there are
+ * enough, and no longer then. */
+static void call_within_steps(const uint8_t *font, size_t length)
+{
+    hintcheck_answer answer;
+    hintcheck_refusal refusals[4];
+    uint8_t may_hint[4];
+    uint64_t steps = 0;
+    while (steps < 10000 && hintcheck_verdict_symbolic(font, length, steps, refusals, 4, &answer) == HINTCHECK_REFUSED) {
+        expect(answer.refused > 0 && refusals[0].reason == HINTCHECK_REASON_TOO_MANY_STEPS, "what is told of too few steps");
+        steps++;
+    }
+    expect(steps > 0, "steps are counted");
+    expect(answer.status == HINTCHECK_ACCEPTED && answer.points == 0, "enough steps");
+    expect(hintcheck_verdict_symbolic(font, length, HINTCHECK_USUAL_STEPS, refusals, 4, &answer) == HINTCHECK_ACCEPTED, "more steps");
+    expect(hintcheck_may_hint_symbolic(font, length, steps, may_hint, 4, &answer) == HINTCHECK_ACCEPTED, "enough steps for glyphs");
+    expect(hintcheck_may_hint_symbolic(font, length, steps - 1, may_hint, 4, &answer) == HINTCHECK_REFUSED, "too few steps for glyphs");
+    expect(hintcheck_may_hint_symbolic(font, length, 0, may_hint, 4, &answer) == HINTCHECK_REFUSED && has(may_hint, 4, NULL, 0), "no step, and no glyph then");
+}
+
 /* More than 2^31 bytes: zeros alone, and a font with zeros after it. */
 static void call_with_many_bytes(const uint8_t *accepted, size_t accepted_length)
 {
@@ -242,6 +262,7 @@ int main(int argc, char **argv)
     call_may_hint_of_none(cvt, cvt_length, circle, circle_length);
     call_reason_text();
     call_within(accepted, accepted_length, HINTCHECK_ACCEPTED, certificate, certificate_length);
+    call_within_steps(accepted, accepted_length);
     if (argc == 7) {
         call_with_many_bytes(accepted, accepted_length);
     }

@@ -1,7 +1,5 @@
 -- Why a program isn't accepted by symbolic states, from where it is told to what is reported.
-use Rattle.std.proofs.Common.{◌≡◌, ℕ, List, [], ◌∷◌, ◌++◌, refl, subst, sym}
-use Rattle.std.specs.Prelude.{Option, None, Some, Result, Ok, Err, IfOk}
-use Rattle.std.specs.List.{All}
+use Rattle.std.proofs.Common.{◌≡◌, ℕ, List, refl, subst, sym}
 use Rattle.tt_code.specs.declared.reason.Reason.TheVariants.{ProgramTooLong}
 use Rattle.tt_abs.specs.Settings.{setting_of}
 use Rattle.tt_abs.specs.declared.exhausted.Exhausted.TheVariants.{Memory}

@@ -14,7 +14,7 @@ use Rattle.tt_cert.specs.declared.name.Name.TheVariants as name
 use Rattle.tt_font.specs.Reading.{FontData, GlyphData}
 use Rattle.hintcheck_fonts.specs.FontPrograms.{cvt_subject, font_of, font_subject, glyph_subject}
 use Rattle.hintcheck_report.specs.Places.{reported_at}
-use Rattle.hintcheck_fonts.specs.Programs.{IsCutInto, Subject}
+use Rattle.hintcheck_fonts.specs.Programs.{Subject}
 use Rattle.hintcheck_fonts.specs.Sessions.{StageOf, accepted_as, after_font, at_glyph, at_start, over, refused_as}
 use Rattle.hintcheck_fonts.specs.declared.programs.Before.{Before}
 use Rattle.hintcheck_fonts.specs.declared.programs.Before.TheVariants as before
