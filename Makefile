@@ -1,4 +1,5 @@
-# make: proves and builds hintcheck, where that isn't done. make install: puts the program, its manual page and completions under PREFIX.
+# make: proves and builds hintcheck, where that isn't done. make check: runs all checks, `rt ci` among them, whose last line is the last one here too.
+# make install: puts the program, its manual page and completions under PREFIX.
 # make install-library: proves and builds the library for C and C++, and puts it, its header and a pkg-config file there.
 PREFIX = /usr/local
 DESTDIR =
@@ -15,7 +16,7 @@ all:
 	./hintcheck --build
 
 check:
-	rt ci
+	@bench/check.py
 
 library:
 	cd crates/hintcheck_c && rt lib >&2

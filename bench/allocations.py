@@ -1,11 +1,12 @@
 #!/usr/bin/env python3
 """Refuses each allocation of `hintcheck` in turn, and checks what it answers then.
 
-Usage: bench/allocations.py WORDS..
-The words are those of the program, as `verdict FONT`. It runs once for each of its allocations, of which that one is refused, and once
-more for each, where that one and all later ones are. Either it answers what it answers with ample memory, or it says that memory ran
-out, exits with 3 and prints no verdict; each run that does neither is named. A C compiler makes what refuses (`cc`), put before the C
-library's own allocator by LD_PRELOAD.
+Usage: bench/allocations.py [--built] WORDS..
+The words are those of the program, as `verdict FONT`. It is proved and built first; with --built it is taken as `rt ci` has built it. It
+runs once for each of its allocations, of which that one is refused, and once more for each, where that one and all later ones are. Either
+it answers what it answers with ample memory, or it says that memory ran out, exits with 3 and prints no verdict; each run that does
+neither is named, and the exit status is then 1. A C compiler makes what refuses (`cc`), put before the C library's own allocator by
+LD_PRELOAD.
 """
 
 import os
@@ -104,9 +105,12 @@ def sweep(words: list[str], folder: pathlib.Path) -> int:
 
 
 def main() -> None:
-    subprocess.run([TOP / "hintcheck", "--help"], stdout=subprocess.DEVNULL, check=True)
+    words = sys.argv[1:]
+    is_built = words[:1] == ["--built"]
+    if not is_built:
+        subprocess.run([TOP / "hintcheck", "--build"], check=True)
     with tempfile.TemporaryDirectory() as folder:
-        sys.exit(1 if sweep(sys.argv[1:], pathlib.Path(folder)) else 0)
+        sys.exit(1 if sweep(words[is_built:], pathlib.Path(folder)) else 0)
 
 
 if __name__ == "__main__":

@@ -1,13 +1,14 @@
 #!/usr/bin/env python3
 """Builds the library and the example of examples/embedding, and compares what they answer with the command.
 
-Usage: bench/embedding.py [FONT..]
-It needs cc, c++, pkg-config and FreeType's headers. The library is built by `make install-library` into a folder of its own; the example draws a
-line of text with an accepted font, a refused one and one that is cut short, all made here, and what it prints is compared with what is written
-below. examples/embedding/calls.c calls the library with pointers and lengths of all kinds, as C and as C++, and under valgrind where that is there.
-Then the library and the command answer each FONT, or the fonts of /usr/share/fonts, at most 100: their counts of programs and of refused ones, and
-the first refusals, must be the same. So must be what a shared library made of the archive answers, called from Python
-(examples/embedding/verdict.py). What differs is printed, and the exit status is then 1.
+Usage: bench/embedding.py [--built] [FONT..]
+It needs cc, c++, pkg-config and FreeType's headers. The library is built by `make install-library` into a folder of its own, and the command by
+`./hintcheck --build`; with --built both are taken as `rt ci` and bench/library.py have built them. The example draws a line of text with an accepted
+font, a refused one and one that is cut short, all made here, and what it prints is compared with what is written below. examples/embedding/calls.c
+calls the library with pointers and lengths of all kinds, as C and as C++, and under valgrind where that is there. Then the library and the command
+answer each FONT, or the fonts of /usr/share/fonts, at most 100: their counts of programs and of refused ones, and the first refusals, must be the
+same. So must be what a shared library made of the archive answers, called from Python (examples/embedding/verdict.py). What differs is printed, and
+the exit status is then 1.
 """
 
 import os
@@ -24,6 +25,7 @@ import hostile
 
 TOP = pathlib.Path(__file__).resolve().parent.parent
 SOURCES = TOP / "examples/embedding"
+PROGRAM = TOP / "crates/hintcheck_cli/out/hintcheck_cli"
 MOST_FONTS = 100
 
 # The fonts of the sessions (crates/hintcheck_cases/data/sessions.txt): a function that sets reference point 0 to point 2, and one that takes an element
@@ -94,9 +96,16 @@ def must(words: list[str], **settings) -> str:
     return ran.stdout
 
 
+def install(folder: pathlib.Path, is_built: bool) -> None:
+    """Installs the library into the folder. It and the command are built first, unless they have been."""
+    if not is_built:
+        must([str(TOP / "hintcheck"), "--build"])
+    # By -o, make leaves out the target that builds it.
+    must(["make", "-s", "-C", str(TOP), *["-o", "library"] * is_built, "install-library", f"PREFIX={folder}"])
+
+
 def built(folder: pathlib.Path) -> dict[str, pathlib.Path]:
     """The programs, built over the installed library."""
-    must(["make", "-s", "-C", str(TOP), "install-library", f"PREFIX={folder}"])
     environment = os.environ | {"PKG_CONFIG_PATH": f"{folder}/lib/pkgconfig:" + os.environ.get("PKG_CONFIG_PATH", "")}
     flags = must(["pkg-config", "--cflags", "--libs", "hintcheck"], env=environment).split()
     free_type = must(["pkg-config", "--cflags", "--libs", "freetype2"]).split()
@@ -130,7 +139,7 @@ def fails_example(line: pathlib.Path, folder: pathlib.Path) -> bool:
         told = re.sub(r"\d+ glyphs drawn\n|no face\n", "", ran.stdout)
         failed |= differs(f"line {name}", told, PRINTED[name])
     certificate = folder / "serif.cert"
-    must([str(TOP / "hintcheck"), "find", str(folder / "serif.ttf"), str(certificate)])
+    must([str(PROGRAM), "find", str(folder / "serif.ttf"), str(certificate)])
     ran = run([str(line), str(folder / "serif.ttf"), "abc", str(folder / "line.pgm"), str(certificate)])
     failed |= differs("line with a certificate", ran.stdout.splitlines()[0], PRINTED["serif.ttf"].strip())
     ran = run([str(line), str(folder / "broken.ttf"), "abc", str(folder / "line.pgm"), str(certificate)])
@@ -154,6 +163,8 @@ def fails_calls(programs: dict[str, pathlib.Path], folder: pathlib.Path) -> bool
     if shutil.which("valgrind"):
         ran = run(["valgrind", "-q", "--error-exitcode=9", "--leak-check=full", str(programs["calls"]), *words, "short"])
         failed |= differs("calls under valgrind", (ran.returncode, ran.stdout), (0, "all calls answered as the header says\n"))
+    else:
+        print("can't run here: calls under valgrind: no valgrind")
     return failed
 
 
@@ -172,7 +183,7 @@ def fails_shared(folder: pathlib.Path) -> bool:
 def by_command(font: pathlib.Path) -> tuple[str, float]:
     """What the command answers of a font, in the example's words, and how long it took."""
     start = time.monotonic()
-    ran = subprocess.run([TOP / "hintcheck", "verdict", font], capture_output=True, text=True, check=False)
+    ran = subprocess.run([PROGRAM, "verdict", font], capture_output=True, text=True, check=False)
     took = time.monotonic() - start
     if ran.returncode > 1:
         number = int(re.match(r"fault: (\d+)", ran.stderr).group(1))
@@ -204,9 +215,12 @@ def fails_fonts(line: pathlib.Path, fonts: list[pathlib.Path]) -> bool:
 
 
 def main() -> int:
-    fonts = [pathlib.Path(word) for word in sys.argv[1:]] or sorted(pathlib.Path("/usr/share/fonts").rglob("*.[to]tf"))
+    words = sys.argv[1:]
+    is_built = words[:1] == ["--built"]
+    fonts = [pathlib.Path(word) for word in words[is_built:]] or sorted(pathlib.Path("/usr/share/fonts").rglob("*.[to]tf"))
     with tempfile.TemporaryDirectory() as name:
         folder = pathlib.Path(name)
+        install(folder, is_built)
         programs = built(folder)
         failed = fails_example(programs["line"], folder)
         failed |= fails_calls(programs, folder)

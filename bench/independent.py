@@ -31,9 +31,10 @@ CHANGES = 20
 
 
 def asked(words: list[str]) -> vectors.Answer:
-    """What a program answers."""
+    """What a program answers, without what only hintcheck says."""
     ran = subprocess.run(words, capture_output=True, text=True, check=False)
-    return vectors.Answer(ran.returncode, ran.stdout.splitlines(), ran.stderr.splitlines())
+    faults = [line.removesuffix(vectors.NO_CERTIFICATE) for line in ran.stderr.splitlines()]
+    return vectors.Answer(ran.returncode, ran.stdout.splitlines(), faults)
 
 
 def differs(what: str, seen: vectors.Answer, wanted: vectors.Answer) -> bool:

@@ -54,9 +54,11 @@ def change(chance: random.Random, data: bytes) -> tuple[int, bytes, int]:
     return at, b"", len(data)
 
 
-def case(font: str, certificate: str, answer: vectors.Answer) -> list[str]:
-    """The lines of a case of `check`."""
-    faults = "".join(f" ! {fault}" for fault in answer.faults)
+def case(font: str, certificate: str, data: bytes | None, answer: vectors.Answer) -> list[str]:
+    """The lines of a case of `check`, with the bytes that the certificate has."""
+    added = vectors.NO_CERTIFICATE if data else ""
+    faults = "".join(f" ! {fault}{added if fault.endswith(' at byte 0') else ''}"
+                     for fault in answer.faults)
     return [f"run check {font} {certificate} -> {answer.status}{faults}",
             *(f"| {line}" for line in answer.lines)]
 
@@ -82,8 +84,9 @@ def changed_cases(font: tuple[str, bytes], certificate: tuple[str, bytes],
     chance = random.Random(len(data))
     for _ in range(count):
         start, put, end = changed = change(chance, data)
+        text = data[:start] + put + data[end:]
         yield changed_line("changed.cert", name, data, changed)
-        yield from case(font[0], "changed.cert", told(font[1], data[:start] + put + data[end:]))
+        yield from case(font[0], "changed.cert", text, told(font[1], text))
 
 
 def changed_font_cases(font: tuple[str, bytes], certificate: tuple[str, bytes],
@@ -94,7 +97,7 @@ def changed_font_cases(font: tuple[str, bytes], certificate: tuple[str, bytes],
     for _ in range(count):
         start, put, end = changed = change(chance, data)
         yield changed_line("changed.ttf", name, data, changed)
-        yield from case("changed.ttf", certificate[0],
+        yield from case("changed.ttf", *certificate,
                         told(data[:start] + put + data[end:], certificate[1]))
 
 
@@ -102,12 +105,12 @@ def vector_cases() -> collections.abc.Iterator[str]:
     """The answers of the list, and changes of its files."""
     made, asked = vectors.read_list()
     for vector in asked:
-        names = []
-        for name, data in zip(("asked.ttf", "asked.cert"), vector.files()):
+        names, files = [], vector.files()
+        for name, data in zip(("asked.ttf", "asked.cert"), files):
             names.append(name if data is not None else "none")
             if data is not None:
                 yield file_line(name, data)
-        yield from case(*names, vector.answer)
+        yield from case(*names, files[1], vector.answer)
     for each in made:
         font, certificate = vectors.files_of(each).items()
         yield file_line(*font)
@@ -190,7 +193,7 @@ def font_cases(path: pathlib.Path, folder: pathlib.Path) -> collections.abc.Iter
     yield f"run find {path.name} found.cert -> 0"
     yield f"| accepted: {len(font.glyphs) + 2} programs"
     yield f"compare found.cert {name} -> same"
-    yield from case(path.name, name, told(data, text))
+    yield from case(path.name, name, text, told(data, text))
     yield from changed_cases((path.name, data), (name, text), FEW_CHANGES)
     print(f"{path.name}: a certificate of {len(text)} bytes", flush=True)
 

@@ -1,12 +1,13 @@
 #!/usr/bin/env python3
 """Refuses each call its growths of memory in turn, and checks what it answers then.
 
-Usage: bench/refusals.py
-The calls are those of the tests in crates/tt_memory_tests and crates/hintcheck_tests, which `rt test` proves and builds first. A growth is what a
-call asks of `malloc` or `realloc`, and not what is asked before the call for what it is made on, or after it for what is compared. The n-th is
-refused, for n from 1 until there is none to refuse; first each alone, and then each with all later ones. There is a line for each call: how many
-growths it has on all that it is made on, and how often it was refused one. A test fails where its call doesn't tell then that memory ran out, and
-the exit status is 1. Two tests run at once. A C compiler makes what refuses (`cc`), put before the C library's own allocator by LD_PRELOAD.
+Usage: bench/refusals.py [--built]
+The calls are those of the tests in crates/tt_memory_tests and crates/hintcheck_tests, which `rt test` proves and builds first; with --built they are
+taken as `rt ci` has built them. A growth is what a call asks of `malloc` or `realloc`, and not what is asked before the call for what it is made on,
+or after it for what is compared. The n-th is refused, for n from 1 until there is none to refuse; first each alone, and then each with all later
+ones. There is a line for each call: how many growths it has on all that it is made on, and how often it was refused one. A test fails where its call
+doesn't tell then that memory ran out, and the exit status is 1. Two tests run at once. A C compiler makes what refuses (`cc`), put before the C
+library's own allocator by LD_PRELOAD.
 """
 
 import collections
@@ -120,9 +121,10 @@ def sweep(folder: pathlib.Path) -> bool:
 
 
 def main() -> None:
-    # All tests of a crate are proved and built for that, but only one is run.
-    for crate, test in zip(CRATES, ("announced", "two_names")):
-        subprocess.run(["rt", "test", "--", test], cwd=TOP / "crates" / crate, stdout=sys.stderr, check=True)
+    if sys.argv[1:] != ["--built"]:
+        # All tests of a crate are proved and built for that, but only one is run.
+        for crate, test in zip(CRATES, ("announced", "two_names")):
+            subprocess.run(["rt", "test", "--", test], cwd=TOP / "crates" / crate, stdout=sys.stderr, check=True)
     with tempfile.TemporaryDirectory() as folder:
         sys.exit(0 if sweep(pathlib.Path(folder)) else 1)
 
