@@ -22,12 +22,12 @@ use Rattle.tt_abs.specs.Settings.{setting_of}
 use Rattle.tt_family.specs.Contents.{family_of}
 use Rattle.hintcheck_explain.specs.declared.asked.Explained.{Explained}
 use Rattle.hintcheck_explain.specs.declared.asked.Explained.TheVariants as explained
-use Rattle.hintcheck_fonts.specs.ProgramVerdicts.{IfRefused, IsSubjectOf}
+use Rattle.hintcheck_fonts.specs.ProgramVerdicts.{IfRefused, IsSubjectOf, with_start}
 use Rattle.hintcheck_report.specs.Places.{reported_at}
 use Rattle.hintcheck_report.specs.declared.refused.Refused.{Refused}
 use Rattle.hintcheck_fonts.specs.Programs.{EndsWith, IsRefusal, Subject}
 use Rattle.hintcheck_fonts.specs.Representation.Judges.{IsRefusedFor}
-use Rattle.hintcheck_fonts.specs.Representation.ProgramOrder.{IsNext, next_program, start_at, with_start}
+use Rattle.hintcheck_fonts.specs.Representation.ProgramOrder.{IsNext, next_program, start_at}
 use Rattle.hintcheck_fonts.specs.Representation.SessionStages.{KeepsKnown}
 use Rattle.hintcheck_fonts.specs.Sessions.{Stage, after_font, at_glyph, at_start, over}
 use Rattle.hintcheck_fonts.specs.declared.programs.Next.{Next}

@@ -9,11 +9,11 @@ ghost use Rattle.hintcheck.specs.CommandFaults.{IsEndOfWork, IsFaultOfExplaining
 ghost use Rattle.hintcheck.specs.Explanations.{HoldAcceptedProgram, HoldExplained, HoldPlace, HoldRefusedProgram, IsAnswered, IsRefusedIn, IsReportOf, TellsProgram, status_of_explained};
 ghost use Rattle.hintcheck_fonts.specs.FontPrograms.{IsFontInRange};
 ghost use Rattle.hintcheck.specs.Listing.{program_in};
-ghost use Rattle.hintcheck_fonts.specs.ProgramVerdicts.{IsSubjectOf};
+ghost use Rattle.hintcheck_fonts.specs.ProgramVerdicts.{IsSubjectOf, with_start};
 ghost use Rattle.hintcheck_fonts.specs.Programs.{Subject};
 ghost use Rattle.hintcheck_fonts.specs.Sessions.{at_start};
 ghost use Rattle.hintcheck_fonts.specs.declared.session.Outcome.{Outcome as AnyOutcome};
-ghost use Rattle.hintcheck_fonts.specs.Representation.ProgramOrder.{IsNext, next_program, stage_of, start_at, with_start};
+ghost use Rattle.hintcheck_fonts.specs.Representation.ProgramOrder.{IsNext, next_program, stage_of, start_at};
 ghost use Rattle.hintcheck_fonts.specs.Representation.SessionStages.{IsAt, KeepsKnown};
 
 use crate::asked_site::check_site;
