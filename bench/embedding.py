@@ -25,7 +25,7 @@ import hostile
 
 TOP = pathlib.Path(__file__).resolve().parent.parent
 SOURCES = TOP / "examples/embedding"
-PROGRAM = TOP / "crates/hintcheck_cli/out/hintcheck_cli"
+COMMAND = TOP / "crates/hintcheck_cli/out/hintcheck_cli"
 MOST_FONTS = 100
 
 # The fonts of the sessions (crates/hintcheck_cases/data/sessions.txt): a function that sets reference point 0 to point 2, and one that takes an element
@@ -139,7 +139,7 @@ def fails_example(line: pathlib.Path, folder: pathlib.Path) -> bool:
         told = re.sub(r"\d+ glyphs drawn\n|no face\n", "", ran.stdout)
         failed |= differs(f"line {name}", told, PRINTED[name])
     certificate = folder / "serif.cert"
-    must([str(PROGRAM), "find", str(folder / "serif.ttf"), str(certificate)])
+    must([str(COMMAND), "find", str(folder / "serif.ttf"), str(certificate)])
     ran = run([str(line), str(folder / "serif.ttf"), "abc", str(folder / "line.pgm"), str(certificate)])
     failed |= differs("line with a certificate", ran.stdout.splitlines()[0], PRINTED["serif.ttf"].strip())
     ran = run([str(line), str(folder / "broken.ttf"), "abc", str(folder / "line.pgm"), str(certificate)])
@@ -183,7 +183,7 @@ def fails_shared(folder: pathlib.Path) -> bool:
 def by_command(font: pathlib.Path) -> tuple[str, float]:
     """What the command answers of a font, in the example's words, and how long it took."""
     start = time.monotonic()
-    ran = subprocess.run([PROGRAM, "verdict", font], capture_output=True, text=True, check=False)
+    ran = subprocess.run([COMMAND, "verdict", font], capture_output=True, text=True, check=False)
     took = time.monotonic() - start
     if ran.returncode > 1:
         number = int(re.match(r"fault: (\d+)", ran.stderr).group(1))
