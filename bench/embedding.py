@@ -5,7 +5,7 @@ Usage: bench/embedding.py [--built] [FONT..]
 It needs cc, c++, pkg-config and FreeType's headers. The library is built by `make install-library` into a folder of its own, and the command by
 `./hintcheck --build`; with --built both are taken as `rt ci` and bench/library.py have built them. The example draws a line of text with an accepted
 font, a refused one and one that is cut short, all made here, and what it prints is compared with what is written below. examples/embedding/calls.c
-calls the library with pointers and lengths of all kinds, as C and as C++, and under valgrind where that is there. Then the library and the command
+calls the library with requests, pointers and lengths of all kinds, as C99 and C++11, and under valgrind where that is there. Then the library and the command
 answer each FONT, or the fonts of /usr/share/fonts, at most 100: their counts of programs and of refused ones, and the first refusals, must be the
 same. So must be what a shared library made of the archive answers, called from Python (examples/embedding/verdict.py). What differs is printed, and
 the exit status is then 1.
@@ -109,11 +109,11 @@ def built(folder: pathlib.Path) -> dict[str, pathlib.Path]:
     environment = os.environ | {"PKG_CONFIG_PATH": f"{folder}/lib/pkgconfig:" + os.environ.get("PKG_CONFIG_PATH", "")}
     flags = must(["pkg-config", "--cflags", "--libs", "hintcheck"], env=environment).split()
     free_type = must(["pkg-config", "--cflags", "--libs", "freetype2"]).split()
-    warnings = ["-O2", "-Wall", "-Wextra", "-Werror"]
+    warnings = ["-O2", "-Wall", "-Wextra", "-Werror", "-pedantic"]
     programs = {name: folder / name for name in ("line", "calls", "calls++")}
-    must(["cc", "-std=c11", *warnings, "-o", str(programs["line"]), str(SOURCES / "line.c"), *flags, *free_type])
-    must(["cc", "-std=c11", *warnings, "-o", str(programs["calls"]), str(SOURCES / "calls.c"), *flags])
-    must(["c++", "-std=c++17", *warnings, "-x", "c++", "-o", str(programs["calls++"]), str(SOURCES / "calls.c"), "-x", "none", *flags])
+    must(["cc", "-std=c99", *warnings, "-o", str(programs["line"]), str(SOURCES / "line.c"), *flags, *free_type])
+    must(["cc", "-std=c99", *warnings, "-o", str(programs["calls"]), str(SOURCES / "calls.c"), *flags])
+    must(["c++", "-std=c++11", *warnings, "-x", "c++", "-o", str(programs["calls++"]), str(SOURCES / "calls.c"), "-x", "none", *flags])
     return programs
 
 

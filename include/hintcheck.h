@@ -1,25 +1,32 @@
 /* hintcheck: checks the hint programs of TrueType fonts before an interpreter runs them.
  *
  * A font is handed in as bytes, and the answer says whether its font program ('fpgm'), its CVT program ('prep') and each of its glyph
- * programs keep to the limits that its 'maxp' table declares. Where hintcheck_verdict or hintcheck_check answers HINTCHECK_ACCEPTED, no run of
- * any of these programs reaches a fault of the hint machine: no stack underflow, no stack above maxStackElements, no CVT, storage, function, zone, contour or
- * point number out of range, and no step outside the program's bytes. That is proved, for every font and every certificate
+ * programs keep to the limits that its 'maxp' table declares. A hintcheck_request says what is asked: the font, the profile, and how much
+ * may be done.
+ *
+ * Where hintcheck_verdict or hintcheck_check answers HINTCHECK_ACCEPTED by the strict profile, no run of any of these programs reaches a
+ * fault of the hint machine: no stack underflow, no stack above maxStackElements, no CVT, storage, function, zone, contour or point number
+ * out of range, and no step outside the program's bytes. That is proved, for every font and every certificate
  * (crates/hintcheck_c/src/lib.rt, the clauses `accepted`), and so is the rest of the answer, except that `points` is how many were made
  * (the clauses `verdict` and `fault`).
  *
  * hintcheck_may_hint says of each glyph of a font whether it may be drawn with hints, also where some programs are refused: that no run of
  * what is run to draw it reaches a fault is proved too (the clauses `hinted`).
  *
- * hintcheck_verdict_symbolic follows values that are computed, and accepts far more fonts. Its acceptance is a theorem too, but about a machine
+ * The symbolic profile follows values that are computed, and accepts far more fonts. Its acceptance is a theorem too, but about a machine
  * that works more as interpreters do: it keeps control values, and computes exactly. docs/EMBEDDING.md says which premises that adds.
+ *
+ * The proofs are of the library's own functions. The inline functions of this header, which take a request and null pointers and hand on to
+ * them, are tested.
  *
  * Units: lengths, offsets and places are in bytes. Ownership: everything that is handed in stays the caller's, is only read (except for
  * `refusals`, `may_hint` and `answer`, which are written), and isn't kept: there is no state between calls. What is handed in is aligned as
- * C asks, and `refusals`, `may_hint` and `answer` overlap neither each other nor the bytes of the font or of the certificate. Memory is
- * taken with malloc while a call runs, and given back before it returns. Threads: calls may run at once in several threads, each with its
- * own `refusals`, `may_hint` and `answer`; not from a signal handler, and not in the forked child of a process with threads. Time: `points`
- * bounds how often a state is carried on (that no more is counted is proved; that all of the work is counted so is tested); docs/EMBEDDING.md
- * says which numbers real fonts need, and what time that bounds. `steps` bounds the search by the symbolic profile, which is tested.
+ * C asks, and `refusals`, `may_hint` and `answer` overlap neither each other nor the request, the bytes of the font or those of the
+ * certificate. Memory is taken with malloc while a call runs, and given back before it returns. Threads: calls may run at once in several
+ * threads, each with its own `refusals`, `may_hint` and `answer`; not from a signal handler, and not in the forked child of a process with
+ * threads. Time: by the strict profile a request's limit bounds how often a state is carried on (that no more is counted is proved; that
+ * all of the work is counted so is tested), and docs/EMBEDDING.md says which numbers real fonts need, and what time that bounds. By the
+ * symbolic profile the limit bounds the search, which is tested.
  */
 #ifndef HINTCHECK_H
 #define HINTCHECK_H
@@ -43,7 +50,7 @@ enum hintcheck_status {
     HINTCHECK_FAULT = 2,         /* there is no verdict: no font that can be read (answer->fault is 1 to 8), or no certificate for it (43) */
     HINTCHECK_OUT_OF_MEMORY = 3, /* there is no verdict: memory ran out (answer->fault is 9) */
     HINTCHECK_BUDGET = 4,        /* there is no verdict: more points were to be made than may be (answer->fault is 46) */
-    HINTCHECK_USAGE = 5          /* there is no verdict: a null pointer was handed in with a length that isn't 0, or no answer */
+    HINTCHECK_USAGE = 5          /* there is no verdict: what was handed in can't be taken, as each call says */
 };
 
 /* What a reason tells. */
@@ -83,11 +90,27 @@ enum hintcheck_reason {
     HINTCHECK_REASON_KEPT_ENTRY = 47
 };
 
-/* As many points as the font asks for. */
+/* A request's limit: as many points as the font asks for, or as many steps as the searches for its programs come to. */
 #define HINTCHECK_UNLIMITED UINT64_MAX
 
-/* As many steps as the command's search makes for a font by the symbolic profile. */
+/* A request's limit by the symbolic profile: as many steps as the command's search makes for a font at most. */
 #define HINTCHECK_USUAL_STEPS UINT64_C(1000000000)
+
+/* By which profile a font is checked: what an acceptance by each means is said above. */
+enum hintcheck_profile {
+    HINTCHECK_STRICT = 0,  /* no further premises */
+    HINTCHECK_SYMBOLIC = 1 /* values that are computed are followed: far more fonts are accepted, under further premises */
+};
+
+/* What is asked. A later version may have more fields, at the end, in which 0 stands for what holds today: initialize the struct, and the
+ * fields for which you give nothing are 0. */
+typedef struct hintcheck_request {
+    const uint8_t *font; /* the font's bytes: may be null where there are none */
+    size_t font_length;  /* how many they are */
+    uint32_t profile;    /* an enum hintcheck_profile */
+    uint32_t face;       /* the number of a face in a collection of fonts: 0, since no collection is taken so far */
+    uint64_t limit;      /* how many points (HINTCHECK_STRICT) or steps (HINTCHECK_SYMBOLIC) are made at most */
+} hintcheck_request;
 
 /* The numbers of the two programs that no glyph has. */
 #define HINTCHECK_FONT_PROGRAM 65536u
@@ -107,7 +130,8 @@ typedef struct hintcheck_answer {
     uint32_t status;   /* an enum hintcheck_status */
     uint32_t fault;    /* the fault's number, as docs/REASONS.md lists them; 0 where there is a verdict, and at HINTCHECK_USAGE */
     uint64_t place;    /* at fault 43, the first byte of the certificate that is wrong; otherwise 0 */
-    uint64_t points;   /* how many points were made, also where there is no verdict: one each time that a state was carried on */
+    uint64_t points;   /* how many points were made, also where there is no verdict: one each time that a state was carried on; none by
+                        * HINTCHECK_SYMBOLIC */
     uint32_t programs; /* how many programs the font has: its glyphs and 2; 0 where there is no verdict */
     uint32_t refused;  /* how many of them are refused */
     size_t listed;     /* how many of these were written to `refusals`: the first ones, as many as there was room for */
@@ -115,7 +139,8 @@ typedef struct hintcheck_answer {
 
 /* Where the status is HINTCHECK_REFUSED, hints may stay on for some glyphs: hintcheck_may_hint says for which. */
 
-/* Compiles only where the compiler lays out the structs as the library does: the array has no length that is allowed otherwise. */
+/* Compiles only where the compiler lays out these two structs as the library does: the array has no length that is allowed otherwise. No
+ * request gets to the library. */
 typedef char hintcheck_layout_is_right[
     sizeof(size_t) == 8 && sizeof(hintcheck_refusal) == 20 && offsetof(hintcheck_refusal, program) == 0 &&
     offsetof(hintcheck_refusal, place) == 4 && offsetof(hintcheck_refusal, offset) == 8 && offsetof(hintcheck_refusal, reason) == 12 &&
@@ -127,7 +152,8 @@ typedef char hintcheck_layout_is_right[
 /* The version of the library: a byte each for its three numbers, as HINTCHECK_VERSION. */
 uint32_t hintcheck_version(void);
 
-/* The library's own functions, which take no null pointer, also where a length is 0. Use those below, which do. */
+/* The library's own functions, one for each call below and each profile that it takes. They take no null pointer, also where a length is
+ * 0. Use the calls below, which do. */
 uint32_t hintcheck_verdict_of_bytes(const uint8_t *font, size_t font_length, uint64_t points, hintcheck_refusal *refusals, size_t room,
                                     hintcheck_answer *answer);
 uint32_t hintcheck_verdict_symbolic_of_bytes(const uint8_t *font, size_t font_length, uint64_t steps, hintcheck_refusal *refusals,
@@ -141,7 +167,8 @@ uint32_t hintcheck_may_hint_symbolic_of_bytes(const uint8_t *font, size_t font_l
 
 bool hintcheck_reason_text_of_number(uint32_t number, const uint8_t **text);
 
-/* The text of a reason, as the command prints it, "underflow" for HINTCHECK_REASON_UNDERFLOW: a constant string, which stays. A null pointer where the number is no reason's. */
+/* The text of a reason, as the command prints it, "underflow" for HINTCHECK_REASON_UNDERFLOW: a constant string, which stays. A null
+ * pointer where the number is no reason's. */
 static inline const char *hintcheck_reason_text(uint32_t reason)
 {
     static const uint8_t no_text[24] = {0};
@@ -149,7 +176,22 @@ static inline const char *hintcheck_reason_text(uint32_t reason)
     return hintcheck_reason_text_of_number(reason, &text) ? (const char *)text : NULL;
 }
 
-/* Answers that the pointers can't be taken. */
+/* Whether the request can be taken: there is one, its font isn't null where its length isn't 0, its profile is one of the two, and its face
+ * is 0. */
+static inline bool hintcheck_can_take(const hintcheck_request *request)
+{
+    return request && (request->font || !request->font_length) &&
+           (request->profile == HINTCHECK_STRICT || request->profile == HINTCHECK_SYMBOLIC) && !request->face;
+}
+
+/* The bytes as the library's own functions take them: in the place of a null pointer, the pointer to a byte of this header's own. */
+static inline const uint8_t *hintcheck_bytes(const uint8_t *bytes)
+{
+    static const uint8_t no_bytes[1] = {0};
+    return bytes ? bytes : no_bytes;
+}
+
+/* Answers that what was handed in can't be taken. */
 static inline uint32_t hintcheck_usage(hintcheck_answer *answer)
 {
     if (answer) {
@@ -173,85 +215,75 @@ static inline uint32_t hintcheck_no_hints(uint8_t *may_hint, size_t room, hintch
     return hintcheck_usage(answer);
 }
 
-/* Checks the programs of the font in `font_length` bytes at `font`, and returns the status. At most `points` points are made, or
- * as many as the font asks for with HINTCHECK_UNLIMITED: where that is too few, the status is HINTCHECK_BUDGET. The first refusals, at
- * most `room`, are written to `refusals`; what was there after them stays. A null pointer with a length of 0 is no bytes, or no room.
- * Statuses: each of enum hintcheck_status. A length above 2^31 is taken like any other. */
-static inline uint32_t hintcheck_verdict(const uint8_t *font, size_t font_length, uint64_t points, hintcheck_refusal *refusals, size_t room,
+/* Checks the programs of the request's font by its profile, and returns the status. The first refusals, at most `room`, are written to
+ * `refusals`; what was there after them stays. A null pointer with a length of 0 is no bytes, or no room. A length above 2^31 is taken like
+ * any other.
+ *
+ * By HINTCHECK_STRICT at most request->limit points are made, or as many as the font asks for with HINTCHECK_UNLIMITED: where that is too
+ * few, the status is HINTCHECK_BUDGET.
+ *
+ * By HINTCHECK_SYMBOLIC the search makes at most request->limit steps for the font (HINTCHECK_USUAL_STEPS is what the command allows), and
+ * at most 20,000,000 for a program: a program for which that is too little is refused (46), and so is each after it that needs a step,
+ * where the font's steps are used up. No points are counted, answer->points is 0, and the status is never HINTCHECK_BUDGET. A program is
+ * refused where this search found no way to accept it, which says no more.
+ *
+ * Statuses: each of enum hintcheck_status. HINTCHECK_USAGE is for a null request or answer, a null pointer with a length that isn't 0, a
+ * profile that isn't one of enum hintcheck_profile, and a face that isn't 0. */
+static inline uint32_t hintcheck_verdict(const hintcheck_request *request, hintcheck_refusal *refusals, size_t room,
                                          hintcheck_answer *answer)
 {
-    static const uint8_t no_bytes[1] = {0};
     hintcheck_refusal no_room;
-    if (!answer || (!font && font_length) || (!refusals && room)) {
+    if (!answer || !hintcheck_can_take(request) || (!refusals && room)) {
         return hintcheck_usage(answer);
     }
-    return hintcheck_verdict_of_bytes(font ? font : no_bytes, font_length, points, refusals ? refusals : &no_room, room, answer);
-}
-
-/* Checks the programs of the font in `font_length` bytes at `font` by the symbolic profile, and returns the status. Its search makes at most
- * `steps` steps for the font (HINTCHECK_USUAL_STEPS is what the command allows), and at most 20,000,000 for a program: a program for which
- * that is too little is refused (46), and so is each after it that needs a step, where the font's steps are used up. No points are counted, and answer->points
- * is 0; the status is never HINTCHECK_BUDGET. A program is refused where this search found no way to accept it, which says no more. All else is
- * as for hintcheck_verdict. */
-static inline uint32_t hintcheck_verdict_symbolic(const uint8_t *font, size_t font_length, uint64_t steps, hintcheck_refusal *refusals,
-                                                  size_t room, hintcheck_answer *answer)
-{
-    static const uint8_t no_bytes[1] = {0};
-    hintcheck_refusal no_room;
-    if (!answer || (!font && font_length) || (!refusals && room)) {
-        return hintcheck_usage(answer);
+    const uint8_t *font = hintcheck_bytes(request->font);
+    hintcheck_refusal *list = refusals ? refusals : &no_room;
+    if (request->profile == HINTCHECK_SYMBOLIC) {
+        return hintcheck_verdict_symbolic_of_bytes(font, request->font_length, request->limit, list, room, answer);
     }
-    return hintcheck_verdict_symbolic_of_bytes(font ? font : no_bytes, font_length, steps, refusals ? refusals : &no_room, room, answer);
+    return hintcheck_verdict_of_bytes(font, request->font_length, request->limit, list, room, answer);
 }
 
-/* Checks the programs of the font in `font_length` bytes at `font` by the certificate in `certificate_length` bytes at `certificate`,
- * as `hintcheck find` writes it, and returns the status. Nothing is asked of the certificate or of who made it: an acceptance means the
- * same as that of hintcheck_verdict. A certificate that was made for another font mostly comes to HINTCHECK_FAULT (43) or to
+/* Checks the programs of the request's font by the certificate in `certificate_length` bytes at `certificate`, as `hintcheck find` writes
+ * it, and returns the status. Nothing is asked of the certificate or of who made it: an acceptance means the same as that of
+ * hintcheck_verdict by HINTCHECK_STRICT. A certificate that was made for another font mostly comes to HINTCHECK_FAULT (43) or to
  * HINTCHECK_REFUSED (41, 42 among the reasons), or to HINTCHECK_BUDGET before that; where it fits this font too, to HINTCHECK_ACCEPTED,
- * which is right: an acceptance is a theorem about the font's bytes, whatever the certificate is. All else is as for hintcheck_verdict. */
-static inline uint32_t hintcheck_check(const uint8_t *font, size_t font_length, const uint8_t *certificate, size_t certificate_length,
-                                       uint64_t points, hintcheck_refusal *refusals, size_t room, hintcheck_answer *answer)
+ * which is right: an acceptance is a theorem about the font's bytes, whatever the certificate is. A certificate is checked by the strict
+ * profile: where the request's is another than HINTCHECK_STRICT, the status is HINTCHECK_USAGE. All else is as for hintcheck_verdict. */
+static inline uint32_t hintcheck_check(const hintcheck_request *request, const uint8_t *certificate, size_t certificate_length,
+                                       hintcheck_refusal *refusals, size_t room, hintcheck_answer *answer)
 {
-    static const uint8_t no_bytes[1] = {0};
     hintcheck_refusal no_room;
-    if (!answer || (!font && font_length) || (!certificate && certificate_length) || (!refusals && room)) {
+    if (!answer || !hintcheck_can_take(request) || request->profile != HINTCHECK_STRICT || (!certificate && certificate_length) ||
+        (!refusals && room)) {
         return hintcheck_usage(answer);
     }
-    return hintcheck_check_of_bytes(font ? font : no_bytes, font_length, certificate ? certificate : no_bytes, certificate_length, points,
-                                    refusals ? refusals : &no_room, room, answer);
+    return hintcheck_check_of_bytes(hintcheck_bytes(request->font), request->font_length, hintcheck_bytes(certificate), certificate_length,
+                                    request->limit, refusals ? refusals : &no_room, room, answer);
 }
 
-/* Checks the programs of the font as hintcheck_verdict does, returns the same status, and says of each glyph whether it may be drawn with
- * hints. To draw a composite glyph, a renderer runs the glyph programs of its components too. So `may_hint[g]` is 1 exactly where the font
- * program, the CVT program, the program of glyph g and those of its components, at any depth, are accepted: then no run of one of them
- * reaches a fault, also where the status is HINTCHECK_REFUSED. All of the array's `room` entries are written: the others are 0, those past
- * the last glyph too, and all of them where the font program or the CVT program is refused, or where there is no verdict. 65,535 entries
- * are room enough for any font; with fewer than there are glyphs, nothing is said of the glyphs after these. No refusals are listed, and
- * answer->listed is 0. A null pointer with a length of 0 is no bytes, or no room. At HINTCHECK_USAGE too all entries are 0, unless
- * `may_hint` is the null pointer. */
-static inline uint32_t hintcheck_may_hint(const uint8_t *font, size_t font_length, uint64_t points, uint8_t *may_hint, size_t room,
-                                          hintcheck_answer *answer)
+/* Checks the programs of the request's font as hintcheck_verdict does, returns the same status, and says of each glyph whether it may be
+ * drawn with hints. To draw a composite glyph, a renderer runs the glyph programs of its components too. So `may_hint[g]` is 1 exactly
+ * where the font program, the CVT program, the program of glyph g and those of its components, at any depth, are accepted: then no run of
+ * one of them reaches a fault, also where the status is HINTCHECK_REFUSED. By HINTCHECK_SYMBOLIC that holds as long as no glyph whose entry
+ * is 0 is drawn with hints (docs/EMBEDDING.md, "The symbolic profile").
+ *
+ * All of the array's `room` entries are written: the others are 0, those past the last glyph too, and all of them where the font program or
+ * the CVT program is refused, or where there is no verdict. 65,535 entries are room enough for any font; with fewer than there are glyphs,
+ * nothing is said of the glyphs after these. No refusals are listed, and answer->listed is 0. At HINTCHECK_USAGE too all entries are 0,
+ * unless `may_hint` is the null pointer. All else is as for hintcheck_verdict. */
+static inline uint32_t hintcheck_may_hint(const hintcheck_request *request, uint8_t *may_hint, size_t room, hintcheck_answer *answer)
 {
-    static const uint8_t no_bytes[1] = {0};
     uint8_t no_room;
-    if (!answer || (!font && font_length) || (!may_hint && room)) {
+    if (!answer || !hintcheck_can_take(request) || (!may_hint && room)) {
         return hintcheck_no_hints(may_hint, room, answer);
     }
-    return hintcheck_may_hint_of_bytes(font ? font : no_bytes, font_length, points, may_hint ? may_hint : &no_room, room, answer);
-}
-
-/* Checks the programs of the font by the symbolic profile, as hintcheck_verdict_symbolic does, and says of each glyph whether it may be
- * drawn with hints, as hintcheck_may_hint does. What an entry of 1 promises holds as long as no glyph whose entry is 0 is drawn with hints
- * (docs/EMBEDDING.md, "The symbolic profile"). */
-static inline uint32_t hintcheck_may_hint_symbolic(const uint8_t *font, size_t font_length, uint64_t steps, uint8_t *may_hint, size_t room,
-                                                   hintcheck_answer *answer)
-{
-    static const uint8_t no_bytes[1] = {0};
-    uint8_t no_room;
-    if (!answer || (!font && font_length) || (!may_hint && room)) {
-        return hintcheck_no_hints(may_hint, room, answer);
+    const uint8_t *font = hintcheck_bytes(request->font);
+    uint8_t *entries = may_hint ? may_hint : &no_room;
+    if (request->profile == HINTCHECK_SYMBOLIC) {
+        return hintcheck_may_hint_symbolic_of_bytes(font, request->font_length, request->limit, entries, room, answer);
     }
-    return hintcheck_may_hint_symbolic_of_bytes(font ? font : no_bytes, font_length, steps, may_hint ? may_hint : &no_room, room, answer);
+    return hintcheck_may_hint_of_bytes(font, request->font_length, request->limit, entries, room, answer);
 }
 
 #ifdef __cplusplus

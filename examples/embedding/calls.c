@@ -1,7 +1,7 @@
-/* Calls the library with pointers and lengths of all kinds, and says where an answer isn't what the header says.
+/* Calls the library with requests, pointers and lengths of all kinds, and says where an answer isn't what the header says.
  * Usage: calls ACCEPTED.ttf REFUSED.ttf CERT COMPOSITES.ttf CVT.ttf CIRCLE.ttf [short]
- * CERT is the accepted font's certificate; COMPOSITES.ttf has composite glyphs, the CVT program of CVT.ttf is refused, and the glyphs of CIRCLE.ttf are
- * made of each other. `short` leaves out what takes much memory. */
+ * CERT is the accepted font's certificate; COMPOSITES.ttf has composite glyphs, the CVT program of CVT.ttf is refused, and the glyphs of
+ * CIRCLE.ttf are made of each other. `short` leaves out what takes much memory. */
 #include <hintcheck.h>
 #include <stdio.h>
 #include <stdlib.h>
@@ -34,51 +34,67 @@ static uint8_t *read_file(const char *name, size_t *length)
 
 static void call_verdict(const uint8_t *accepted, size_t accepted_length, const uint8_t *refused, size_t refused_length)
 {
+    hintcheck_request request = {accepted, accepted_length, HINTCHECK_STRICT, 0, HINTCHECK_UNLIMITED};
     hintcheck_answer answer;
     hintcheck_refusal refusals[4];
     memset(refusals, 0x55, sizeof refusals);
-    expect(hintcheck_verdict(accepted, accepted_length, HINTCHECK_UNLIMITED, refusals, 4, &answer) == HINTCHECK_ACCEPTED, "an accepted font");
+    expect(hintcheck_verdict(&request, refusals, 4, &answer) == HINTCHECK_ACCEPTED, "an accepted font");
     expect(answer.status == HINTCHECK_ACCEPTED && answer.fault == 0, "its status");
     expect(answer.programs == 5 && answer.refused == 0 && answer.listed == 0, "its counts");
-    expect(hintcheck_verdict(refused, refused_length, HINTCHECK_UNLIMITED, refusals, 4, &answer) == HINTCHECK_REFUSED, "a refused font");
+    request.font = refused;
+    request.font_length = refused_length;
+    expect(hintcheck_verdict(&request, refusals, 4, &answer) == HINTCHECK_REFUSED, "a refused font");
     expect(answer.programs == 5 && answer.refused == 2 && answer.listed == 2, "counts of a refused font");
     expect(refusals[0].program == 1 && refusals[0].place == HINTCHECK_FONT_PROGRAM && refusals[0].offset == 10, "the first refusal");
     expect(refusals[0].reason == 26 && refusals[0].reason_class == HINTCHECK_POSSIBLE_FAULT, "its reason");
     expect(refusals[1].program == 2 && refusals[1].place == 2 && refusals[1].offset == 8, "the second refusal");
     expect(refusals[1].reason == 38 && refusals[1].reason_class == HINTCHECK_UNDECIDED, "its reason");
     expect(refusals[2].program == 0x55555555u, "what is after the refusals");
-    expect(hintcheck_verdict(refused, refused_length, HINTCHECK_UNLIMITED, refusals, 1, &answer) == HINTCHECK_REFUSED, "room for one");
+    expect(hintcheck_verdict(&request, refusals, 1, &answer) == HINTCHECK_REFUSED, "room for one");
     expect(answer.refused == 2 && answer.listed == 1, "counts with room for one");
-    expect(hintcheck_verdict(refused, refused_length, HINTCHECK_UNLIMITED, NULL, 0, &answer) == HINTCHECK_REFUSED, "no room");
+    expect(hintcheck_verdict(&request, NULL, 0, &answer) == HINTCHECK_REFUSED, "no room");
     expect(answer.refused == 2 && answer.listed == 0, "counts with no room");
 }
 
-static void call_check(const uint8_t *accepted, size_t accepted_length, const uint8_t *refused, size_t refused_length, const uint8_t *certificate,
-                       size_t certificate_length)
+static void call_check(const uint8_t *accepted, size_t accepted_length, const uint8_t *refused, size_t refused_length,
+                       const uint8_t *certificate, size_t certificate_length)
 {
+    hintcheck_request request = {accepted, accepted_length, HINTCHECK_STRICT, 0, HINTCHECK_UNLIMITED};
+    hintcheck_request another = {refused, refused_length, HINTCHECK_STRICT, 0, HINTCHECK_UNLIMITED};
     hintcheck_answer answer;
     hintcheck_refusal refusals[4];
-    expect(hintcheck_check(accepted, accepted_length, certificate, certificate_length, HINTCHECK_UNLIMITED, refusals, 4, &answer) == HINTCHECK_ACCEPTED, "a certificate");
-    expect(hintcheck_check(refused, refused_length, certificate, certificate_length, HINTCHECK_UNLIMITED, refusals, 4, &answer) != HINTCHECK_ACCEPTED,
+    expect(hintcheck_check(&request, certificate, certificate_length, refusals, 4, &answer) == HINTCHECK_ACCEPTED, "a certificate");
+    expect(hintcheck_check(&another, certificate, certificate_length, refusals, 4, &answer) != HINTCHECK_ACCEPTED,
            "another font's certificate");
     expect(answer.status == HINTCHECK_REFUSED || answer.fault == 43, "what is told of it");
-    expect(hintcheck_check(accepted, accepted_length, certificate, certificate_length - 1, HINTCHECK_UNLIMITED, refusals, 4, &answer) == HINTCHECK_FAULT, "a cut certificate");
+    expect(hintcheck_check(&request, certificate, certificate_length - 1, refusals, 4, &answer) == HINTCHECK_FAULT, "a cut certificate");
     expect(answer.fault == 43 && answer.place == certificate_length - 1, "where it is cut");
-    expect(hintcheck_check(accepted, accepted_length, NULL, 0, HINTCHECK_UNLIMITED, refusals, 4, &answer) == HINTCHECK_FAULT, "no certificate");
+    expect(hintcheck_check(&request, NULL, 0, refusals, 4, &answer) == HINTCHECK_FAULT, "no certificate");
     expect(answer.fault == 43 && answer.place == 0, "where it is at fault");
-    expect(hintcheck_check(accepted, accepted_length, NULL, 1, HINTCHECK_UNLIMITED, refusals, 4, &answer) == HINTCHECK_USAGE, "a null certificate");
+    expect(hintcheck_check(&request, NULL, 1, refusals, 4, &answer) == HINTCHECK_USAGE, "a null certificate");
 }
 
 static void call_oddly(const uint8_t *accepted, size_t accepted_length)
 {
+    hintcheck_request request = {NULL, 0, HINTCHECK_STRICT, 0, HINTCHECK_UNLIMITED};
     hintcheck_answer answer;
-    expect(hintcheck_verdict(NULL, 0, HINTCHECK_UNLIMITED, NULL, 0, &answer) == HINTCHECK_FAULT, "no bytes");
+    expect(hintcheck_verdict(&request, NULL, 0, &answer) == HINTCHECK_FAULT, "no bytes");
     expect(answer.fault == 2 && answer.programs == 0, "what is told of no bytes");
-    expect(hintcheck_verdict(NULL, 1, HINTCHECK_UNLIMITED, NULL, 0, &answer) == HINTCHECK_USAGE, "a null font");
+    request.font_length = 1;
+    expect(hintcheck_verdict(&request, NULL, 0, &answer) == HINTCHECK_USAGE, "a null font");
     expect(answer.status == HINTCHECK_USAGE && answer.programs == 0, "what is told of it");
-    expect(hintcheck_verdict(accepted, accepted_length, HINTCHECK_UNLIMITED, NULL, 1, &answer) == HINTCHECK_USAGE, "null room");
-    expect(hintcheck_verdict(accepted, accepted_length, HINTCHECK_UNLIMITED, NULL, 0, NULL) == HINTCHECK_USAGE, "a null answer");
+    request.font = accepted;
+    request.font_length = accepted_length;
+    expect(hintcheck_verdict(&request, NULL, 1, &answer) == HINTCHECK_USAGE, "null room");
+    expect(hintcheck_verdict(&request, NULL, 0, NULL) == HINTCHECK_USAGE, "a null answer");
     expect(hintcheck_version() == HINTCHECK_VERSION, "the version");
+}
+
+/* Whether an answer says that what was handed in can't be taken, and nothing else. */
+static int says_usage(const hintcheck_answer *answer)
+{
+    return answer->status == HINTCHECK_USAGE && answer->fault == 0 && answer->place == 0 && answer->points == 0 && answer->programs == 0 &&
+           answer->refused == 0 && answer->listed == 0;
 }
 
 /* Whether an array has these entries, and then zeros. */
@@ -92,49 +108,112 @@ static int has(const uint8_t *may_hint, size_t room, const uint8_t *entries, siz
     return 1;
 }
 
+/* Each call by this request, which none can take. */
+static void call_by(const hintcheck_request *request, const uint8_t *certificate, size_t certificate_length, const char *what)
+{
+    hintcheck_answer answer;
+    hintcheck_refusal refusals[1];
+    uint8_t may_hint[4];
+    memset(refusals, 0x55, sizeof refusals);
+    memset(&answer, 0x55, sizeof answer);
+    expect(hintcheck_verdict(request, refusals, 1, &answer) == HINTCHECK_USAGE && says_usage(&answer), what);
+    memset(&answer, 0x55, sizeof answer);
+    expect(hintcheck_check(request, certificate, certificate_length, refusals, 1, &answer) == HINTCHECK_USAGE && says_usage(&answer), what);
+    expect(refusals[0].program == 0x55555555u, "no refusal of it");
+    memset(&answer, 0x55, sizeof answer);
+    memset(may_hint, 0x55, sizeof may_hint);
+    expect(hintcheck_may_hint(request, may_hint, 4, &answer) == HINTCHECK_USAGE && says_usage(&answer), what);
+    expect(has(may_hint, 4, NULL, 0), "no glyph of it");
+    expect(hintcheck_may_hint(request, NULL, 4, NULL) == HINTCHECK_USAGE, what);
+}
+
+/* Requests of a font that is accepted, but for one field. */
+static void call_by_odd_requests(const uint8_t *accepted, size_t accepted_length, const uint8_t *certificate, size_t certificate_length)
+{
+    hintcheck_request request = {accepted, accepted_length, HINTCHECK_STRICT, 0, HINTCHECK_UNLIMITED};
+    hintcheck_answer answer;
+    call_by(NULL, certificate, certificate_length, "a null request");
+    request.profile = 2;
+    call_by(&request, certificate, certificate_length, "profile 2");
+    request.profile = UINT32_MAX;
+    call_by(&request, certificate, certificate_length, "the last profile");
+    request.profile = HINTCHECK_STRICT;
+    request.face = 1;
+    call_by(&request, certificate, certificate_length, "face 1");
+    request.profile = HINTCHECK_SYMBOLIC;
+    call_by(&request, certificate, certificate_length, "face 1 by symbolic states");
+    request.face = 0;
+    expect(hintcheck_check(&request, certificate, certificate_length, NULL, 0, &answer) == HINTCHECK_USAGE, "a check by symbolic states");
+    expect(says_usage(&answer), "what is told of it");
+    request.font = NULL;
+    call_by(&request, certificate, certificate_length, "a null font by symbolic states");
+    request.font_length = 0;
+    expect(hintcheck_verdict(&request, NULL, 0, &answer) == HINTCHECK_FAULT && answer.fault == 2, "no bytes by symbolic states");
+    expect(hintcheck_verdict(&request, NULL, 1, &answer) == HINTCHECK_USAGE, "null room by symbolic states");
+    expect(hintcheck_verdict(&request, NULL, 0, NULL) == HINTCHECK_USAGE, "a null answer by symbolic states");
+}
+
 static void call_may_hint(const uint8_t *composites, size_t length)
 {
     /* As bench/embedding.py makes the glyphs of COMPOSITES.ttf: 1 and 6 are refused, 3 and 8 are made of 1, 4 of 3, and 7 of 6. */
     static const uint8_t entries[11] = {1, 0, 1, 0, 0, 1, 0, 0, 0, 1, 1};
+    hintcheck_request request = {composites, length, HINTCHECK_STRICT, 0, HINTCHECK_UNLIMITED};
+    hintcheck_request symbolic = {composites, length, HINTCHECK_SYMBOLIC, 0, HINTCHECK_USUAL_STEPS};
     hintcheck_answer answer;
     uint8_t may_hint[16];
     memset(may_hint, 0x55, sizeof may_hint);
-    expect(hintcheck_may_hint(composites, length, HINTCHECK_UNLIMITED, may_hint, 16, &answer) == HINTCHECK_REFUSED, "composite glyphs");
+    expect(hintcheck_may_hint(&request, may_hint, 16, &answer) == HINTCHECK_REFUSED, "composite glyphs");
     expect(has(may_hint, 16, entries, 11), "which may be drawn with hints");
     expect(answer.status == HINTCHECK_REFUSED && answer.fault == 0 && answer.points > 0, "the status beside it");
     expect(answer.programs == 13 && answer.refused == 2 && answer.listed == 0, "the counts beside it");
     uint64_t needed = answer.points;
+    request.limit = needed;
     memset(may_hint, 0x55, sizeof may_hint);
-    expect(hintcheck_may_hint(composites, length, needed, may_hint, 4, &answer) == HINTCHECK_REFUSED, "room for four glyphs");
+    expect(hintcheck_may_hint(&request, may_hint, 4, &answer) == HINTCHECK_REFUSED, "room for four glyphs");
     expect(has(may_hint, 4, entries, 4) && may_hint[4] == 0x55, "four entries");
-    expect(hintcheck_may_hint(composites, length, needed - 1, may_hint, 16, &answer) == HINTCHECK_BUDGET, "glyphs with too few points");
+    expect(hintcheck_may_hint(&request, NULL, 0, &answer) == HINTCHECK_REFUSED && answer.refused == 2, "room for no glyph");
+    request.limit = needed - 1;
+    expect(hintcheck_may_hint(&request, may_hint, 16, &answer) == HINTCHECK_BUDGET, "glyphs with too few points");
     expect(has(may_hint, 16, NULL, 0) && answer.fault == 46 && answer.points == needed - 1, "no glyph then");
-    expect(hintcheck_may_hint(composites, length, needed, NULL, 0, &answer) == HINTCHECK_REFUSED && answer.refused == 2, "room for no glyph");
     memset(may_hint, 0x55, sizeof may_hint);
-    expect(hintcheck_may_hint_symbolic(composites, length, HINTCHECK_USUAL_STEPS, may_hint, 16, &answer) == HINTCHECK_REFUSED, "composite glyphs by symbolic states");
-    expect(has(may_hint, 16, entries, 11) && answer.refused == 2 && answer.points == 0, "which may be drawn with hints by symbolic states");
+    expect(hintcheck_may_hint(&symbolic, may_hint, 16, &answer) == HINTCHECK_REFUSED, "composite glyphs by symbolic states");
+    expect(has(may_hint, 16, entries, 11), "which may be drawn with hints by symbolic states");
+    expect(answer.refused == 2 && answer.points == 0, "the counts beside it by symbolic states");
 }
 
 static void call_may_hint_of_none(const uint8_t *cvt, size_t cvt_length, const uint8_t *circle, size_t circle_length)
 {
+    hintcheck_request request = {cvt, cvt_length, HINTCHECK_STRICT, 0, HINTCHECK_UNLIMITED};
     hintcheck_answer answer;
     uint8_t may_hint[4];
     memset(may_hint, 0x55, sizeof may_hint);
-    expect(hintcheck_may_hint(cvt, cvt_length, HINTCHECK_UNLIMITED, may_hint, 4, &answer) == HINTCHECK_REFUSED, "a refused CVT program");
+    expect(hintcheck_may_hint(&request, may_hint, 4, &answer) == HINTCHECK_REFUSED, "a refused CVT program");
     expect(has(may_hint, 4, NULL, 0) && answer.refused == 1, "no glyph after it");
+    request.profile = HINTCHECK_SYMBOLIC;
+    request.limit = HINTCHECK_USUAL_STEPS;
     memset(may_hint, 0x55, sizeof may_hint);
-    expect(hintcheck_may_hint_symbolic(cvt, cvt_length, HINTCHECK_USUAL_STEPS, may_hint, 4, &answer) == HINTCHECK_REFUSED, "the same by symbolic states");
+    expect(hintcheck_may_hint(&request, may_hint, 4, &answer) == HINTCHECK_REFUSED, "the same by symbolic states");
     expect(has(may_hint, 4, NULL, 0) && answer.refused == 1, "no glyph after it by symbolic states");
+    request.font = circle;
+    request.font_length = circle_length;
+    request.profile = HINTCHECK_STRICT;
+    request.limit = HINTCHECK_UNLIMITED;
     memset(may_hint, 0x55, sizeof may_hint);
-    expect(hintcheck_may_hint(circle, circle_length, HINTCHECK_UNLIMITED, may_hint, 4, &answer) == HINTCHECK_FAULT, "a glyph that is made of itself");
+    expect(hintcheck_may_hint(&request, may_hint, 4, &answer) == HINTCHECK_FAULT, "a glyph that is made of itself");
     expect(has(may_hint, 4, NULL, 0) && answer.fault == 8, "no glyph of such a font");
+    request.limit = 0;
+    expect(hintcheck_may_hint(&request, NULL, 1, &answer) == HINTCHECK_USAGE, "null room for a glyph");
+    request.profile = HINTCHECK_SYMBOLIC;
     memset(may_hint, 0x55, sizeof may_hint);
-    expect(hintcheck_may_hint(NULL, 1, HINTCHECK_UNLIMITED, may_hint, 4, &answer) == HINTCHECK_USAGE, "a null font with room for glyphs");
-    expect(has(may_hint, 4, NULL, 0) && answer.status == HINTCHECK_USAGE, "no glyph of it");
-    memset(may_hint, 0x55, sizeof may_hint);
-    expect(hintcheck_may_hint_symbolic(circle, circle_length, 0, may_hint, 4, NULL) == HINTCHECK_USAGE, "a null answer with room for glyphs");
+    expect(hintcheck_may_hint(&request, may_hint, 4, NULL) == HINTCHECK_USAGE, "a null answer with room for glyphs");
     expect(has(may_hint, 4, NULL, 0), "no glyph without an answer");
-    expect(hintcheck_may_hint(circle, circle_length, 0, NULL, 1, &answer) == HINTCHECK_USAGE, "null room for a glyph");
+    request.profile = HINTCHECK_STRICT;
+    request.font = NULL;
+    request.font_length = 1;
+    request.limit = HINTCHECK_UNLIMITED;
+    memset(may_hint, 0x55, sizeof may_hint);
+    expect(hintcheck_may_hint(&request, may_hint, 4, &answer) == HINTCHECK_USAGE, "a null font with room for glyphs");
+    expect(has(may_hint, 4, NULL, 0) && answer.status == HINTCHECK_USAGE, "no glyph of it");
 }
 
 /* The text of each number from 0 on: of a reason its own, and else none. */
@@ -187,21 +266,26 @@ static void call_reason_text(void)
 /* With each number of points up to the one that the font needs, and with that one. */
 static void call_within(const uint8_t *font, size_t length, uint32_t status, const uint8_t *certificate, size_t certificate_length)
 {
+    hintcheck_request request = {font, length, HINTCHECK_STRICT, 0, HINTCHECK_UNLIMITED};
     hintcheck_answer answer;
     hintcheck_refusal refusals[4];
-    hintcheck_verdict(font, length, HINTCHECK_UNLIMITED, refusals, 4, &answer);
+    hintcheck_verdict(&request, refusals, 4, &answer);
     uint64_t needed = answer.points;
     expect(needed > 0, "points are counted");
     for (uint64_t points = 0; points < needed; points++) {
+        request.limit = points;
         memset(refusals, 0x55, sizeof refusals);
-        expect(hintcheck_verdict(font, length, points, refusals, 4, &answer) == HINTCHECK_BUDGET, "too few points");
+        expect(hintcheck_verdict(&request, refusals, 4, &answer) == HINTCHECK_BUDGET, "too few points");
         expect(answer.status == HINTCHECK_BUDGET && answer.fault == 46 && answer.points == points, "what is told of them");
         expect(answer.programs == 0 && answer.listed == 0 && refusals[0].program == 0x55555555u, "nothing else");
     }
-    expect(hintcheck_verdict(font, length, needed, refusals, 4, &answer) == status, "enough points");
+    request.limit = needed;
+    expect(hintcheck_verdict(&request, refusals, 4, &answer) == status, "enough points");
     expect(answer.points == needed, "how many they are");
-    expect(hintcheck_check(font, length, certificate, certificate_length, 0, refusals, 4, &answer) == HINTCHECK_BUDGET, "a check without points");
-    hintcheck_check(font, length, certificate, certificate_length, HINTCHECK_UNLIMITED, refusals, 4, &answer);
+    request.limit = 0;
+    expect(hintcheck_check(&request, certificate, certificate_length, refusals, 4, &answer) == HINTCHECK_BUDGET, "a check without points");
+    request.limit = HINTCHECK_UNLIMITED;
+    hintcheck_check(&request, certificate, certificate_length, refusals, 4, &answer);
     expect(answer.points > 0 && answer.points <= needed, "a check makes no more points");
 }
 
@@ -209,20 +293,28 @@ static void call_within(const uint8_t *font, size_t length, uint32_t status, con
  * enough, and no longer then. */
 static void call_within_steps(const uint8_t *font, size_t length)
 {
+    hintcheck_request request = {font, length, HINTCHECK_SYMBOLIC, 0, 0};
     hintcheck_answer answer;
     hintcheck_refusal refusals[4];
     uint8_t may_hint[4];
-    uint64_t steps = 0;
-    while (steps < 10000 && hintcheck_verdict_symbolic(font, length, steps, refusals, 4, &answer) == HINTCHECK_REFUSED) {
+    while (request.limit < 10000 && hintcheck_verdict(&request, refusals, 4, &answer) == HINTCHECK_REFUSED) {
         expect(answer.refused > 0 && refusals[0].reason == HINTCHECK_REASON_TOO_MANY_STEPS, "what is told of too few steps");
-        steps++;
+        request.limit++;
     }
+    uint64_t steps = request.limit;
     expect(steps > 0, "steps are counted");
     expect(answer.status == HINTCHECK_ACCEPTED && answer.points == 0, "enough steps");
-    expect(hintcheck_verdict_symbolic(font, length, HINTCHECK_USUAL_STEPS, refusals, 4, &answer) == HINTCHECK_ACCEPTED, "more steps");
-    expect(hintcheck_may_hint_symbolic(font, length, steps, may_hint, 4, &answer) == HINTCHECK_ACCEPTED, "enough steps for glyphs");
-    expect(hintcheck_may_hint_symbolic(font, length, steps - 1, may_hint, 4, &answer) == HINTCHECK_REFUSED, "too few steps for glyphs");
-    expect(hintcheck_may_hint_symbolic(font, length, 0, may_hint, 4, &answer) == HINTCHECK_REFUSED && has(may_hint, 4, NULL, 0), "no step, and no glyph then");
+    request.limit = HINTCHECK_USUAL_STEPS;
+    expect(hintcheck_verdict(&request, refusals, 4, &answer) == HINTCHECK_ACCEPTED, "more steps");
+    request.limit = HINTCHECK_UNLIMITED;
+    expect(hintcheck_verdict(&request, refusals, 4, &answer) == HINTCHECK_ACCEPTED, "as many steps as are made");
+    request.limit = steps;
+    expect(hintcheck_may_hint(&request, may_hint, 4, &answer) == HINTCHECK_ACCEPTED, "enough steps for glyphs");
+    request.limit = steps - 1;
+    expect(hintcheck_may_hint(&request, may_hint, 4, &answer) == HINTCHECK_REFUSED, "too few steps for glyphs");
+    request.limit = 0;
+    expect(hintcheck_may_hint(&request, may_hint, 4, &answer) == HINTCHECK_REFUSED, "no step for glyphs");
+    expect(has(may_hint, 4, NULL, 0), "no glyph then");
 }
 
 /* More than 2^31 bytes: zeros alone, and a font with zeros after it. */
@@ -235,9 +327,10 @@ static void call_with_many_bytes(const uint8_t *accepted, size_t accepted_length
     if (!bytes) {
         return;
     }
-    expect(hintcheck_verdict(bytes, length, HINTCHECK_UNLIMITED, NULL, 0, &answer) == HINTCHECK_FAULT && answer.fault == 1, "many zeros");
+    hintcheck_request request = {bytes, length, HINTCHECK_STRICT, 0, HINTCHECK_UNLIMITED};
+    expect(hintcheck_verdict(&request, NULL, 0, &answer) == HINTCHECK_FAULT && answer.fault == 1, "many zeros");
     memcpy(bytes, accepted, accepted_length);
-    expect(hintcheck_verdict(bytes, length, HINTCHECK_UNLIMITED, NULL, 0, &answer) == HINTCHECK_ACCEPTED, "a font before many zeros");
+    expect(hintcheck_verdict(&request, NULL, 0, &answer) == HINTCHECK_ACCEPTED, "a font before many zeros");
     free(bytes);
 }
 
@@ -258,6 +351,7 @@ int main(int argc, char **argv)
     call_verdict(accepted, accepted_length, refused, refused_length);
     call_check(accepted, accepted_length, refused, refused_length, certificate, certificate_length);
     call_oddly(accepted, accepted_length);
+    call_by_odd_requests(accepted, accepted_length, certificate, certificate_length);
     call_may_hint(composites, composites_length);
     call_may_hint_of_none(cvt, cvt_length, circle, circle_length);
     call_reason_text();

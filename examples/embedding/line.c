@@ -55,16 +55,17 @@ static const char *name_of(uint32_t program, char *room, size_t size)
 /* Asks hintcheck, says what it answers, and returns how FreeType is to load glyphs. */
 static int load_flags(const unsigned char *font, size_t length, const char *certificate_name)
 {
+    hintcheck_request request = {.font = font, .font_length = length, .profile = HINTCHECK_STRICT, .limit = POINTS};
     hintcheck_refusal refusals[LISTED];
     hintcheck_answer answer;
     uint32_t status;
     if (certificate_name) {
         size_t size = 0;
         unsigned char *certificate = read_file(certificate_name, &size);
-        status = hintcheck_check(font, length, certificate, certificate ? size : 0, POINTS, refusals, LISTED, &answer);
+        status = hintcheck_check(&request, certificate, certificate ? size : 0, refusals, LISTED, &answer);
         free(certificate);
     } else {
-        status = hintcheck_verdict(font, length, POINTS, refusals, LISTED, &answer);
+        status = hintcheck_verdict(&request, refusals, LISTED, &answer);
     }
     switch (status) {
     case HINTCHECK_ACCEPTED:

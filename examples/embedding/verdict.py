@@ -4,7 +4,8 @@
 Usage: verdict.py LIBRARY FONT..
 LIBRARY is a shared library that is made of the archive:
 cc -shared -o libhintcheck.so -Wl,--whole-archive libhintcheck.a -Wl,--no-whole-archive
-The inline functions of hintcheck.h aren't in it: the library's own functions are called, which take no null pointer. ctypes hands in none here.
+The inline functions of hintcheck.h, which take a request, aren't in it. The library's own functions are called, of which each has its profile:
+they take the font, its length and the limit one by one, and no null pointer. ctypes hands in none here.
 """
 
 import ctypes
