@@ -18,3 +18,4 @@ pub mod CauseLemmas
 pub mod CertificateFaults
 pub mod ObjectFaults
 pub mod ToldCauses
+pub mod AskedVerdicts

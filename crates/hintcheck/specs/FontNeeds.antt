@@ -8,7 +8,7 @@ use Rattle.hintcheck_report.specs.declared.bound.Bound.{Bound}
 use Rattle.hintcheck_report.specs.declared.bound.Bound.TheVariants.{StackElements, Storage, FunctionDefs, ControlValues}
 use Rattle.hintcheck_needs.specs.Needs.{AreNeeds, need_of}
 use Rattle.hintcheck_needs.specs.declared.font_needs.Needs.{Needs}
-use Rattle.hintcheck_needs.specs.declared.analysis.Analysis.TheVariants as judged_by
+use Rattle.hintcheck_fonts.specs.declared.request.Request.TheVariants as judged_by
 use Rattle.hintcheck_words.specs.declared.words.Profile.{Profile}
 use Rattle.hintcheck_words.specs.declared.words.Profile.TheVariants.{Strict, Symbolic}
 

@@ -25,6 +25,8 @@ use Rattle.hintcheck.specs.SymbolicExplanations.{HoldSymbolicAcceptedProgram, Ho
 use Rattle.hintcheck.specs.SymbolicAnswers.{SpellGlyph, SpellSymbolicSafeGlyph, SpellSymbolicVerdict}
 use Rattle.hintcheck_fonts.specs.FontAnswers.{HoldRefusedFont, HoldSafeFont, HoldSymbolicRefusedFont, HoldSymbolicSafeFont, IsSymbolicVerdictOn, IsVerdictOn}
 use Rattle.hintcheck_fonts.specs.Verdicts.{Judgement}
+use Rattle.hintcheck_fonts.specs.declared.request.Request.{Request as VerdictRequest}
+use Rattle.hintcheck_fonts.specs.declared.request.Request.TheVariants as asked
 use Rattle.hintcheck_report.specs.ReasonNumbers.{IsReasonWord}
 use Rattle.hintcheck_report.specs.declared.refused.Refused.{Refused}
 
@@ -66,6 +68,11 @@ HoldExplainedBy Symbolic bytes word e = HoldSymbolicExplained bytes word e
 abbrev pub IsVerdictBy : Profile → List ℕ → Judgement → Type 0
 IsVerdictBy Strict bytes judgement = IsVerdictOn bytes judgement
 IsVerdictBy Symbolic bytes judgement = IsSymbolicVerdictOn bytes judgement
+
+-- what is asked of a verdict by this profile, the symbolic one with some number of steps
+abbrev pub IsRequestOf : Profile → VerdictRequest → Type 0
+IsRequestOf Strict request = request ≡ asked.Strict
+IsRequestOf Symbolic request = (steps : ℕ) × (request ≡ asked.Symbolic steps)
 
 -- The verdict of this profile on the font in the bytes refuses no program for a possible fault.
 -- Those that it refuses are undecided or left out: this doesn't tell that they are safe.

@@ -5,14 +5,17 @@ ghost use Rattle.std.specs.Prelude.{◌≡◌, IfErr, IfOk, None, OnOk};
 ghost use Rattle.tt_font.specs.FileFaults.{font_fault};
 ghost use Rattle.tt_font.specs.Reading.{Reads};
 ghost use Rattle.hintcheck.specs.CommandFaults.{IsFaultInBudget, IsFaultOfFont};
-ghost use Rattle.hintcheck_fonts.specs.FontAnswers.{IsSymbolicVerdictOn, IsVerdictOn};
+ghost use Rattle.hintcheck.specs.MeansSafe.{IsRequestOf, IsVerdictBy};
+ghost use Rattle.hintcheck_fonts.specs.FontAnswers.{IsVerdictOn};
 ghost use Rattle.hintcheck_fonts.specs.FontPrograms.{IsFontInRange};
 
 use crate::commands::faults::{CommandFault, Numbered};
-use hintcheck_fonts::font::{self, read_font, verdict_within};
+use hintcheck_fonts::font::{self, read_font};
 use hintcheck_fonts::report::Verdict;
-use hintcheck_fonts::symbolic_verdict::{verdict_symbolic, verdict_symbolic_within};
+use hintcheck_fonts::symbolic_verdict::USUAL_STEPS;
+use hintcheck_fonts::{Request, verdict_by};
 use hintcheck_report::AnswerFault;
+use hintcheck_words::Profile;
 use std::alloc::Global;
 use tt_abs::Exhausted;
 use tt_family::Budget;
@@ -48,46 +51,38 @@ pub(crate) fn verdict_in(alloc: Global, bytes: &[u8]) -> Result<Verdict, Numbere
     }
 }
 
-/// Returns the verdict on a font, and makes at most as many points as the budget allows.
-///
-/// # Errors
-/// The faults of `Font::read`; `OutOfMemory`; `Budget`.
-pub(crate) fn verdict_in_budget(
-    alloc: Global,
-    bytes: &[u8],
-    budget: &mut Budget,
-) -> Result<Verdict, CommandFault>
-    ensures exact { IfOk result (IsVerdictOn bytes.now) }
-    ensures faults { IfErr result (IsFaultInBudget bytes.now) }
+/// Returns what is asked of a verdict by this profile. The search of the symbolic one makes at most
+/// this many steps, where they are bounded.
+pub(crate) fn request_by(profile: Profile, steps: Option<u64>) -> Request
+    ensures { IsRequestOf profile result }
 {
-    match verdict_within(alloc, bytes, budget) {
-        Ok(verdict) => Ok(verdict),
-        Err(AnswerFault::Exhausted(Exhausted::Budget)) => Err(CommandFault::Budget),
-        Err(fault) => { Err(CommandFault::Font(Numbered::of(fault.into_font_fault(), bytes))) }
+    match profile {
+        Profile::Strict => Request::Strict,
+        Profile::Symbolic => Request::Symbolic {
+            steps: steps.unwrap_or(USUAL_STEPS),
+        },
     }
 }
 
-/// Returns the verdict on a font by symbolic states. The search makes at most this many steps, where
-/// they are bounded.
+/// Returns the verdict of a profile on a font: the strict one makes at most as many points as the
+/// budget allows, and the search of the symbolic one at most this many steps, where they are bounded.
 ///
 /// # Errors
-/// The faults of `Font::read`; `OutOfMemory`.
-pub(crate) fn symbolic_verdict_in(
+/// The faults of `Font::read`; `OutOfMemory`; `Budget`.
+#[tactic(auto, using(crate::proofs::AskedVerdicts::asked_verdict))]
+pub(crate) fn verdict_in_budget(
     alloc: Global,
     bytes: &[u8],
-    budget: Option<u64>,
-) -> Result<Verdict, Numbered>
-    ensures exact { IfOk result (IsSymbolicVerdictOn bytes.now) }
-    ensures faults { IfErr result (IsFaultOfFont bytes.now) }
+    profile: Profile,
+    steps: Option<u64>,
+    budget: &mut Budget,
+) -> Result<Verdict, CommandFault>
+    ensures given { IfOk result (IsVerdictBy profile bytes.now) }
+    ensures faults { IfErr result (IsFaultInBudget bytes.now) }
 {
-    match budget {
-        Some(most) => match verdict_symbolic_within(alloc, bytes, most) {
-            Ok(verdict) => Ok(verdict),
-            Err(fault) => Err(Numbered::of(fault, bytes)),
-        },
-        None => match verdict_symbolic(alloc, bytes) {
-            Ok(verdict) => Ok(verdict),
-            Err(fault) => Err(Numbered::of(fault, bytes)),
-        },
+    match verdict_by(alloc, bytes, request_by(profile, steps), budget) {
+        Ok(verdict) => Ok(verdict),
+        Err(AnswerFault::Exhausted(Exhausted::Budget)) => Err(CommandFault::Budget),
+        Err(fault) => { Err(CommandFault::Font(Numbered::of(fault.into_font_fault(), bytes))) }
     }
 }

@@ -2,7 +2,8 @@
 
 use crate::faults::fault_text;
 use anyhow::Result;
-use hintcheck_needs::{Analysis, Bound, Needs, needs_in};
+use hintcheck_fonts::Request;
+use hintcheck_needs::{Bound, Needs, needs_in};
 use std::alloc::Global;
 use std::fmt::Write;
 use tt_cases::context::Context;
@@ -35,15 +36,15 @@ fn told_of_needs(alloc: Global, needs: &Needs) -> Result<String> {
 /// makes as many steps at most for each verdict.
 pub(crate) fn needs(context: &Context<'_>, words: &mut Words<'_>) -> Result<String> {
     let alloc = context.rt.alloc();
-    let analysis = match words.take("steps") {
-        Some(steps) => Analysis::Symbolic {
+    let request = match words.take("steps") {
+        Some(steps) => Request::Symbolic {
             steps: number_of(steps)?,
         },
-        None => Analysis::Strict,
+        None => Request::Strict,
     };
     let mut points = Budget::of(words.number("points", u64::MAX)?);
     let font = font_of(context, words)?;
-    match needs_in(alloc, &font, analysis, &mut points) {
+    match needs_in(alloc, &font, request, &mut points) {
         Ok(needs) => told_of_needs(alloc, &needs),
         Err(fault) => fault_text(alloc, &fault),
     }

@@ -16,4 +16,5 @@ pub mod BudgetAnswers
 pub mod SymbolicRefusals
 pub mod SymbolicVerdicts
 pub mod FontAnswers
+pub mod Requests
 pub mod Representation

@@ -1,5 +1,5 @@
 -- Why the verdict by symbolic states refuses a program. Only the search and the check refuse for a
--- reason that isn't told by the program's bytes alone; where memory runs out, that is the answer. (Own.)
+-- reason that the program's bytes alone don't tell; where memory runs out, that is the answer. (Own.)
 use Rattle.std.specs.Prelude.{ℕ, List}
 use Rattle.tt_code.specs.declared.reason.Reason.TheVariants.{ProgramTooLong}
 use Rattle.tt_abs.specs.Failures.{reason_of}

@@ -6,13 +6,11 @@ use Rattle.hintcheck_report.specs.Bounds.{cvt_count_with, declared_number, limit
 use Rattle.hintcheck_report.specs.declared.bound.Bound.{Bound}
 use Rattle.hintcheck_report.specs.declared.bound.Bound.TheVariants.{StackElements, Storage, FunctionDefs, ControlValues}
 use Rattle.hintcheck_report.specs.declared.refused.Refused.{Refused}
-use Rattle.hintcheck_fonts.specs.FontPrograms.{IsVerdict}
-use Rattle.hintcheck_fonts.specs.SymbolicVerdicts.{IsSymbolicVerdict}
+use Rattle.hintcheck_fonts.specs.Requests.{GivesVerdict}
 use Rattle.hintcheck_fonts.specs.Verdicts.{Judgement}
 use Rattle.hintcheck_needs.specs.declared.font_needs.Need.{Need}
 use Rattle.hintcheck_needs.specs.declared.font_needs.Needs.{Needs}
-use Rattle.hintcheck_needs.specs.declared.analysis.Analysis.{Analysis}
-use Rattle.hintcheck_needs.specs.declared.analysis.Analysis.TheVariants.{Strict, Symbolic}
+use Rattle.hintcheck_fonts.specs.declared.request.Request.{Request}
 
 -- the font with another number in its place
 abbrev pub with_number : FontData → Bound → ℕ → FontData
@@ -21,29 +19,24 @@ with_number d bound n = record d {
   cvt_count = cvt_count_with d.cvt_count bound n;
 }
 
--- a verdict of this analysis on the font
-abbrev pub GivesVerdict : Analysis → FontData → Judgement → Type 0
-GivesVerdict Strict d v = IsVerdict d v
-GivesVerdict (Symbolic steps) d v = IsSymbolicVerdict d v
-
 -- the names of the programs that are refused, in their order
 abbrev pub refused_names : List Refused → List Name
 refused_names refused = map (λ r. r.program) refused
 
--- a verdict of this analysis on the font refuses these programs
-abbrev pub Refuses : Analysis → FontData → List Name → Type 0
-Refuses analysis d names =
-    (v : Judgement) × GivesVerdict analysis d v × (refused_names v.refused ≡ names)
+-- a verdict as is asked on the font refuses these programs
+abbrev pub Refuses : Request → FontData → List Name → Type 0
+Refuses request d names =
+    (v : Judgement) × GivesVerdict request d v × (refused_names v.refused ≡ names)
 
--- a verdict of this analysis on the font refuses others than these
-abbrev pub RefusesOthers : Analysis → FontData → List Name → Type 0
-RefusesOthers analysis d names =
-    (others : List Name) × Refuses analysis d others × (others ≢ names)
+-- a verdict as is asked on the font refuses others than these
+abbrev pub RefusesOthers : Request → FontData → List Name → Type 0
+RefusesOthers request d names =
+    (others : List Name) × Refuses request d others × (others ≢ names)
 
--- whether a verdict of this analysis on the font refuses these programs, or others
-abbrev pub TellsSame : Analysis → FontData → List Name → Bool → Type 0
-TellsSame analysis d names true = Refuses analysis d names
-TellsSame analysis d names false = RefusesOthers analysis d names
+-- whether a verdict as is asked on the font refuses these programs, or others
+abbrev pub TellsSame : Request → FontData → List Name → Bool → Type 0
+TellsSame request d names true = Refuses request d names
+TellsSame request d names false = RefusesOthers request d names
 
 -- the greatest number that is tried
 abbrev pub greatest_number : ℕ
@@ -52,16 +45,16 @@ greatest_number = 65535
 -- A number is enough for a font where a verdict with it in place of the font's own refuses the same
 -- programs as one with the greatest number. It is the least such where a verdict with the number
 -- before it, if there is one, refuses others.
-pub record IsLeastEnough (analysis : Analysis) (d : FontData) (bound : Bound) (n : ℕ) : Type 0 where
+pub record IsLeastEnough (request : Request) (d : FontData) (bound : Bound) (n : ℕ) : Type 0 where
   pub names : List Name
-  pub refused : Refuses analysis (with_number d bound greatest_number) names
-  pub enough : Refuses analysis (with_number d bound n) names
+  pub refused : Refuses request (with_number d bound greatest_number) names
+  pub enough : Refuses request (with_number d bound n) names
   pub least : (fewer : ℕ) → n ≡ suc fewer
-      → RefusesOthers analysis (with_number d bound fewer) names
+      → RefusesOthers request (with_number d bound fewer) names
 
 -- what a font needs of one number, and what it has
-pub record IsNeed (analysis : Analysis) (d : FontData) (bound : Bound) (need : Need) : Type 0 where
-  pub least : IsLeastEnough analysis d bound need.least
+pub record IsNeed (request : Request) (d : FontData) (bound : Bound) (need : Need) : Type 0 where
+  pub least : IsLeastEnough request d bound need.least
   pub declared : need.declared ≡ declared_number d.limits d.cvt_count bound
 
 -- what is told of one number
@@ -72,5 +65,5 @@ need_of needs FunctionDefs = needs.function_defs
 need_of needs ControlValues = needs.control_values
 
 -- what a font needs of each number
-abbrev pub AreNeeds : Analysis → FontData → Needs → Type 0
-AreNeeds analysis d needs = (bound : Bound) → IsNeed analysis d bound (need_of needs bound)
+abbrev pub AreNeeds : Request → FontData → Needs → Type 0
+AreNeeds request d needs = (bound : Bound) → IsNeed request d bound (need_of needs bound)

@@ -7,9 +7,8 @@ ghost use Rattle.tt_font.specs.Reading.{FontData, Reads};
 ghost use Rattle.hintcheck_fonts.specs.BudgetAnswers.{VerdictTellsBudget, VerdictTellsFontFault};
 ghost use Rattle.hintcheck_needs.specs.Needs.{AreNeeds, IsNeed, need_of};
 
-use crate::analysis::Analysis;
 use crate::least::least_enough;
-use hintcheck_fonts::read_font;
+use hintcheck_fonts::{Request, read_font};
 use hintcheck_report::{AnswerFault, Bound};
 use std::alloc::Global;
 use tt_abs::Exhausted;
@@ -59,16 +58,16 @@ impl Needs {
 fn one_need(
     alloc: Global,
     font: &mut Font<'_>,
-    analysis: Analysis,
+    request: Request,
     bound: Bound,
     points: &mut Budget,
 ) -> Result<Need, Exhausted>
-    ensures need { IfOk result (IsNeed analysis font.old bound) }
+    ensures need { IfOk result (IsNeed request font.old bound) }
     ensures kept { font.new ≡ font.old }
     ensures spends { Spends points.old points.new }
     ensures budget { EndTellsBudget points.old points.new result }
 {
-    let least = least_enough(alloc, font, analysis, bound, points)?;
+    let least = least_enough(alloc, font, request, bound, points)?;
     let declared = bound.declared(font.limits(), font.cvt_count());
     Ok(Need { least, declared })
 }
@@ -80,17 +79,17 @@ fn one_need(
 fn all_needs(
     alloc: Global,
     font: &mut Font<'_>,
-    analysis: Analysis,
+    request: Request,
     points: &mut Budget,
 ) -> Result<Needs, Exhausted>
-    ensures needs { IfOk result (AreNeeds analysis font.old) }
+    ensures needs { IfOk result (AreNeeds request font.old) }
     ensures spends { Spends points.old points.new }
     ensures budget { EndTellsBudget points.old points.new result }
 {
-    let stack_elements = one_need(alloc, font, analysis, Bound::StackElements, points)?;
-    let storage = one_need(alloc, font, analysis, Bound::Storage, points)?;
-    let function_defs = one_need(alloc, font, analysis, Bound::FunctionDefs, points)?;
-    let control_values = one_need(alloc, font, analysis, Bound::ControlValues, points)?;
+    let stack_elements = one_need(alloc, font, request, Bound::StackElements, points)?;
+    let storage = one_need(alloc, font, request, Bound::Storage, points)?;
+    let function_defs = one_need(alloc, font, request, Bound::FunctionDefs, points)?;
+    let control_values = one_need(alloc, font, request, Bound::ControlValues, points)?;
     Ok(Needs {
         stack_elements,
         storage,
@@ -108,11 +107,11 @@ fn all_needs(
 pub fn needs_in(
     alloc: Global,
     bytes: &[u8],
-    analysis: Analysis,
+    request: Request,
     points: &mut Budget,
 ) -> Result<Needs, AnswerFault>
     ensures needs { IfOk result (λ needs.
-        (d : FontData) × Reads bytes.now d × AreNeeds analysis d needs) }
+        (d : FontData) × Reads bytes.now d × AreNeeds request d needs) }
     ensures faults { VerdictTellsFontFault (font_fault bytes.now) result }
     ensures spends { Spends points.old points.new }
     ensures budget { VerdictTellsBudget points.new result }
@@ -121,5 +120,5 @@ pub fn needs_in(
         return Err(AnswerFault::Exhausted(Exhausted::Budget));
     }
     let mut font = read_font(alloc, bytes)?;
-    Ok(all_needs(alloc, &mut font, analysis, points)?)
+    Ok(all_needs(alloc, &mut font, request, points)?)
 }

@@ -4,8 +4,8 @@ ghost use Rattle.std.specs.Prelude.{◌≡◌, ◌↔◌, IfOk, IsTrue};
 ghost use Rattle.tt_family.specs.Budgets.{EndTellsBudget, Spends};
 ghost use Rattle.hintcheck_needs.specs.Needs.{IsLeastEnough, Refuses, TellsSame, refused_names, with_number};
 
-use crate::analysis::{Analysis, refused_by};
 use crate::numbers::replace_number;
+use hintcheck_fonts::request::{Request, refused_by};
 use hintcheck_report::{Bound, Refused};
 use std::alloc::Global;
 use tt_abs::Exhausted;
@@ -35,13 +35,13 @@ fn are_same_programs(some: &[Refused], others: &[Refused]) -> bool
 fn refused_with(
     alloc: Global,
     font: &mut Font<'_>,
-    analysis: Analysis,
+    request: Request,
     bound: Bound,
     number: u16,
     points: &mut Budget,
 ) -> Result<Vec<Refused>, Exhausted>
     ensures refused { IfOk result (λ refused.
-        Refuses analysis (with_number font.old bound number) (refused_names refused.items)) }
+        Refuses request (with_number font.old bound number) (refused_names refused.items)) }
     ensures kept { font.new ≡ font.old }
     ensures spends { Spends points.old points.new }
     ensures budget { EndTellsBudget points.old points.new result }
@@ -49,7 +49,7 @@ fn refused_with(
     let limits = font.limits();
     let cvt_count = font.cvt_count();
     replace_number(font, bound, number);
-    let refused = refused_by(alloc, font, analysis, points);
+    let refused = refused_by(alloc, font, request, points);
     font.set_limits(limits, cvt_count);
     refused
 }
@@ -61,19 +61,19 @@ fn refused_with(
 fn refuses_same(
     alloc: Global,
     font: &mut Font<'_>,
-    analysis: Analysis,
+    request: Request,
     bound: Bound,
     number: u16,
     refused: &[Refused],
     points: &mut Budget,
 ) -> Result<bool, Exhausted>
     ensures same { IfOk result (λ same.
-        TellsSame analysis (with_number font.old bound number) (refused_names refused.now) same) }
+        TellsSame request (with_number font.old bound number) (refused_names refused.now) same) }
     ensures kept { font.new ≡ font.old }
     ensures spends { Spends points.old points.new }
     ensures budget { EndTellsBudget points.old points.new result }
 {
-    let with = refused_with(alloc, font, analysis, bound, number, points)?;
+    let with = refused_with(alloc, font, request, bound, number, points)?;
     Ok(are_same_programs(&with, refused))
 }
 
@@ -86,28 +86,28 @@ fn refuses_same(
 /// below and above the answer do, except for the one before it, isn't promised.
 ///
 /// # Errors
-/// `Memory` where memory runs out; `Budget`, by the strict analysis alone, where more points were
+/// `Memory` where memory runs out; `Budget`, by the strict profile alone, where more points were
 /// to be made than the budget allows, for all verdicts together. The font is as it was, here too.
 pub fn least_enough(
     alloc: Global,
     font: &mut Font<'_>,
-    analysis: Analysis,
+    request: Request,
     bound: Bound,
     points: &mut Budget,
 ) -> Result<u16, Exhausted>
-    ensures least { IfOk result (IsLeastEnough analysis font.old bound) }
+    ensures least { IfOk result (IsLeastEnough request font.old bound) }
     ensures kept { font.new ≡ font.old }
     ensures spends { Spends points.old points.new }
     ensures budget { EndTellsBudget points.old points.new result }
 {
-    let refused = refused_with(alloc, font, analysis, bound, u16::MAX, points)?;
+    let refused = refused_with(alloc, font, request, bound, u16::MAX, points)?;
     let mut low = 0;
     let mut high = u16::MAX;
     // The font's own number first, if it is below the greatest one.
     let declared = bound.declared(font.limits(), font.cvt_count());
     let mut number = declared.min(65_534) as u16;
     while low < high {
-        if refuses_same(alloc, font, analysis, bound, number, &refused, points)? {
+        if refuses_same(alloc, font, request, bound, number, &refused, points)? {
             high = number;
         } else {
             low = number + 1;

@@ -3,12 +3,10 @@
 //! programs as with the greatest one, and with one less others.
 #![tactic(auto)]
 
-pub mod analysis;
 pub mod font_needs;
 pub mod least;
 pub mod numbers;
 
-pub use analysis::Analysis;
 pub use font_needs::{Need, Needs, needs_in};
 pub use hintcheck_report::Bound;
 pub use least::least_enough;

@@ -2,10 +2,10 @@
 
 use crate::PROGRAMS;
 use hintcheck_fonts::{
-    AnswerFault, bare, bare_symbolic, check_font, find_font, read_font, upgrade, verdict,
+    AnswerFault, Request, bare, bare_symbolic, check_font, find_font, read_font, upgrade, verdict,
     verdict_symbolic,
 };
-use hintcheck_needs::{Analysis, Bound, least_enough};
+use hintcheck_needs::{Bound, least_enough};
 use std::alloc::Global;
 use std::io;
 use std::test::Fail;
@@ -67,7 +67,7 @@ fn storage_needed(alloc: Global, font: &[u8]) -> Result<u16, AnswerFault> {
     let least = least_enough(
         alloc,
         &mut font,
-        Analysis::Strict,
+        Request::Strict,
         Bound::Storage,
         &mut points,
     )?;

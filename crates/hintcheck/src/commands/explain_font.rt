@@ -4,9 +4,9 @@
 ghost use Rattle.std.specs.Prelude.{◌≡◌, ◌≤◌, ◌++◌, codes, IfErr, IfOk, List, OnOk, ℕ};
 ghost use Rattle.std.specs.Io.KnownBytes.{Appends};
 ghost use Rattle.hintcheck.specs.CauseAnswers.{PrintsCauses, PrintsCausesOf};
-ghost use Rattle.hintcheck.specs.CommandFaults.{IsEndOfWork, IsFaultOfFontCauses, IsFaultOfFontFile, IsFaultOfPrinting, IsWithin};
+ghost use Rattle.hintcheck.specs.CommandFaults.{IsEndOfWork, IsFaultOfFontCauses, IsFaultOfPrinting, IsWithin};
 ghost use Rattle.hintcheck.specs.Commands.{TellsFailure};
-ghost use Rattle.hintcheck.specs.MeansSafe.{HoldRefusedBy, HoldSafeBy, IsVerdictBy};
+ghost use Rattle.hintcheck.specs.MeansSafe.{HoldRefusedBy, HoldSafeBy};
 
 use super::cause_lines::print_causes;
 use super::faults::CommandFault;
@@ -14,9 +14,9 @@ use super::files::file_bytes;
 use super::verdict_lines::print_last_line;
 use super::{ACCEPTED, REFUSED};
 use crate::explanation::explain_word;
-use crate::font_file::{symbolic_verdict_in, verdict_in_budget};
+use crate::font_file::verdict_in_budget;
 use crate::symbolic_explanation::explained_program_symbolic;
-use hintcheck_fonts::report::{Name, Verdict};
+use hintcheck_fonts::report::Name;
 use hintcheck_words::Profile;
 use std::alloc::Global;
 use std::rt::Files;
@@ -29,23 +29,6 @@ use tt_stream::{Counted, Sink, write_all};
 struct Judging {
     profile: Profile,
     steps: Option<u64>,
-}
-
-/// Returns the verdict on the font in these bytes: the strict one makes at most as many points as the
-/// budget allows.
-fn verdict_on_font(
-    alloc: Global,
-    font: &[u8],
-    judging: Judging,
-    points: &mut Budget,
-) -> Result<Verdict, CommandFault>
-    ensures given { IfOk result (IsVerdictBy judging.profile font.now) }
-    ensures faults { IfErr result IsFaultOfFontFile }
-{
-    match judging.profile {
-        Profile::Strict => verdict_in_budget(alloc, font, points),
-        Profile::Symbolic => Ok(symbolic_verdict_in(alloc, font, judging.steps)?),
-    }
 }
 
 /// Returns the explanation of the font's program of this name, a refused one.
@@ -114,7 +97,7 @@ fn explain_within<O: Sink>(
     ensures failures { TellsFailure result (O.failures out.old) (O.failures out.new) }
     ensures faults { IfErr result IsFaultOfFontCauses }
 {
-    let verdict = verdict_on_font(alloc, font, judging, points)?;
+    let verdict = verdict_in_budget(alloc, font, judging.profile, judging.steps, points)?;
     let Some(first) = print_causes(alloc, out, font, verdict.refused())? else {
         print_last_line(out, &verdict, judging.profile)?;
         return Ok(ACCEPTED);

@@ -8,8 +8,8 @@ ghost use Rattle.hintcheck.specs.Commands.{TellsFailure};
 ghost use Rattle.hintcheck.specs.FontNeeds.{HaveNeeds, TellsNeeds, need_text, needs_line, next_need};
 
 use super::faults::CommandFault;
-use hintcheck_fonts::symbolic_verdict::USUAL_STEPS;
-use hintcheck_needs::{Analysis, Bound, Need, Needs, needs_in};
+use crate::font_file::request_by;
+use hintcheck_needs::{Bound, Need, Needs, needs_in};
 use hintcheck_words::Profile;
 use std::alloc::Global;
 use tt_family::Budget;
@@ -20,6 +20,7 @@ use tt_stream::{PrintFailed, Sink};
 ///
 /// # Errors
 /// `OutOfMemory`.
+#[tactic(auto, using(crate::proofs::AskedVerdicts::asked_needs))]
 fn needs_by(
     alloc: Global,
     font: &[u8],
@@ -29,13 +30,8 @@ fn needs_by(
     ensures needs { IfOk result (HaveNeeds profile font.now) }
     ensures fault { IfErr result (λ fault. fault ≡ CommandFault.OutOfMemory) }
 {
-    let by = match profile {
-        Profile::Strict => Analysis::Strict,
-        Profile::Symbolic => Analysis::Symbolic {
-            steps: steps.unwrap_or(USUAL_STEPS),
-        },
-    };
-    match needs_in(alloc, font, by, &mut Budget::unlimited()) {
+    let request = request_by(profile, steps);
+    match needs_in(alloc, font, request, &mut Budget::unlimited()) {
         Ok(needs) => Ok(needs),
         // The font was read before, and no font has so many points: so memory ran out.
         Err(_) => Err(CommandFault::OutOfMemory),

@@ -8,7 +8,7 @@ ghost use Rattle.hintcheck_fonts.specs.FontAnswers.{IsVerdictOn};
 
 use super::faults::CommandFault;
 use super::files::file_bytes;
-use crate::font_file::{symbolic_verdict_in, verdict_in, verdict_in_budget};
+use crate::font_file::{verdict_in, verdict_in_budget};
 use hintcheck_fonts::report::Verdict;
 use hintcheck_words::Profile;
 use std::alloc::Global;
@@ -49,11 +49,14 @@ fn verdict_by(
     ensures faults { IfErr result
         (λ fault. IsFaultOfFontFile fault × IsWithin budget fault) }
 {
-    match (profile, budget) {
-        (Profile::Strict, None) => Ok(verdict_in(alloc, bytes)?),
-        (Profile::Strict, Some(most)) => { verdict_in_budget(alloc, bytes, &mut Budget::of(most)) }
-        (Profile::Symbolic, budget) => Ok(symbolic_verdict_in(alloc, bytes, budget)?),
-    }
+    let Some(most) = budget else {
+        return match verdict_in_budget(alloc, bytes, profile, None, &mut Budget::unlimited()) {
+            // No font has so many points.
+            Err(CommandFault::Budget) => Err(CommandFault::OutOfMemory),
+            told => told,
+        };
+    };
+    verdict_in_budget(alloc, bytes, profile, budget, &mut Budget::of(most))
 }
 
 /// The font in a file: its bytes, and the verdict on it.

@@ -33,11 +33,11 @@ loop-low-preserved c =
     let names = refused_names c.in_ok-refused.refused.items in
     let lt : c.loop-low.number < c.loop-low.high = i.next_most c.loop-low-test.true in
     let T : FontData → List Refused → Bool → Type 0 =
-    λ d refused same. TellsSame c.args.analysis (with_number d c.args.bound c.loop-low.number) (refused_names refused) same in
+    λ d refused same. TellsSame c.args.request (with_number d c.args.bound c.loop-low.number) (refused_names refused) same in
     let tells : T c.args.font.now c.in_ok-refused.refused.items c.in_ok-refuses_same.field-0 =
     subst (λ (d : FontData). T d c.in_ok-refused.refused.items c.in_ok-refuses_same.field-0) i.kept
     (subst (λ (r : List Refused). T c.loop-low.font r c.in_ok-refuses_same.field-0) c.deref.ensures.value e.same) in
-    let B : ℕ → ℕ → Type 0 = λ low high. IsBetween c.args.analysis c.args.font.now c.args.bound names low high in
+    let B : ℕ → ℕ → Type 0 = λ low high. IsBetween c.args.request c.args.font.now c.args.bound names low high in
     let between : B c.if-branch.low c.if-branch.high = elim c.if-branch.branch [
       | then-branch w ↦
           let refuses = subst (T c.args.font.now c.in_ok-refused.refused.items) w.if-branch.true tells in

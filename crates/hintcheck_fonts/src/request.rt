@@ -1,0 +1,122 @@
+//! The verdict on a font by the profile that is asked for.
+
+ghost use Rattle.std.specs.Prelude.{◌≡◌, ℕ, IfOk};
+ghost use Rattle.tt_family.specs.Budgets.{EndTellsBudget, Spends};
+ghost use Rattle.tt_font.specs.FileFaults.{font_fault};
+ghost use Rattle.tt_font.specs.Reading.{FontData, Reads};
+ghost use Rattle.hintcheck_fonts.specs.BudgetAnswers.{VerdictTellsBudget, VerdictTellsFontFault};
+ghost use Rattle.hintcheck_fonts.specs.FontPrograms.{IsFontInRange, judgement_on};
+ghost use Rattle.hintcheck_fonts.specs.Requests.{GivesVerdict, IsVerdictAsked};
+ghost use Rattle.hintcheck_fonts.specs.SymbolicVerdicts.{IsSymbolicVerdict};
+
+use crate::report::{Refused, Verdict};
+use crate::symbolic_check::SymbolicCheck;
+use crate::{font, symbolic_verdict};
+use hintcheck_report::AnswerFault;
+use std::alloc::{AllocError, Global};
+use tt_abs::Exhausted;
+use tt_family::Budget;
+use tt_font::Font;
+
+/// By which profile a font is judged, and how much may be done for it.
+#[derive(Clone, Copy, Debug, PartialEq, Eq)]
+pub enum Request {
+    /// The strict profile, without further premises. How many points may be made is said by a
+    /// budget, which goes from font to font.
+    Strict,
+    /// The symbolic profile, which follows values that are computed, and whose acceptances have
+    /// further premises.
+    Symbolic {
+        /// How many steps the search makes at most for a font.
+        steps: u64,
+    },
+}
+
+/// Judges the programs of a font by symbolic states, with so many steps at most: returns the
+/// refused ones, in their order.
+///
+/// # Errors
+/// If memory runs out.
+fn refused_by_symbols(
+    alloc: Global,
+    font: &Font<'_>,
+    steps: u64,
+) -> Result<Vec<Refused>, AllocError>
+    requires { IsFontInRange font.now }
+    ensures { IfOk result (λ refused. IsSymbolicVerdict font.now
+        (judgement_on font.now refused.items)) }
+{
+    let mut judge = SymbolicCheck::new(alloc, steps);
+    symbolic_verdict::refused_programs(alloc, font, &mut judge)
+}
+
+/// Judges the programs of a font as is asked: returns the refused ones, in their order.
+///
+/// # Errors
+/// `Memory` where memory runs out; `Budget`, by the strict profile alone, where more points were to
+/// be made than the budget allows.
+pub fn refused_by(
+    alloc: Global,
+    font: &Font<'_>,
+    request: Request,
+    points: &mut Budget,
+) -> Result<Vec<Refused>, Exhausted>
+    ensures verdict { IfOk result (λ refused.
+        GivesVerdict request font.now (judgement_on font.now refused.items)) }
+    ensures spends { Spends points.old points.new }
+    ensures budget { EndTellsBudget points.old points.new result }
+{
+    font.range_facts();
+    match request {
+        Request::Strict => font::refused_programs(alloc, font, points),
+        Request::Symbolic { steps } => match refused_by_symbols(alloc, font, steps) {
+            Ok(refused) => Ok(refused),
+            Err(_) => Err(Exhausted::Memory),
+        },
+    }
+}
+
+/// Returns the verdict by symbolic states on the programs of a font file, where the budget isn't
+/// exceeded yet, of which nothing is spent.
+///
+/// # Errors
+/// As `verdict_by`.
+fn verdict_by_symbols(
+    alloc: Global,
+    font: &[u8],
+    steps: u64,
+    points: &Budget,
+) -> Result<Verdict, AnswerFault>
+    ensures given { IfOk result (λ v. (d : FontData) × Reads font.now d × IsSymbolicVerdict d v) }
+    ensures faults { VerdictTellsFontFault (font_fault font.now) result }
+    ensures budget { VerdictTellsBudget points.now result }
+{
+    if points.is_exceeded() {
+        return Err(AnswerFault::Exhausted(Exhausted::Budget));
+    }
+    Ok(symbolic_verdict::verdict_symbolic_within(alloc, font, steps)?)
+}
+
+/// Returns the verdict on the programs of a font file by the profile that is asked for: as
+/// `verdict_within` does, or as `verdict_symbolic_within` does, for which no points are made.
+///
+/// # Errors
+/// `Font` with the faults of `Font::read`; `Exhausted` where memory ran out, and where more points
+/// were to be made than the budget allows, in this call or in an earlier one.
+pub fn verdict_by(
+    alloc: Global,
+    font: &[u8],
+    request: Request,
+    points: &mut Budget,
+) -> Result<Verdict, AnswerFault>
+    ensures given { IfOk result (IsVerdictAsked request font.now) }
+    ensures faults { VerdictTellsFontFault (font_fault font.now) result }
+    ensures spends { Spends points.old points.new }
+    ensures unspent { (steps : ℕ) → request ≡ Request.Symbolic steps → points.new ≡ points.old }
+    ensures budget { VerdictTellsBudget points.new result }
+{
+    match request {
+        Request::Strict => font::verdict_within(alloc, font, points),
+        Request::Symbolic { steps } => verdict_by_symbols(alloc, font, steps, points),
+    }
+}
