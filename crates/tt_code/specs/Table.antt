@@ -4,7 +4,7 @@
 -- TrueType instruction set"; OpenType specification, "The TrueType Instruction Set".) Own: the
 -- zones in which a point of `Both` or `GlyphAnd` is tested; DIV, MUL, MAX and MIN push a number of
 -- which nothing is known; 0x91, 0x92 and the codes that an IDEF defines have no entry.
-use Rattle.std.specs.Prelude.{codes, ℕ, ◌+◌, List, [], ◌∷◌, Bool, false, Option, None, Some, ◌&&◌, ◌||◌, nat_le, nat_lt, if◌then◌else◌}
+use Rattle.std.specs.Prelude.{codes, ℕ, ◌+◌, List, [], ◌∷◌, Bool, false, Option, None, Some, ◌&&◌, ◌||◌, nat_eq, nat_le, nat_lt, if◌then◌else◌}
 use Rattle.tt_code.specs.declared.kinds.Reference.{Reference}
 use Rattle.tt_code.specs.declared.kinds.Reference.TheVariants.{Rp0, Rp1, Rp2}
 use Rattle.tt_code.specs.declared.kinds.Pointer.{Pointer}
@@ -24,6 +24,10 @@ use Rattle.tt_code.specs.declared.kinds.StackOp.{StackOp}
 use Rattle.tt_code.specs.declared.kinds.StackOp.TheVariants.{Dup, Pop, Clear, Swap, Depth, CopyIndexed, MoveIndexed, Roll}
 use Rattle.tt_code.specs.declared.kinds.Arithmetic.{Arithmetic}
 use Rattle.tt_code.specs.declared.kinds.Arithmetic.TheVariants.{Add, Sub, Abs, Neg, Lt, LtEq, Gt, GtEq, Eq, Neq, And, Or, Not}
+use Rattle.tt_code.specs.declared.kinds.Refinement.{Refinement}
+use Rattle.tt_code.specs.declared.kinds.Refinement.TheVariants as refinement
+use Rattle.tt_code.specs.declared.kinds.Written.{Written}
+use Rattle.tt_code.specs.declared.kinds.Written.TheVariants.{StorageCell, ControlValue, ControlValues, Nothing}
 use Rattle.tt_code.specs.declared.kinds.Control.{Control}
 use Rattle.tt_code.specs.declared.kinds.Control.TheVariants.{If, Else, Jump, JumpIfTrue, JumpIfFalse, Call, LoopCall, FunctionDefinition, EndFunction, InstructionDefinition}
 
@@ -304,3 +308,32 @@ effect_of code = meaning_in table code
 -- the code's name; a code without an entry has none
 unfoldable pub name_of : ℕ → Option (List ℕ)
 name_of code = name_in table code
+
+-- what the machine with control values says more of the code's instructions: RCVT, WCVTP, WCVTF,
+-- DELTAC1 to DELTAC3, MAX, MIN, MUL, DIV, FLOOR, CEILING
+abbrev pub refinement_of : ℕ → Refinement
+refinement_of code =
+    if nat_eq code 0x45 then refinement.ReadsControl
+    else if nat_eq code 0x44 then refinement.WritesControl
+    else if nat_eq code 0x70 then refinement.ChangesControl
+    else if nat_eq code 0x73 then refinement.ChangesControls
+    else if nat_eq code 0x74 then refinement.ChangesControls
+    else if nat_eq code 0x75 then refinement.ChangesControls
+    else if nat_eq code 0x8b then refinement.Greatest
+    else if nat_eq code 0x8c then refinement.Least
+    else if nat_eq code 0x63 then refinement.Product
+    else if nat_eq code 0x62 then refinement.Quotient
+    else if nat_eq code 0x66 then refinement.Floor
+    else if nat_eq code 0x67 then refinement.Ceiling
+    else refinement.Ordinary
+
+-- what an instruction that is refined so writes
+abbrev pub written_by : Refinement → Written
+written_by refinement.WritesControl = ControlValue
+written_by refinement.ChangesControl = ControlValue
+written_by refinement.ChangesControls = ControlValues
+written_by _ = Nothing
+
+-- what the code's instructions write of the memory that programs share: WS a storage cell
+abbrev pub written_of : ℕ → Written
+written_of code = if nat_eq code 0x42 then StorageCell else written_by (refinement_of code)

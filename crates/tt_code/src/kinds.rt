@@ -208,6 +208,48 @@ pub enum Control {
     InstructionDefinition,
 }
 
+/// What the machine with control values says more of an instruction than the hint machine, to which
+/// control values, and these results, are any numbers.
+#[derive(Clone, Copy, Debug, PartialEq, Eq)]
+pub enum Refinement {
+    /// RCVT: reads a control value.
+    ReadsControl,
+    /// WCVTP: writes a control value.
+    WritesControl,
+    /// WCVTF: changes a control value, given in the font's units.
+    ChangesControl,
+    /// DELTAC1, DELTAC2, DELTAC3: change several control values.
+    ChangesControls,
+    /// MAX: the greatest of two numbers.
+    Greatest,
+    /// MIN: the least of two numbers.
+    Least,
+    /// MUL: the product of two numbers.
+    Product,
+    /// DIV: the quotient of two numbers.
+    Quotient,
+    /// FLOOR: the greatest whole number that isn't above a number.
+    Floor,
+    /// CEILING: the least whole number that isn't below a number.
+    Ceiling,
+    /// Any other instruction: no more than the hint machine says.
+    Ordinary,
+}
+
+/// What an instruction writes of the memory that programs share: the storage area and the control
+/// values.
+#[derive(Clone, Copy, Debug, PartialEq, Eq)]
+pub enum Written {
+    /// WS: the storage cell whose index is under the top.
+    StorageCell,
+    /// WCVTP, WCVTF: the control value whose index is under the top.
+    ControlValue,
+    /// DELTAC1, DELTAC2, DELTAC3: the control values whose indexes are in pairs under a count.
+    ControlValues,
+    /// Any other instruction: nothing.
+    Nothing,
+}
+
 /// What the instructions of a code do.
 #[derive(Clone, Copy)]
 pub enum Effect {

@@ -10,13 +10,14 @@ ghost use Rattle.tt_code.specs.Grammar.{GoesTo, HasFault, IsBodyAt, IsStructured
 ghost use Rattle.tt_code.specs.Representation.Slots.{IsKept, IsReading, Opens, kept};
 ghost use Rattle.tt_code.specs.Structure.{body_at as body_on_cut, leads};
 
-use crate::block_keyword::{BlockKeyword, keyword_of_code};
+use crate::block_keyword::BlockKeyword;
 use crate::fault::CodeFault;
 use crate::instr::Instr;
 use crate::instruction_length::{first_uncut, front_length};
 use crate::machine::Body;
 use crate::reading::Reading;
 use crate::slot::{Slot, start_at, target_of};
+use crate::table::keyword_of_code;
 use std::alloc::Global;
 use std::marker::Model;
 

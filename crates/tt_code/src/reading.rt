@@ -6,10 +6,10 @@ ghost use Rattle.std.specs.Vec.{vec_capacity};
 ghost use Rattle.tt_code.specs.Cut.{Instruction, IsInstruction};
 ghost use Rattle.tt_code.specs.Grammar.{CanGoOn};
 
-use crate::block_keyword::keyword_of_code;
 use crate::machine::Body;
 use crate::nest::{Nesting, Open, apply_keyword, next_body};
 use crate::slot::Slot;
+use crate::table::keyword_of_code;
 use std::alloc::{AllocError, Global};
 
 /// What is kept while a program is read.

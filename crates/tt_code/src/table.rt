@@ -1,10 +1,13 @@
-//! The instruction set, as an array with an effect and one with a name for each code (Apple
-//! TrueType Reference Manual, "The TrueType instruction set").
+//! The instruction set: an array with an effect and one with a name for each code, and what a code
+//! is for a program's structure and for the machine with control values (Apple TrueType Reference
+//! Manual, "The TrueType instruction set").
 
 ghost use Rattle.std.specs.Prelude.{◌≡◌, map, option_map};
-ghost use Rattle.tt_code.specs.Table.{effect_of, name_of};
+ghost use Rattle.tt_code.specs.Structure.{keyword_of};
+ghost use Rattle.tt_code.specs.Table.{effect_of, name_of, refinement_of, written_of};
 ghost use Rattle.tt_code.specs.Entries.{codes_from, name_text, view};
 
+use crate::block_keyword::BlockKeyword;
 use crate::kinds::NewNumber::{Same, Taken};
 use crate::kinds::Operand::{
     Contour, Cvt, CvtPairs, LoopPoints, Number, Point, PointPairs, Storage, Zone,
@@ -14,7 +17,7 @@ use crate::kinds::Pushed::{Any, Stored};
 use crate::kinds::Reference::{Rp0, Rp1, Rp2};
 use crate::kinds::Update::{LoopIsOne, SetLoop, SetPointer, SetReference, Store};
 use crate::kinds::Within::{Both, GlyphAnd, In};
-use crate::kinds::{Arithmetic, Control, Effect, Push, Row, StackOp, Use};
+use crate::kinds::{Arithmetic, Control, Effect, Push, Refinement, Row, StackOp, Use, Written};
 
 /// The effect that takes these operands, uses these reference points, makes these changes and
 /// pushes these numbers.
@@ -1003,4 +1006,59 @@ pub fn name(code: u8) -> Option<&'static str>
 {
     let name = names()[code as usize];
     if name.is_empty() { None } else { Some(name) }
+}
+
+/// Returns the keyword of a code's instructions.
+pub fn keyword_of_code(code: u8) -> BlockKeyword
+    ensures { result ≡ keyword_of code }
+{
+    match code {
+        0x58 => BlockKeyword::If,
+        0x1b => BlockKeyword::Else,
+        0x59 => BlockKeyword::Eif,
+        0x2c => BlockKeyword::Fdef,
+        0x89 => BlockKeyword::Idef,
+        0x2d => BlockKeyword::Endf,
+        _ => BlockKeyword::Other,
+    }
+}
+
+/// Returns what the machine with control values says more of the instructions of a code (Apple
+/// TrueType Reference Manual, "The TrueType instruction set").
+pub fn refinement(code: u8) -> Refinement
+    ensures { result ≡ refinement_of code }
+{
+    match code {
+        0x44 => Refinement::WritesControl,
+        0x45 => Refinement::ReadsControl,
+        0x62 => Refinement::Quotient,
+        0x63 => Refinement::Product,
+        0x66 => Refinement::Floor,
+        0x67 => Refinement::Ceiling,
+        0x70 => Refinement::ChangesControl,
+        0x73 | 0x74 | 0x75 => Refinement::ChangesControls,
+        0x8b => Refinement::Greatest,
+        0x8c => Refinement::Least,
+        _ => Refinement::Ordinary,
+    }
+}
+
+/// Returns what the instructions of a code write of the memory that programs share (Apple TrueType
+/// Reference Manual, "The TrueType instruction set": WS, WCVTP, WCVTF, DELTAC1 to DELTAC3).
+pub fn written(code: u8) -> Written
+    ensures { result ≡ written_of code }
+{
+    match refinement(code) {
+        _ if code == 0x42 => Written::StorageCell,
+        Refinement::WritesControl | Refinement::ChangesControl => Written::ControlValue,
+        Refinement::ChangesControls => Written::ControlValues,
+        Refinement::ReadsControl
+        | Refinement::Greatest
+        | Refinement::Least
+        | Refinement::Product
+        | Refinement::Quotient
+        | Refinement::Floor
+        | Refinement::Ceiling
+        | Refinement::Ordinary => Written::Nothing,
+    }
 }
