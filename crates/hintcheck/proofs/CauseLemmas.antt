@@ -19,8 +19,8 @@ use Rattle.hintcheck.specs.Representation.CauseLists.{AreInOrder, is_same_key, k
 use Rattle.hintcheck.specs.declared.causes.Cause.{Cause}
 use Rattle.hintcheck.specs.declared.causes.CauseKey.{CauseKey}
 use Rattle.hintcheck.specs.declared.causes.CauseKey.TheVariants as key
-use Rattle.tt_cert.specs.declared.name.Name.{Name}
-use Rattle.tt_cert.specs.declared.name.Name.TheVariants as name
+use Rattle.tt_setting.specs.declared.name.Name.{Name}
+use Rattle.tt_setting.specs.declared.name.Name.TheVariants as name
 use Rattle.hintcheck_report.specs.declared.refused.Refused.{Refused}
 
 -- a test passes or fails

@@ -12,9 +12,9 @@ use Rattle.std.proofs.lemmas.List.Folds.{list_any-append}
 use Rattle.std.proofs.lemmas.Slice.Eq.{bytes_eq-Decides}
 use Rattle.std.proofs.lemmas.Str.Pattern.{IsSplitOnceResult, contains_char, split_after}
 use denote.Ref.{Bor}
-use Rattle.tt_cert.specs.Names.{text_of}
-use Rattle.tt_cert.specs.declared.name.Name.{Name}
-use Rattle.tt_cert.specs.declared.name.Name.TheVariants as name
+use Rattle.tt_setting.specs.Names.{text_of}
+use Rattle.tt_setting.specs.declared.name.Name.{Name}
+use Rattle.tt_setting.specs.declared.name.Name.TheVariants as name
 use Rattle.hintcheck.specs.Listing.{IsOf16Bits}
 use Rattle.hintcheck.specs.KnownRefusals.{AreLines, EndsWithout, HasName, IsFirstBadLine, IsOneLine, NamesRefusal, is_known, line_text, lines_text}
 

@@ -10,7 +10,7 @@ use Rattle.tt_code.specs.Cut.{Instruction, IsInstruction, instruction_at, size}
 use Rattle.tt_code.specs.Grammar.{IsInstructionAt}
 use Rattle.tt_code.specs.declared.reason.Reason.{Reason}
 use Rattle.tt_abs.specs.StateFlow.{Place}
-use Rattle.tt_cert.specs.declared.name.Name.{Name}
+use Rattle.tt_setting.specs.declared.name.Name.{Name}
 use Rattle.tt_code.proofs.CutLemmas.{found_is, size-append, some_bytes}
 use Rattle.tt_code.proofs.StructureLaws.{found_iff_stands}
 use Rattle.hintcheck_words.specs.declared.words.Detail.{Detail}

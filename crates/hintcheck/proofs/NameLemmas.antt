@@ -13,8 +13,8 @@ use Rattle.hintcheck.specs.Listing.{Calls, IsNameOf, IsNoName, IsOf16Bits, IsPla
 use Rattle.hintcheck.specs.Listing.{by_glyph_name}
 use Rattle.tt_names.specs.Names.{IsFirstNamed}
 use Rattle.tt_names.specs.Post.{post_of}
-use Rattle.tt_cert.specs.declared.name.Name.{Name}
-use Rattle.tt_cert.specs.declared.name.Name.TheVariants as name
+use Rattle.tt_setting.specs.declared.name.Name.{Name}
+use Rattle.tt_setting.specs.declared.name.Name.TheVariants as name
 
 own : IsNumeralModel (AllDigits 10) (digits_value 10)
 own = numerals_by_value (AllDigits 10) tells_digits

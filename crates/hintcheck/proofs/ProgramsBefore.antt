@@ -15,8 +15,8 @@ use Rattle.hintcheck_fonts.specs.Sessions.{Stage, after_font, at_glyph, at_start
 use Rattle.hintcheck_fonts.specs.declared.finding.Finding.{Finding}
 use Rattle.hintcheck_report.specs.declared.refused.Refused.{Refused}
 use Rattle.hintcheck_fonts.specs.declared.session.Outcome.{Outcome}
-use Rattle.tt_cert.specs.declared.name.Name.{Name}
-use Rattle.tt_cert.specs.declared.name.Name.TheVariants as name
+use Rattle.tt_setting.specs.declared.name.Name.{Name}
+use Rattle.tt_setting.specs.declared.name.Name.TheVariants as name
 use Rattle.hintcheck_fonts.proofs.ProgramSteps.{calls_left, fewer_left}
 
 -- no later one than that of this name is next

@@ -8,7 +8,7 @@ use Rattle.std.specs.Io.KnownBytes.{Appends}
 use Rattle.std.specs.Prelude.{codes, slice_get}
 use Rattle.tt_code.specs.declared.reason.ReasonClass.TheVariants.{LeftOut, PossibleFault, Undecided}
 use Rattle.tt_stream.specs.Streams.{AppendsText}
-use Rattle.tt_cert.specs.declared.name.Name.TheVariants.{Glyph}
+use Rattle.tt_setting.specs.declared.name.Name.TheVariants.{Glyph}
 use Rattle.hintcheck_words.specs.declared.words.FailOn.{FailOn}
 use Rattle.hintcheck_words.specs.declared.words.Profile.{Profile}
 use Rattle.hintcheck_words.specs.declared.words.ScanOptions.{ScanOptions}

@@ -2,8 +2,8 @@
 use Rattle.std.specs.Fmt.{decimal}
 use Rattle.std.specs.Prelude.{option_map}
 use Rattle.std.proofs.Common.{◌≡◌, ℕ, ◌<◌, ◌^◌, ◌∷◌, ◌++◌, List, Option, Some, codes, drop, get_or, sym, ap, arith, ◌∙◌}
-use Rattle.tt_abs.specs.declared.spot.Spot.{Spot}
-use Rattle.tt_abs.specs.declared.spot.Spot.TheVariants as spot
+use Rattle.tt_setting.specs.declared.spot.Spot.{Spot}
+use Rattle.tt_setting.specs.declared.spot.Spot.TheVariants as spot
 use Rattle.tt_symbolic_check.specs.declared.site.Site.{Site}
 use Rattle.hintcheck.specs.SiteWords.{IsOf32Bits, site_text, spot_text}
 use Rattle.hintcheck.proofs.NameLemmas.{no_letter}

@@ -1,8 +1,8 @@
 -- The names that a font has for the glyphs of its programs. (OpenType specification, `post`.)
 use Rattle.std.specs.Prelude.{ℕ, List, None, Option}
 use Rattle.tt_names.specs.Names.{name_of_glyph}
-use Rattle.tt_cert.specs.declared.name.Name.{Name}
-use Rattle.tt_cert.specs.declared.name.Name.TheVariants as name
+use Rattle.tt_setting.specs.declared.name.Name.{Name}
+use Rattle.tt_setting.specs.declared.name.Name.TheVariants as name
 use Rattle.hintcheck_explain.specs.declared.asked.Explained.{Explained}
 use Rattle.hintcheck_explain.specs.declared.asked.Explained.TheVariants as explained
 

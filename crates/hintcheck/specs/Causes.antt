@@ -5,9 +5,9 @@ use Rattle.std.specs.Fmt.{decimal}
 use Rattle.std.specs.Io.KnownBytes.{Appends}
 use Rattle.std.specs.List.{AllAdjacentBelow, count_by, flat_map, position_or_len}
 use Rattle.tt_code.specs.Refusals.{class_of, number_of, reason_text}
-use Rattle.tt_cert.specs.Names.{text_of}
-use Rattle.tt_cert.specs.declared.name.Name.{Name}
-use Rattle.tt_cert.specs.declared.name.Name.TheVariants as name
+use Rattle.tt_setting.specs.Names.{text_of}
+use Rattle.tt_setting.specs.declared.name.Name.{Name}
+use Rattle.tt_setting.specs.declared.name.Name.TheVariants as name
 use Rattle.hintcheck.specs.RefusalClasses.{class_text}
 use Rattle.hintcheck.specs.CalledGlyphs.{called}
 use Rattle.hintcheck_report.specs.Texts.{place_text}

@@ -10,9 +10,9 @@ use Rattle.hex.specs.declared.error.FromHexError.TheVariants as words
 use Rattle.hintcheck_report.specs.AnswerFaults.{fault_of_certificate}
 use Rattle.hintcheck_report.specs.declared.answer_fault.AnswerFault.{AnswerFault}
 use Rattle.hintcheck_report.specs.declared.answer_fault.AnswerFault.TheVariants as answer
-use Rattle.tt_cert.specs.declared.fault.CertFault.{CertFault}
-use Rattle.tt_abs.specs.declared.exhausted.Exhausted.{Exhausted}
-use Rattle.tt_abs.specs.declared.exhausted.Exhausted.TheVariants as exhausted
+use Rattle.tt_setting.specs.declared.cert_fault.CertFault.{CertFault}
+use Rattle.tt_setting.specs.declared.exhausted.Exhausted.{Exhausted}
+use Rattle.tt_setting.specs.declared.exhausted.Exhausted.TheVariants as exhausted
 use Rattle.tt_stream.specs.declared.text.PrintFailed.{PrintFailed}
 use Rattle.tt_stream.specs.declared.text.PrintFailed.TheVariants as failed
 use Rattle.tt_stream.specs.declared.reads.ReadFault.{ReadFault}

@@ -1,14 +1,14 @@
 -- One program of a font as it is explained: it is accepted, or it is refused, or one before it is.
 use Rattle.std.specs.Prelude.{◌≡◌, ◌≢◌, ℕ, List, [], Option, Some, IfSome, slice_get}
 use Rattle.tt_code.specs.Cut.{BeginsWith, Instruction, size}
-use Rattle.tt_cert.specs.declared.name.Name.{Name}
-use Rattle.tt_cert.specs.declared.name.Name.TheVariants as name
+use Rattle.tt_setting.specs.declared.name.Name.{Name}
+use Rattle.tt_setting.specs.declared.name.Name.TheVariants as name
 use Rattle.tt_font.specs.Reading.{FontData, GlyphData, Reads}
-use Rattle.tt_abs.specs.Failures.{reason_of}
-use Rattle.tt_abs.specs.declared.refusal.Refusal.{Refusal}
-use Rattle.tt_abs.specs.declared.refusal.Refusal.TheVariants as fault
-use Rattle.tt_abs.specs.declared.spot.Spot.{Spot}
-use Rattle.tt_abs.specs.declared.spot.Spot.TheVariants as spot
+use Rattle.tt_setting.specs.Refusals.{reason_of}
+use Rattle.tt_setting.specs.declared.refusal.Refusal.{Refusal}
+use Rattle.tt_setting.specs.declared.refusal.Refusal.TheVariants as fault
+use Rattle.tt_setting.specs.declared.spot.Spot.{Spot}
+use Rattle.tt_setting.specs.declared.spot.Spot.TheVariants as spot
 use Rattle.tt_symbolic_check.specs.declared.site.Site.{Site}
 use Rattle.hintcheck_explain.specs.declared.asked.Explained.{Explained}
 use Rattle.hintcheck_explain.specs.declared.asked.Explained.TheVariants as explained

@@ -7,7 +7,7 @@ use Rattle.json.specs.Print.{quoted}
 use Rattle.tt_code.specs.Refusals.{class_of, number_of, reason_text}
 use Rattle.tt_font.specs.FaultNumbers.{fault_number}
 use Rattle.tt_font.specs.FaultTexts.{fault_text}
-use Rattle.tt_cert.specs.Names.{text_of}
+use Rattle.tt_setting.specs.Names.{text_of}
 use Rattle.hintcheck_words.specs.declared.words.Profile.{Profile}
 use Rattle.hintcheck_words.specs.declared.words.Profile.TheVariants.{Strict, Symbolic}
 use Rattle.hintcheck_explain.specs.declared.asked.Explained.{Explained}

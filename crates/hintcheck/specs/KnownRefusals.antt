@@ -8,8 +8,8 @@ use Rattle.std.specs.List.{list_any}
 use Rattle.std.specs.Str.{IsUtf8, bytes_eq}
 use Rattle.tt_code.specs.Refusals.{class_of, number_of}
 use Rattle.tt_code.specs.declared.reason.ReasonClass.TheVariants.{PossibleFault}
-use Rattle.tt_cert.specs.Names.{text_of}
-use Rattle.tt_cert.specs.declared.name.Name.{Name}
+use Rattle.tt_setting.specs.Names.{text_of}
+use Rattle.tt_setting.specs.declared.name.Name.{Name}
 use Rattle.hintcheck_words.specs.declared.words.FailOn.{FailOn}
 use Rattle.hintcheck_words.specs.declared.words.FailOn.TheVariants.{Possible}
 use Rattle.hintcheck.specs.Listing.{IsOf16Bits}

@@ -10,9 +10,9 @@ use Rattle.tt_code.specs.declared.reason.Reason.{Reason}
 use Rattle.tt_code.specs.declared.reason.Reason.TheVariants.{CannotCut, Structure}
 use Rattle.tt_code.specs.Table.{Meaning, Pushes, effect_of, name_of}
 use Rattle.tt_font.specs.Reading.{FontData, Reads}
-use Rattle.tt_cert.specs.Names.{text_of}
-use Rattle.tt_cert.specs.declared.name.Name.{Name}
-use Rattle.tt_cert.specs.declared.name.Name.TheVariants as name
+use Rattle.tt_setting.specs.Names.{text_of}
+use Rattle.tt_setting.specs.declared.name.Name.{Name}
+use Rattle.tt_setting.specs.declared.name.Name.TheVariants as name
 use Rattle.tt_names.specs.Names.{IsFirstNamed}
 use Rattle.tt_names.specs.Post.{post_of}
 use Rattle.hintcheck_words.specs.declared.words.Detail.{Detail}

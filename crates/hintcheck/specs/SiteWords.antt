@@ -2,8 +2,8 @@
 -- program or the CVT program, where that program calls a function of theirs. (Own.)
 use Rattle.std.specs.Prelude.{◌≡◌, ◌++◌, ◌<◌, ◌^◌, codes, ℕ, List, [], IfSome, Option, option_map}
 use Rattle.std.specs.Fmt.{decimal}
-use Rattle.tt_abs.specs.declared.spot.Spot.{Spot}
-use Rattle.tt_abs.specs.declared.spot.Spot.TheVariants as spot
+use Rattle.tt_setting.specs.declared.spot.Spot.{Spot}
+use Rattle.tt_setting.specs.declared.spot.Spot.TheVariants as spot
 use Rattle.tt_symbolic_check.specs.declared.site.Site.{Site}
 
 -- what is before the offset

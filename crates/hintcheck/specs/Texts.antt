@@ -2,8 +2,8 @@
 use Rattle.std.specs.Prelude.{ℕ, codes, List, [], ◌∷◌, ◌++◌, length}
 use Rattle.std.specs.Fmt.{decimal}
 use Rattle.std.specs.List.{flat_map}
-use Rattle.tt_cert.specs.declared.name.Name.{Name}
-use Rattle.tt_cert.specs.declared.name.Name.TheVariants as name
+use Rattle.tt_setting.specs.declared.name.Name.{Name}
+use Rattle.tt_setting.specs.declared.name.Name.TheVariants as name
 use Rattle.hintcheck_words.specs.declared.words.Profile.{Profile}
 use Rattle.hintcheck_words.specs.declared.words.Profile.TheVariants.{Strict, Symbolic}
 use Rattle.hintcheck_report.specs.declared.refused.Refused.{Refused}

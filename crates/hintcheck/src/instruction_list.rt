@@ -9,7 +9,7 @@ ghost use Rattle.tt_stream.specs.Streams.{CountsPrintFailure};
 ghost use Rattle.hintcheck.specs.CommandFaults.{IsFaultOfLines, IsFaultOfListing};
 ghost use Rattle.hintcheck.specs.Commands.{TellsFailure};
 ghost use Rattle.hintcheck.specs.Listing.{Calls, CannotBeListed, HoldListedProgram, HoldNoSuchProgram, HoldToldProgram, HoldUnlistedProgram, IsListed, IsNameOf, IsOf16Bits, IsPlain, Names, TellsUnlisted, last_line, line_of, lines_of, program_in, refused_in, shown_name};
-ghost use Rattle.tt_cert.specs.Names.{text_of};
+ghost use Rattle.tt_setting.specs.Names.{text_of};
 
 use crate::commands::faults::CommandFault;
 use crate::font_file::font_in;

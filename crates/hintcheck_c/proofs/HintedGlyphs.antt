@@ -5,8 +5,8 @@ use Rattle.std.specs.Prelude.{◌⊎◌, slice_index, if◌then◌else◌}
 use Rattle.std.proofs.lemmas.Bool.{cases_lt}
 use Rattle.std.proofs.lemmas.List.{get_or_past}
 use Rattle.std.proofs.Math.Seq.{take-append_seam}
-use Rattle.tt_cert.specs.declared.name.Name.{Name}
-use Rattle.tt_cert.specs.declared.name.Name.TheVariants as name
+use Rattle.tt_setting.specs.declared.name.Name.{Name}
+use Rattle.tt_setting.specs.declared.name.Name.TheVariants as name
 use Rattle.tt_components.specs.Closed.{HasAllReached, is_in}
 use Rattle.tt_components.proofs.Chains.{reached_inside, reaches_itself}
 use Rattle.tt_font.specs.FileFaults.{font_fault}

@@ -10,7 +10,7 @@ use Rattle.tt_font.specs.declared.fault.FontFault.TheVariants as faults
 use Rattle.hintcheck_fonts.specs.FontPrograms.{IsVerdict}
 use Rattle.hintcheck_fonts.specs.SymbolicVerdicts.{IsSymbolicVerdict}
 use Rattle.hintcheck_fonts.specs.Verdicts.{Judgement}
-use Rattle.tt_abs.specs.declared.exhausted.Exhausted.TheVariants as exhausted
+use Rattle.tt_setting.specs.declared.exhausted.Exhausted.TheVariants as exhausted
 use Rattle.hintcheck_report.specs.declared.answer_fault.AnswerFault.{AnswerFault}
 use Rattle.hintcheck_report.specs.declared.answer_fault.AnswerFault.TheVariants as fault
 use Rattle.hintcheck_report.specs.declared.refused.Refused.{Refused}

@@ -5,8 +5,8 @@ use Rattle.std.proofs.Common.{◌≡◌, ℕ, zero, suc, ◌+◌, ◌<◌, List,
 use Rattle.tt_code.specs.Cut.{Instruction}
 use Rattle.tt_code.specs.Fonts.{Font}
 use Rattle.tt_code.specs.Settings.{Setting}
-use Rattle.tt_cert.specs.declared.name.Name.{Name}
-use Rattle.tt_cert.specs.declared.name.Name.TheVariants as name
+use Rattle.tt_setting.specs.declared.name.Name.{Name}
+use Rattle.tt_setting.specs.declared.name.Name.TheVariants as name
 use Rattle.tt_components.proofs.Chains.{reaches_itself}
 use Rattle.tt_font.specs.FileFaults.{font_fault, tables_fault}
 use Rattle.tt_font.specs.Conditions.{Condition, first, glyphs_fault}

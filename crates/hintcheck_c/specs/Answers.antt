@@ -1,6 +1,6 @@
 -- What the calls of C and C++ answer: a verdict or a fault, in numbers.
 use Rattle.std.specs.Prelude.{◌≡◌, ◌≢◌, ℕ, ◌-◌, ◌^◌, List, [], ◌∷◌, length, min, Some, Err, alloc_error}
-use Rattle.tt_abs.specs.declared.exhausted.Exhausted.TheVariants as exhausted
+use Rattle.tt_setting.specs.declared.exhausted.Exhausted.TheVariants as exhausted
 use Rattle.tt_font.specs.FaultNumbers.{fault_number}
 use Rattle.tt_font.specs.FileFaults.{font_fault}
 use Rattle.tt_font.specs.Reading.{FontData, Reads}

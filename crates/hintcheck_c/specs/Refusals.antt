@@ -3,8 +3,8 @@ use Rattle.std.specs.Prelude.{ℕ, ◌++◌, List, drop, length, map, take}
 use Rattle.tt_code.specs.Refusals.{class_of, number_of}
 use Rattle.tt_code.specs.declared.reason.ReasonClass.{ReasonClass}
 use Rattle.tt_code.specs.declared.reason.ReasonClass.TheVariants as class
-use Rattle.tt_cert.specs.declared.name.Name.{Name}
-use Rattle.tt_cert.specs.declared.name.Name.TheVariants as name
+use Rattle.tt_setting.specs.declared.name.Name.{Name}
+use Rattle.tt_setting.specs.declared.name.Name.TheVariants as name
 use Rattle.hintcheck_report.specs.declared.refused.Refused.{Refused}
 use Rattle.hintcheck_c.specs.declared.refusal.HintcheckRefusal.{HintcheckRefusal}
 

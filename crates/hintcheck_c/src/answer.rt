@@ -3,7 +3,7 @@
 ghost use Rattle.std.specs.Prelude.{◌≡◌, ◌≢◌, ◌≤◌};
 ghost use Rattle.hintcheck_c.specs.Answers.{Answers, fault_answer as answer_of_fault, font_answer, unanswered};
 ghost use Rattle.hintcheck_report.specs.declared.answer_fault.AnswerFault.{AnswerFault};
-ghost use Rattle.tt_abs.specs.declared.exhausted.Exhausted.{Exhausted as By};
+ghost use Rattle.tt_setting.specs.declared.exhausted.Exhausted.{Exhausted as By};
 
 use crate::refusal::{HintcheckRefusal, list_refused};
 use hintcheck_fonts::{AnswerFault, FontFault, Verdict};

@@ -3,14 +3,14 @@
 
 ghost use Rattle.std.specs.Prelude.{◌≡◌, ◌≢◌, ◌↔◌, None, ℕ, ◌+◌, ◌≤◌, [], alloc_error, IfErr, IfOk, length, true};
 ghost use Rattle.tt_components.specs.Closed.{is_in};
-ghost use Rattle.tt_family.specs.Budgets.{IsExceeded, Spends};
+ghost use Rattle.tt_setting.specs.Budgets.{IsExceeded, Spends};
 ghost use Rattle.tt_font.specs.FileFaults.{font_fault};
 ghost use Rattle.tt_font.specs.Files.{font_glyph_count};
 ghost use Rattle.tt_font.specs.Reading.{FontData, Reads};
 ghost use Rattle.hintcheck_fonts.specs.FontPrograms.{IsVerdict};
 ghost use Rattle.hintcheck_fonts.specs.SymbolicVerdicts.{IsSymbolicVerdict};
 ghost use Rattle.hintcheck_report.specs.declared.answer_fault.AnswerFault.{AnswerFault};
-ghost use Rattle.tt_abs.specs.declared.exhausted.Exhausted.{Exhausted as By};
+ghost use Rattle.tt_setting.specs.declared.exhausted.Exhausted.{Exhausted as By};
 ghost use Rattle.hintcheck_c.specs.Answers.{Answers, IsFaultOfVerdict, unanswered};
 ghost use Rattle.hintcheck_c.specs.Representation.HintedSets.{AreHinted, Tell};
 

@@ -5,7 +5,7 @@
 ghost use Rattle.std.specs.Prelude.{◌≡◌, ◌≢◌, ◌<◌, ◌≤◌, ◌↔◌, ℕ, [], IfErr, IfOk, length, replicate, slice_index, true};
 ghost use Rattle.tt_code.specs.Refusals.{number_of, reason_text};
 ghost use Rattle.tt_code.specs.declared.reason.Reason.{Reason};
-ghost use Rattle.tt_family.specs.Budgets.{IsExceeded, Spends};
+ghost use Rattle.tt_setting.specs.Budgets.{IsExceeded, Spends};
 ghost use Rattle.hintcheck_fonts.specs.CheckedFonts.{AnswersFinding};
 ghost use Rattle.hintcheck_fonts.specs.FontPrograms.{IsSafeFont};
 ghost use Rattle.hintcheck_fonts.specs.FontAnswers.{HoldRefusedFont, HoldSafeFont, HoldSymbolicRefusedFont, HoldSymbolicSafeFont};
@@ -14,7 +14,7 @@ ghost use Rattle.hintcheck_c.specs.Answers.{AnswersCheck, AnswersCheckFault, Ans
 ghost use Rattle.hintcheck_c.specs.MayHint.{AnswersMayHint, AnswersMayHintSymbolic, HoldSafeGlyph, HoldSymbolicSafeGlyphs};
 ghost use Rattle.hintcheck_c.specs.ReasonTexts.{c_string};
 ghost use Rattle.hintcheck_report.specs.declared.answer_fault.AnswerFault.{AnswerFault};
-ghost use Rattle.tt_abs.specs.declared.exhausted.Exhausted.{Exhausted as By};
+ghost use Rattle.tt_setting.specs.declared.exhausted.Exhausted.{Exhausted as By};
 ghost use Rattle.hintcheck_report.specs.ReasonNumbers.{IsReasonNumber};
 ghost use Rattle.tt_font.specs.Reading.{FontData, Reads};
 

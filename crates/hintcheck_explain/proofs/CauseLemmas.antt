@@ -4,13 +4,13 @@ use Rattle.tt_code.specs.Settings.{Setting}
 use Rattle.tt_code.specs.declared.machine.Frame.{Frame}
 use Rattle.tt_code.specs.declared.reason.Reason.{Reason}
 use Rattle.tt_abs.specs.Failures.{Tells}
-use Rattle.tt_abs.specs.Moves.{ForFailed, ForReason}
+use Rattle.tt_setting.specs.Refusals.{ForFailed, ForReason}
 use Rattle.tt_abs.specs.States.{abstract_of}
 use Rattle.tt_abs.specs.Transfers.{outcome_on_cells}
-use Rattle.tt_abs.specs.declared.failed.Failed.{Failed}
+use Rattle.tt_setting.specs.declared.failed.Failed.{Failed}
 use Rattle.tt_abs.specs.declared.state.State.{State}
-use Rattle.tt_abs.specs.declared.step_fault.StepFault.{StepFault}
-use Rattle.tt_abs.specs.declared.step_fault.StepFault.TheVariants.{Refused}
+use Rattle.tt_setting.specs.declared.step_fault.StepFault.{StepFault}
+use Rattle.tt_setting.specs.declared.step_fault.StepFault.TheVariants.{Refused}
 use Rattle.hintcheck_explain.specs.Representation.Causes.{FailsAt, TellsRefused}
 use Rattle.hintcheck_explain.specs.declared.stepping.StepOutcome.{StepOutcome}
 use Rattle.hintcheck_explain.specs.declared.stepping.StepOutcome.TheVariants as outcome

@@ -1,8 +1,8 @@
 -- Functions that fit the limits of a font still fit where one of its numbers is raised.
 use Rattle.std.proofs.Common.{◌≡◌, ◌≤◌, ℕ, arith, refl}
-use Rattle.tt_abs.specs.Settings.{setting_of}
+use Rattle.tt_setting.specs.Settings.{setting_of}
 use Rattle.tt_abs.specs.StateFlow.{FunctionsFit}
-use Rattle.tt_abs.specs.declared.setting.Setting.{Setting as Subject}
+use Rattle.tt_setting.specs.declared.setting.Setting.{Setting as Subject}
 use Rattle.hintcheck_explain.specs.Representation.Needs.{raised}
 use Rattle.hintcheck_report.specs.declared.bound.Bound.{Bound}
 use Rattle.hintcheck_report.specs.declared.bound.Bound.TheVariants.{StackElements, Storage, FunctionDefs, ControlValues}

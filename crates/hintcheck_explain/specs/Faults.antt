@@ -1,13 +1,13 @@
 -- What explaining tells of failed writes, and of what the search found.
 use Rattle.std.specs.Prelude.{◌≡◌, ℕ, Result, Ok, Err}
-use Rattle.tt_abs.specs.declared.setting.Setting.{Setting as Subject}
-use Rattle.tt_abs.specs.Failures.{reason_of}
-use Rattle.tt_abs.specs.declared.failed.Failed.{Failed}
-use Rattle.tt_abs.specs.declared.spot.Spot.{Spot}
-use Rattle.tt_abs.specs.declared.refusal.Refusal.TheVariants as program
+use Rattle.tt_setting.specs.declared.setting.Setting.{Setting as Subject}
+use Rattle.tt_setting.specs.Refusals.{reason_of}
+use Rattle.tt_setting.specs.declared.failed.Failed.{Failed}
+use Rattle.tt_setting.specs.declared.spot.Spot.{Spot}
+use Rattle.tt_setting.specs.declared.refusal.Refusal.TheVariants as program
 use Rattle.tt_find.specs.FoundSubjects.{IsJustifiedFor, IsLeastFor, TellsNoneIsGood}
 use Rattle.tt_find.specs.declared.finder.Found.{Found}
-use Rattle.tt_cert.specs.declared.name.Name.{Name}
+use Rattle.tt_setting.specs.declared.name.Name.{Name}
 use Rattle.tt_stream.specs.Streams.{CountsPrintFailure}
 use Rattle.hintcheck_report.specs.Places.{reported_at}
 use Rattle.hintcheck_report.specs.declared.refused.Refused.{Refused}

@@ -1,8 +1,8 @@
 //! Explains a program that could be cut and is structured.
 
 ghost use Rattle.std.specs.Prelude.{IfOk};
-ghost use Rattle.tt_abs.specs.Entries.{Ascends};
-ghost use Rattle.tt_abs.specs.Settings.{setting_of};
+ghost use Rattle.tt_setting.specs.Entries.{Ascends};
+ghost use Rattle.tt_setting.specs.Settings.{setting_of};
 ghost use Rattle.tt_abs.specs.StateFlow.{FunctionsFit};
 ghost use Rattle.hintcheck_explain.specs.Faults.{IsAnsweredFor, TellsFailure};
 

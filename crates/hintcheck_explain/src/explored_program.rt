@@ -1,7 +1,7 @@
 //! A program with what the search has found of it.
 
 ghost use Rattle.std.specs.Prelude.{◌≡◌, ◌<◌, IfOk, length, reverse};
-ghost use Rattle.tt_abs.specs.Spots.{spot_of};
+ghost use Rattle.tt_setting.specs.Spots.{spot_of};
 ghost use Rattle.tt_family.specs.Contents.{frames_at};
 
 use crate::instruction_text::name_of;

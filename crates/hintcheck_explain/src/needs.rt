@@ -2,8 +2,8 @@
 //! tell.
 
 ghost use Rattle.std.specs.Prelude.{◌≡◌, IfOk, IfSome, None};
-ghost use Rattle.tt_abs.specs.Entries.{Ascends};
-ghost use Rattle.tt_abs.specs.Settings.{setting_of};
+ghost use Rattle.tt_setting.specs.Entries.{Ascends};
+ghost use Rattle.tt_setting.specs.Settings.{setting_of};
 ghost use Rattle.tt_abs.specs.StateFlow.{FunctionsFit};
 ghost use Rattle.tt_find.specs.FoundSubjects.{IsJustifiedFor};
 ghost use Rattle.hintcheck_explain.specs.Faults.{HasLeast, TellsFailure};

@@ -1,7 +1,7 @@
 //! Explains why a program is refused.
 
 ghost use Rattle.std.specs.Prelude.{IfOk, IfSome, reverse};
-ghost use Rattle.tt_abs.specs.Settings.{setting_of};
+ghost use Rattle.tt_setting.specs.Settings.{setting_of};
 ghost use Rattle.tt_stream.specs.Streams.{CountsPrintFailure};
 ghost use Rattle.hintcheck_explain.specs.Faults.{TellsFailure};
 ghost use Rattle.hintcheck_explain.specs.Representation.Causes.{IsCause, IsCaseOf};

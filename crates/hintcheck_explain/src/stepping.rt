@@ -1,7 +1,7 @@
 //! What an instruction makes of what is known at its place.
 
 ghost use Rattle.std.specs.Prelude.{IfOk, reverse};
-ghost use Rattle.tt_abs.specs.Settings.{setting_of};
+ghost use Rattle.tt_setting.specs.Settings.{setting_of};
 ghost use Rattle.hintcheck_explain.specs.Representation.Causes.{TellsRefused};
 
 use std::alloc::AllocError;

@@ -1,11 +1,11 @@
 -- What the list of refused programs tells of the only program.
 use Rattle.std.proofs.Common.{◌≡◌, ℕ, List, [], ◌∷◌, Result, Ok, Err, OnOk, IfOk, sym, subst}
-use Rattle.tt_abs.specs.declared.exhausted.Exhausted.{Exhausted}
+use Rattle.tt_setting.specs.declared.exhausted.Exhausted.{Exhausted}
 use Rattle.tt_code.specs.Cut.{Instruction}
 use Rattle.tt_code.specs.Settings.{GlyphProgram}
-use Rattle.tt_abs.specs.Failures.{reason_of}
-use Rattle.tt_abs.specs.declared.refusal.Refusal.{Refusal}
-use Rattle.tt_abs.specs.declared.refusal.Refusal.TheVariants as fault
+use Rattle.tt_setting.specs.Refusals.{reason_of}
+use Rattle.tt_setting.specs.declared.refusal.Refusal.{Refusal}
+use Rattle.tt_setting.specs.declared.refusal.Refusal.TheVariants as fault
 use Rattle.hintcheck_fonts.specs.BarePrograms.{IsJudged}
 use Rattle.hintcheck_fonts.specs.ProgramVerdicts.{IfRefused, IsUncut}
 use Rattle.hintcheck_report.specs.Places.{reported_at}

@@ -7,9 +7,9 @@ use Rattle.tt_code.specs.Cut.{Instruction}
 use Rattle.tt_family.specs.Contents.{Contents}
 use Rattle.tt_family.specs.Ascending.{IsFinished}
 use Rattle.tt_cert.specs.declared.form.Form.TheVariants.{Four}
-use Rattle.tt_cert.specs.declared.fault.CertFault.{CertFault}
-use Rattle.tt_cert.specs.declared.fault.CertFault.TheVariants as cert
-use Rattle.tt_cert.specs.declared.name.Name.{Name}
+use Rattle.tt_setting.specs.declared.cert_fault.CertFault.{CertFault}
+use Rattle.tt_setting.specs.declared.cert_fault.CertFault.TheVariants as cert
+use Rattle.tt_setting.specs.declared.name.Name.{Name}
 use Rattle.tt_cert.specs.Answers.{CountsWrite}
 use Rattle.tt_cert.specs.Rules.{AreCallsInTurn, Fits}
 use Rattle.tt_cert.specs.Sections.{section_of}

@@ -1,22 +1,22 @@
 -- Why a program that is checked by its section is refused.
 use Rattle.std.proofs.Common.{◌≡◌, ◌⊎◌, inl, inr, ℕ, List, [], Option, Some, Bor, refl, sym, ap, subst, ◌∙◌}
 use Rattle.std.specs.Prelude.{Result, Ok, Err, IfErr, IfSome}
-use Rattle.tt_abs.specs.Failures.{reason_of}
+use Rattle.tt_setting.specs.Refusals.{reason_of}
 use Rattle.tt_abs.specs.declared.state.State.{State}
 use Rattle.tt_code.specs.Cut.{CannotBeCut, Instruction, IsCut, size}
 use Rattle.tt_code.specs.Grammar.{IsFault}
 use Rattle.tt_code.specs.declared.reason.Reason.{Reason}
 use Rattle.tt_code.specs.Settings.{Setting as MachineSetting}
 use Rattle.tt_code.proofs.ProgramLemmas.{no_fault}
-use Rattle.tt_abs.specs.declared.setting.Setting.{Setting}
-use Rattle.tt_abs.specs.Settings.{setting_of}
+use Rattle.tt_setting.specs.declared.setting.Setting.{Setting}
+use Rattle.tt_setting.specs.Settings.{setting_of}
 use Rattle.tt_abs.specs.StateFlow.{Place}
 use Rattle.tt_family.specs.Checks.{IsExhausted, Names}
 use Rattle.tt_family.specs.Contents.{Contents, family_of}
-use Rattle.tt_abs.specs.Spots.{spot_of}
-use Rattle.tt_abs.specs.declared.refusal.Refusal.{Refusal}
-use Rattle.tt_abs.specs.declared.refusal.Refusal.TheVariants as fault
-use Rattle.tt_abs.specs.declared.spot.Spot.{Spot}
+use Rattle.tt_setting.specs.Spots.{spot_of}
+use Rattle.tt_setting.specs.declared.refusal.Refusal.{Refusal}
+use Rattle.tt_setting.specs.declared.refusal.Refusal.TheVariants as fault
+use Rattle.tt_setting.specs.declared.spot.Spot.{Spot}
 use Rattle.tt_cert.specs.declared.form.Form.{Form}
 use Rattle.tt_cert.specs.declared.form.Form.TheVariants.{Two, Three, Four}
 use Rattle.hintcheck_fonts.specs.Certificates.{IsBreak, IsCheckRefusal, IsGoodListing, IsListingBrokenFirst, Passes, not_good}
@@ -26,7 +26,7 @@ use Rattle.hintcheck_report.specs.Places.{reported_at}
 use Rattle.hintcheck_fonts.specs.Programs.{Subject}
 use Rattle.hintcheck_report.specs.Places.{program_at}
 use Rattle.hintcheck_fonts.specs.Representation.Judges.{IsPassedBy, IsPassedToEnd}
-use Rattle.tt_abs.specs.Entries.{Ascends}
+use Rattle.tt_setting.specs.Entries.{Ascends}
 use Rattle.hintcheck_fonts.proofs.FontEnds.{functions_rise}
 use Rattle.hintcheck_fonts.proofs.ProgramVerdictLemmas.{known_cut, of_subject}
 

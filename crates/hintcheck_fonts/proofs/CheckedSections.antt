@@ -5,10 +5,10 @@ use Rattle.std.proofs.lemmas.List.{drop_all}
 use Rattle.tt_family.specs.Contents.{Contents}
 use Rattle.tt_family.specs.Ascending.{IsFinished}
 use Rattle.tt_cert.specs.Answers.{GivesSection, input_at}
-use Rattle.tt_cert.specs.declared.fault.CertFault.{CertFault}
-use Rattle.tt_cert.specs.declared.fault.CertFault.TheVariants as cert
+use Rattle.tt_setting.specs.declared.cert_fault.CertFault.{CertFault}
+use Rattle.tt_setting.specs.declared.cert_fault.CertFault.TheVariants as cert
 use Rattle.tt_cert.specs.declared.form.Form.{Form}
-use Rattle.tt_cert.specs.declared.name.Name.{Name}
+use Rattle.tt_setting.specs.declared.name.Name.{Name}
 use Rattle.tt_cert.specs.Reading.{section_at}
 use Rattle.tt_cert.specs.Sections.{section_of}
 use Rattle.tt_font.specs.Reading.{GlyphData}

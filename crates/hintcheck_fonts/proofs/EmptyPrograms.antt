@@ -5,11 +5,11 @@ use Rattle.tt_code.specs.Cut.{size}
 use Rattle.tt_code.specs.Grammar.{none as empty}
 use Rattle.tt_code.specs.Settings.{CvtProgram, FontProgram, GlyphProgram, Kind, Setting as MachineSetting}
 use Rattle.tt_code.proofs.CutLemmas.{one_cut, size_is}
-use Rattle.tt_abs.specs.Settings.{programs_of, setting_of}
-use Rattle.tt_abs.specs.declared.setting.Setting.{Setting}
+use Rattle.tt_setting.specs.Settings.{programs_of, setting_of}
+use Rattle.tt_setting.specs.declared.setting.Setting.{Setting}
 use Rattle.std.proofs.lemmas.List.{nil_from_length}
 use Rattle.tt_abs.specs.declared.state.State.{State}
-use Rattle.tt_abs.specs.Entries.{Ascends}
+use Rattle.tt_setting.specs.Entries.{Ascends}
 use Rattle.tt_abs.specs.Families.{CoversAt, started}
 use Rattle.tt_abs.specs.StateFlow.{GivesState, Place, RefusesState}
 use Rattle.tt_abs.specs.States.{start_of, state_laws, state_order}

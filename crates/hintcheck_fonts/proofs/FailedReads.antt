@@ -7,10 +7,10 @@ use Rattle.std.proofs.KnownBytes.{Consumes-trans}
 use Rattle.std.proofs.lemmas.List.{length-append}
 use Rattle.tt_family.specs.Contents.{Contents}
 use Rattle.tt_cert.specs.Answers.{CountsRead, StopsAtEnd, input_at}
-use Rattle.tt_cert.specs.declared.fault.CertFault.{CertFault}
-use Rattle.tt_cert.specs.declared.fault.CertFault.TheVariants as cert
+use Rattle.tt_setting.specs.declared.cert_fault.CertFault.{CertFault}
+use Rattle.tt_setting.specs.declared.cert_fault.CertFault.TheVariants as cert
 use Rattle.tt_cert.specs.declared.form.Form.{Form}
-use Rattle.tt_cert.specs.declared.name.Name.{Name}
+use Rattle.tt_setting.specs.declared.name.Name.{Name}
 use Rattle.tt_cert.specs.Forms.{form_of}
 use Rattle.tt_cert.specs.Readers.{Answer, Input, and_then, given, list_at, place_after, unit}
 use Rattle.tt_cert.specs.Reading.{contexts_at, entry_at, fields_at, form_at, header_at, header_from, is_magic, long_at, magic_at, name_at, section_at, section_from, states_at, word_at}

@@ -4,7 +4,7 @@ use Rattle.std.proofs.Common.{◌≡◌, ℕ, List, [], Option, Some, None, refl
 use Rattle.tt_code.specs.Cut.{Instruction, size}
 use Rattle.tt_code.specs.Settings.{Kind, FontProgram, CvtProgram, GlyphProgram, Setting as MachineSetting}
 use Rattle.tt_abs.specs.declared.state.State.{State}
-use Rattle.tt_abs.specs.Entries.{Ascends}
+use Rattle.tt_setting.specs.Entries.{Ascends}
 use Rattle.tt_abs.specs.StateFlow.{FunctionsFit, Place}
 use Rattle.tt_family.specs.Fillings.{IsFilling}
 use Rattle.tt_family.specs.GoodFamilies.{EndsWell, HasEnd, IsGoodFamily}

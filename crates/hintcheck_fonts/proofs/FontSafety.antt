@@ -7,8 +7,8 @@ use Rattle.tt_code.specs.Fonts.{Font, font_setting, cvt_setting, glyph_setting, 
 use Rattle.tt_code.specs.Settings.{Setting}
 use Rattle.tt_code.proofs.CutLemmas.{size_is}
 use Rattle.tt_abs.specs.declared.state.State.{State}
-use Rattle.tt_abs.specs.Entries.{Ascends}
-use Rattle.tt_abs.specs.Ranges.{AreBytes}
+use Rattle.tt_setting.specs.Entries.{Ascends}
+use Rattle.tt_setting.specs.Ranges.{AreBytes}
 use Rattle.tt_abs.specs.Soundness.{IsSafe}
 use Rattle.tt_abs.specs.StateFlow.{Place}
 use Rattle.tt_abs.proofs.Soundness.{good_is_safe}

@@ -3,12 +3,12 @@ use Rattle.std.proofs.Common.{◌≡◌, ◌∙◌, ℕ, List, [], Bor, Option, 
 use Rattle.std.specs.Prelude.{IfErr, IfSome, is_some, option_map}
 use Rattle.tt_code.specs.Cut.{Instruction, size}
 use Rattle.tt_code.specs.Settings.{GlyphProgram, Setting as MachineSetting}
-use Rattle.tt_abs.specs.Settings.{setting_of}
-use Rattle.tt_abs.specs.declared.refusal.Refusal.{Refusal}
-use Rattle.tt_abs.specs.declared.refusal.Refusal.TheVariants as fault
-use Rattle.tt_abs.specs.declared.setting.Setting.{Setting}
+use Rattle.tt_setting.specs.Settings.{setting_of}
+use Rattle.tt_setting.specs.declared.refusal.Refusal.{Refusal}
+use Rattle.tt_setting.specs.declared.refusal.Refusal.TheVariants as fault
+use Rattle.tt_setting.specs.declared.setting.Setting.{Setting}
 use Rattle.tt_code.specs.declared.reason.Reason.TheVariants as reason
-use Rattle.tt_abs.specs.declared.spot.Spot.TheVariants as spot
+use Rattle.tt_setting.specs.declared.spot.Spot.TheVariants as spot
 use Rattle.tt_cert.specs.declared.form.Form.{Form}
 use Rattle.tt_abs.specs.declared.state.State.{State}
 use Rattle.tt_family.specs.Contents.{Contents, family_of}

@@ -6,8 +6,8 @@ use Rattle.tt_abs.specs.declared.state.State.{State}
 use Rattle.tt_family.specs.Contents.{Contents, family_of}
 use Rattle.tt_family.specs.Contexts.{frames_of}
 use Rattle.tt_cert.specs.declared.form.Form.{Form}
-use Rattle.tt_cert.specs.declared.name.Name.{Name}
-use Rattle.tt_cert.specs.declared.name.Name.TheVariants as name
+use Rattle.tt_setting.specs.declared.name.Name.{Name}
+use Rattle.tt_setting.specs.declared.name.Name.TheVariants as name
 use Rattle.tt_cert.specs.Readers.{Answer, Input}
 use Rattle.tt_cert.specs.Sections.{Context, Section, contexts_in, section_of}
 use Rattle.tt_cert.proofs.Fitting.{frames_back}

@@ -10,19 +10,20 @@ use Rattle.tt_code.specs.declared.reason.Reason.{Reason}
 use Rattle.tt_code.specs.declared.reason.Reason.TheVariants as reason
 use Rattle.tt_code.proofs.CutLemmas.{one_cut}
 use Rattle.tt_code.proofs.ProgramLemmas.{no_fault}
-use Rattle.tt_abs.specs.Failures.{reason_of}
-use Rattle.tt_abs.specs.declared.failed.Failed.{Failed}
-use Rattle.tt_abs.specs.declared.failed.Failed.TheVariants.{Only}
-use Rattle.tt_abs.specs.declared.setting.Setting.{Setting as AnySetting}
+use Rattle.tt_setting.specs.Refusals.{reason_of}
+use Rattle.tt_setting.specs.declared.failed.Failed.{Failed}
+use Rattle.tt_setting.specs.declared.failed.Failed.TheVariants.{Only}
+use Rattle.tt_setting.specs.declared.setting.Setting.{Setting as AnySetting}
 use Rattle.tt_abs.specs.declared.state.State.{State}
 use Rattle.tt_abs.specs.Contexts.{FramesFit}
-use Rattle.tt_abs.specs.Entries.{Ascends}
+use Rattle.tt_setting.specs.Entries.{Ascends}
 use Rattle.tt_abs.specs.Families.{IsBelowFamily, IsGood}
 use Rattle.tt_abs.proofs.FamilyLaws.{none_where_refused}
-use Rattle.tt_abs.specs.Ranges.{IsSettingInRange}
-use Rattle.tt_abs.specs.Settings.{setting_of}
+use Rattle.tt_setting.specs.Ranges.{IsSettingInRange}
+use Rattle.tt_setting.specs.Settings.{setting_of}
 use Rattle.tt_abs.specs.Soundness.{IsSafe}
-use Rattle.tt_abs.specs.StateFlow.{AreProgramsShort, FitsLimits, FunctionsFit, Place, flow_of, height_of}
+use Rattle.tt_setting.specs.Ranges.{AreProgramsShort}
+use Rattle.tt_abs.specs.StateFlow.{FitsLimits, FunctionsFit, Place, flow_of, height_of}
 use Rattle.tt_abs.specs.States.{state_laws, state_order}
 use Rattle.tt_abs.proofs.FlowOfStates.{state_flow_laws}
 use Rattle.tt_abs.proofs.Soundness.{good_is_safe}
@@ -32,10 +33,10 @@ use Rattle.tt_family.specs.Puts.{number_at}
 use Rattle.tt_family.specs.Ascending.{IsFinished}
 use Rattle.tt_family.specs.Fillings.{IsFilling}
 use Rattle.tt_family.specs.GoodFamilies.{EndsWell, IsGoodFamily}
-use Rattle.tt_abs.specs.Spots.{spot_of}
-use Rattle.tt_abs.specs.declared.refusal.Refusal.{Refusal}
-use Rattle.tt_abs.specs.declared.refusal.Refusal.TheVariants as fault
-use Rattle.tt_abs.specs.declared.spot.Spot.{Spot}
+use Rattle.tt_setting.specs.Spots.{spot_of}
+use Rattle.tt_setting.specs.declared.refusal.Refusal.{Refusal}
+use Rattle.tt_setting.specs.declared.refusal.Refusal.TheVariants as fault
+use Rattle.tt_setting.specs.declared.spot.Spot.{Spot}
 use Rattle.tt_find.specs.Found.{AreLeastContexts, HasLeastFilling, IsJustified, IsLeast, IsNeverEnding, LacksEnd, NamesPlace, NeedsAll, NoneIsGood, too_long, refused, apart, too_many, never_ends}
 use Rattle.tt_find.specs.Finders.{HasFound}
 use Rattle.tt_find.specs.FoundSubjects.{HasLeastContexts, HasOnlyNeeded, IsLeastFor}
@@ -48,7 +49,7 @@ use Rattle.hintcheck_fonts.specs.ProgramVerdicts.{IfRefused, IsAccepted, IsFille
 use Rattle.hintcheck_report.specs.Places.{reported_at}
 use Rattle.hintcheck_fonts.specs.Representation.Judges.{IsFoundHere}
 use Rattle.tt_cert.specs.Rules.{AreCallsInTurn}
-use Rattle.tt_cert.specs.declared.name.Name.{Name}
+use Rattle.tt_setting.specs.declared.name.Name.{Name}
 use Rattle.hintcheck_fonts.specs.declared.program.Search.{Search}
 use Rattle.hintcheck_report.specs.declared.refused.Refused.{Refused as AnyRefused}
 

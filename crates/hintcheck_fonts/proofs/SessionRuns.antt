@@ -10,7 +10,7 @@ use Rattle.tt_code.specs.Cut.{Instruction}
 use Rattle.tt_family.specs.Contents.{Contents}
 use Rattle.tt_cert.specs.Answers.{input_at}
 use Rattle.tt_cert.specs.declared.form.Form.{Form}
-use Rattle.tt_cert.specs.declared.name.Name.TheVariants as name
+use Rattle.tt_setting.specs.declared.name.Name.TheVariants as name
 use Rattle.tt_cert.specs.Readers.{Input, place_after}
 use Rattle.tt_font.specs.Reading.{FontData, GlyphData}
 use Rattle.hintcheck_fonts.specs.Certificates.{AreChecked, AreSectionsChecked, Finding, IsChecked, IsSectionOf, PassesToEnd, at_end, both_passed, cvt_refused, followed, font_refused, no_cvt_section, no_font_section, no_section, passed, refused, refused_before, sections_checked, no_header, other_number}

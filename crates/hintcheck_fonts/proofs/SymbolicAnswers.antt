@@ -1,15 +1,15 @@
 -- Why a program isn't accepted by symbolic states, from where it is told to what is reported.
 use Rattle.std.proofs.Common.{◌≡◌, ℕ, List, refl, subst, sym}
 use Rattle.tt_code.specs.declared.reason.Reason.TheVariants.{ProgramTooLong}
-use Rattle.tt_abs.specs.Settings.{setting_of}
-use Rattle.tt_abs.specs.declared.exhausted.Exhausted.TheVariants.{Memory}
-use Rattle.tt_abs.specs.declared.failed.Failed.TheVariants.{Only}
-use Rattle.tt_abs.specs.declared.refusal.Refusal.{Refusal}
-use Rattle.tt_abs.specs.declared.refusal.Refusal.TheVariants.{Refused, Exhausted}
-use Rattle.tt_abs.specs.declared.setting.Setting.{Setting}
-use Rattle.tt_abs.specs.declared.spot.Spot.TheVariants.{Main}
-use Rattle.tt_cert.specs.declared.name.Name.{Name}
-use Rattle.tt_cert.specs.declared.name.Name.TheVariants as name
+use Rattle.tt_setting.specs.Settings.{setting_of}
+use Rattle.tt_setting.specs.declared.exhausted.Exhausted.TheVariants.{Memory}
+use Rattle.tt_setting.specs.declared.failed.Failed.TheVariants.{Only}
+use Rattle.tt_setting.specs.declared.refusal.Refusal.{Refusal}
+use Rattle.tt_setting.specs.declared.refusal.Refusal.TheVariants.{Refused, Exhausted}
+use Rattle.tt_setting.specs.declared.setting.Setting.{Setting}
+use Rattle.tt_setting.specs.declared.spot.Spot.TheVariants.{Main}
+use Rattle.tt_setting.specs.declared.name.Name.{Name}
+use Rattle.tt_setting.specs.declared.name.Name.TheVariants as name
 use Rattle.tt_family.specs.GoodFamilies.{IsShortEnough}
 use Rattle.tt_font.specs.Reading.{GlyphData}
 use Rattle.tt_symbolic_check.specs.Answers.{IsAnswerOfCheck}

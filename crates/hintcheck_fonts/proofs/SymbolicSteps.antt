@@ -2,7 +2,7 @@
 use Rattle.std.proofs.Common.{◌≡◌, ◌∙◌, ℕ, zero, suc, ◌+◌, ◌-◌, ◌*◌, ◌<◌, ◌≤◌, List, [], ◌∷◌, Option, None, Some, ap, append-nil, arith, drop, length, refl, subst, sym}
 use Rattle.std.specs.Prelude.{IfSome}
 use Rattle.std.proofs.Math.Nat.{suc-mul}
-use Rattle.tt_cert.specs.declared.name.Name.TheVariants as name
+use Rattle.tt_setting.specs.declared.name.Name.TheVariants as name
 use Rattle.tt_code.proofs.CutLemmas.{size_is}
 use Rattle.tt_code.specs.Cut.{Instruction, IsCut, size}
 use Rattle.tt_code.specs.Grammar.{IsStructured}

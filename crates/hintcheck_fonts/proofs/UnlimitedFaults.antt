@@ -1,8 +1,8 @@
 -- The fault of work with the greatest budget, whose end is told as out of memory.
 use Rattle.std.specs.Prelude.{◌≡◌, ◌≢◌, ◌⊎◌, ℕ, List, Option, None, Some, Err, alloc_error}
 use Rattle.std.proofs.Common.{inr, refl}
-use Rattle.tt_abs.specs.declared.exhausted.Exhausted.TheVariants as exhausted
-use Rattle.tt_family.specs.declared.budget.Budget.{Budget}
+use Rattle.tt_setting.specs.declared.exhausted.Exhausted.TheVariants as exhausted
+use Rattle.tt_setting.specs.declared.budget.Budget.{Budget}
 use Rattle.tt_font.specs.Conditions.{Condition}
 use Rattle.tt_font.specs.declared.fault.FontFault.TheVariants.{OutOfMemory}
 use Rattle.hintcheck_report.specs.AnswerFaults.{font_fault_of, unlimited}

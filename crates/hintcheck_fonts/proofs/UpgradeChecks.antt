@@ -17,8 +17,8 @@ use Rattle.tt_cert.specs.Sections.{Entry, Section, section_of}
 use Rattle.tt_cert.specs.Text.{header_text, section_text}
 use Rattle.tt_cert.specs.declared.form.Form.{Form}
 use Rattle.tt_cert.specs.declared.form.Form.TheVariants.{One, Two, Three, Four}
-use Rattle.tt_cert.specs.declared.name.Name.{Name}
-use Rattle.tt_cert.specs.declared.name.Name.TheVariants as name
+use Rattle.tt_setting.specs.declared.name.Name.{Name}
+use Rattle.tt_setting.specs.declared.name.Name.TheVariants as name
 use Rattle.tt_cert.proofs.Codecs.{here}
 use Rattle.tt_cert.proofs.Spelled.{header_codec, section_codec}
 use Rattle.tt_font.specs.Reading.{FontData, GlyphData}
@@ -26,8 +26,8 @@ use Rattle.hintcheck_fonts.specs.Certificates.{AreChecked, AreSectionsChecked, F
 use Rattle.hintcheck_fonts.specs.FontPrograms.{cvt_subject, font_of, font_subject, glyph_subject}
 use Rattle.hintcheck_fonts.specs.Programs.{Subject}
 use Rattle.hintcheck_fonts.specs.CertificateFaults.{ComesTo}
-use Rattle.tt_cert.specs.declared.fault.CertFault.{CertFault}
-use Rattle.tt_cert.specs.declared.fault.CertFault.TheVariants as cert
+use Rattle.tt_setting.specs.declared.cert_fault.CertFault.{CertFault}
+use Rattle.tt_setting.specs.declared.cert_fault.CertFault.TheVariants as cert
 use Rattle.hintcheck_fonts.specs.Upgrades.{AreCertificate, AreRead, BeginWith, IsUpgradeOf, KeepsFamilies, UpgradesTo, family_texts, followed, header_in, name_at, no_font, no_header, no_section, none, one_more, upgraded}
 use Rattle.hintcheck_fonts.proofs.OneFinding.{fails_not, is_there, no_answer, none as nothing, one_answer, one_refuses, one_section, some_refused}
 

@@ -8,8 +8,8 @@ use Rattle.tt_cert.specs.Readers.{Input, place_after}
 use Rattle.tt_cert.specs.Reading.{header_at, section_at}
 use Rattle.tt_family.specs.Contents.{Contents}
 use Rattle.tt_cert.specs.Sections.{section_of}
-use Rattle.tt_cert.specs.declared.fault.CertFault.{CertFault}
-use Rattle.tt_cert.specs.declared.fault.CertFault.TheVariants as cert
+use Rattle.tt_setting.specs.declared.cert_fault.CertFault.{CertFault}
+use Rattle.tt_setting.specs.declared.cert_fault.CertFault.TheVariants as cert
 use Rattle.tt_cert.specs.declared.form.Form.{Form}
 use Rattle.tt_cert.proofs.Codecs.{here}
 use Rattle.hintcheck_fonts.specs.Certificates.{HasNoSection, not_read}

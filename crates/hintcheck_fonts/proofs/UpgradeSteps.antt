@@ -10,11 +10,11 @@ use Rattle.tt_cert.specs.Readers.{Input}
 use Rattle.tt_cert.specs.Reading.{header_at}
 use Rattle.tt_cert.specs.Families.{family_text}
 use Rattle.tt_cert.specs.Text.{header_text}
-use Rattle.tt_cert.specs.declared.fault.CertFault.{CertFault}
-use Rattle.tt_cert.specs.declared.fault.CertFault.TheVariants as cert
+use Rattle.tt_setting.specs.declared.cert_fault.CertFault.{CertFault}
+use Rattle.tt_setting.specs.declared.cert_fault.CertFault.TheVariants as cert
 use Rattle.tt_cert.specs.declared.form.Form.{Form}
 use Rattle.tt_cert.specs.declared.form.Form.TheVariants.{Four}
-use Rattle.tt_cert.specs.declared.name.Name.{Name}
+use Rattle.tt_setting.specs.declared.name.Name.{Name}
 use Rattle.hintcheck_fonts.specs.CertificateFaults.{ComesTo}
 use Rattle.hintcheck_fonts.specs.Certificates.{HasNoSection, IsSectionOf}
 use Rattle.hintcheck_fonts.specs.CertificateTexts.{WritesBeginning, WritesText}

@@ -2,7 +2,7 @@
 use Rattle.std.proofs.Common.{◌≡◌, ◌⊎◌, inl, inr, ℕ, zero, suc, ◌+◌, List, [], ◌∷◌, ◌++◌, Option, Some, None, drop, refl, sym, ◌∙◌, ap, subst, append_assoc, append-nil}
 use Rattle.std.specs.Prelude.{option_map, slice_get}
 use Rattle.tt_code.specs.Cut.{Instruction}
-use Rattle.tt_abs.specs.Entries.{Ascends}
+use Rattle.tt_setting.specs.Entries.{Ascends}
 use Rattle.tt_font.specs.Reading.{FontData, GlyphData}
 use Rattle.hintcheck_fonts.specs.FontPrograms.{AreRefused, IsVerdict, accepted, cvt_refused, cvt_subject, font_of, font_refused, glyph_subject, judgement_on, no_glyph_left, none_ended, refused}
 use Rattle.hintcheck_fonts.specs.Programs.{EndsWith, IsRefusal}

@@ -1,9 +1,9 @@
 -- What an answer within a budget tells of the budget, and of the font's first fault. (Own.)
 use Rattle.std.specs.Prelude.{◌≡◌, ◌≢◌, ◌⊎◌, Some, None, alloc_error, Result, Ok, Err}
-use Rattle.tt_abs.specs.declared.exhausted.Exhausted.{Exhausted}
-use Rattle.tt_abs.specs.declared.exhausted.Exhausted.TheVariants as exhausted
-use Rattle.tt_family.specs.Budgets.{AreAlike, EndTells, IsExceeded}
-use Rattle.tt_family.specs.declared.budget.Budget.{Budget}
+use Rattle.tt_setting.specs.declared.exhausted.Exhausted.{Exhausted}
+use Rattle.tt_setting.specs.declared.exhausted.Exhausted.TheVariants as exhausted
+use Rattle.tt_setting.specs.Budgets.{AreAlike, EndTells, IsExceeded}
+use Rattle.tt_setting.specs.declared.budget.Budget.{Budget}
 use Rattle.tt_font.specs.Conditions.{Condition}
 use Rattle.tt_font.specs.declared.fault.FontFault.TheVariants.{OutOfMemory}
 use Rattle.hintcheck_report.specs.declared.answer_fault.AnswerFault.{AnswerFault}

@@ -8,7 +8,7 @@ use Rattle.tt_family.specs.Contents.{Contents, family_of}
 use Rattle.tt_family.specs.Ascending.{IsFinished}
 use Rattle.tt_cert.specs.declared.form.Form.{Form}
 use Rattle.tt_cert.specs.declared.form.Form.TheVariants.{Four}
-use Rattle.tt_cert.specs.declared.name.Name.{Name}
+use Rattle.tt_setting.specs.declared.name.Name.{Name}
 use Rattle.tt_cert.specs.Rules.{Fits}
 use Rattle.tt_cert.specs.Sections.{section_of}
 use Rattle.tt_cert.specs.Text.{header_text, section_text}

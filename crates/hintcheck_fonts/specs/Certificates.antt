@@ -14,11 +14,11 @@ use Rattle.tt_family.specs.Contents.{Contents, family_of}
 use Rattle.tt_family.specs.Fillings.{HasGoodFilling}
 use Rattle.tt_family.specs.GoodFamilies.{IsGoodFamily}
 use Rattle.tt_family.specs.Ascending.{IsFinished}
-use Rattle.tt_abs.specs.Spots.{spot_of}
+use Rattle.tt_setting.specs.Spots.{spot_of}
 use Rattle.tt_cert.specs.declared.form.Form.{Form}
 use Rattle.tt_cert.specs.declared.form.Form.TheVariants.{One, Two, Three, Four}
-use Rattle.tt_cert.specs.declared.name.Name.{Name}
-use Rattle.tt_cert.specs.declared.name.Name.TheVariants as name
+use Rattle.tt_setting.specs.declared.name.Name.{Name}
+use Rattle.tt_setting.specs.declared.name.Name.TheVariants as name
 use Rattle.tt_cert.specs.Readers.{Input}
 use Rattle.tt_cert.specs.Reading.{header_at, section_at}
 use Rattle.tt_cert.specs.Sections.{Section, section_of}

@@ -2,7 +2,7 @@
 use Rattle.std.specs.Prelude.{◌≡◌, true, ℕ, List, ◌++◌, ◌∷◌, Option, Some, is_some, unwrap_or, [], Result, Ok, Err, slice_get}
 use Rattle.tt_code.specs.Cut.{Instruction, size}
 use Rattle.tt_abs.specs.declared.state.State.{State}
-use Rattle.tt_abs.specs.Entries.{Ascends}
+use Rattle.tt_setting.specs.Entries.{Ascends}
 use Rattle.tt_abs.specs.StateFlow.{Place}
 use Rattle.tt_family.specs.GoodFamilies.{IsGoodFamily}
 use Rattle.tt_font.specs.Reading.{FontData, GlyphData}
@@ -15,10 +15,10 @@ use Rattle.hintcheck_report.specs.declared.answer_fault.AnswerFault.{AnswerFault
 use Rattle.hintcheck_report.specs.declared.answer_fault.AnswerFault.TheVariants as fault
 use Rattle.hintcheck_report.specs.declared.refused.Refused.{Refused}
 use Rattle.tt_family.specs.Contents.{Contents}
-use Rattle.tt_abs.specs.declared.refusal.Refusal.{Refusal}
+use Rattle.tt_setting.specs.declared.refusal.Refusal.{Refusal}
 use Rattle.tt_cert.specs.declared.form.Form.{Form}
-use Rattle.tt_cert.specs.declared.name.Name.{Name}
-use Rattle.tt_cert.specs.declared.name.Name.TheVariants as name
+use Rattle.tt_setting.specs.declared.name.Name.{Name}
+use Rattle.tt_setting.specs.declared.name.Name.TheVariants as name
 use Rattle.tt_cert.specs.Readers.{Input}
 use Rattle.tt_cert.specs.Reading.{header_at}
 

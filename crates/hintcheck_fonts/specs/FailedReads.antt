@@ -4,8 +4,8 @@ use Rattle.std.specs.Io.KnownBytes.{Consumes}
 use Rattle.tt_cert.specs.Answers.{input_at}
 use Rattle.tt_cert.specs.Readers.{Input, place_after}
 use Rattle.tt_cert.specs.Reading.{header_at}
-use Rattle.tt_cert.specs.declared.fault.CertFault.{CertFault}
-use Rattle.tt_cert.specs.declared.fault.CertFault.TheVariants as cert
+use Rattle.tt_setting.specs.declared.cert_fault.CertFault.{CertFault}
+use Rattle.tt_setting.specs.declared.cert_fault.CertFault.TheVariants as cert
 use Rattle.tt_cert.specs.declared.form.Form.{Form}
 use Rattle.tt_font.specs.Reading.{FontData, Reads}
 use Rattle.hintcheck_fonts.specs.Certificates.{Finding, IsChecked}

@@ -2,10 +2,10 @@
 use Rattle.std.specs.Prelude.{◌≡◌, ◌⊎◌, ℕ, ◌+◌, List, [], ◌++◌, Option, Some, None, length, slice_get}
 use Rattle.tt_code.specs.Cut.{Instruction, size}
 use Rattle.tt_abs.specs.declared.state.State.{State}
-use Rattle.tt_abs.specs.declared.exhausted.Exhausted.TheVariants as exhausted
+use Rattle.tt_setting.specs.declared.exhausted.Exhausted.TheVariants as exhausted
 use Rattle.tt_family.specs.Contents.{family_of}
 use Rattle.tt_cert.specs.declared.form.Form.TheVariants.{Four}
-use Rattle.tt_cert.specs.declared.name.Name.TheVariants as name
+use Rattle.tt_setting.specs.declared.name.Name.TheVariants as name
 use Rattle.tt_cert.specs.Sections.{section_of}
 use Rattle.tt_cert.specs.Text.{header_text, section_text}
 use Rattle.tt_find.specs.Found.{AreLeastContexts, HasLeastFilling}

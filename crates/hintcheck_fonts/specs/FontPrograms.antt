@@ -9,7 +9,7 @@ use Rattle.tt_font.specs.Reading.{FontData, GlyphData, Reads}
 pub use Rattle.tt_font.specs.Ranges.{AreFewBytes, IsFontInRange}
 use Rattle.hintcheck_fonts.specs.Programs.{Subject, EndsWith, HasLeastFamily, IsRefusal}
 use Rattle.hintcheck_fonts.specs.Verdicts.{Judgement}
-use Rattle.tt_cert.specs.declared.name.Name.TheVariants as name
+use Rattle.tt_setting.specs.declared.name.Name.TheVariants as name
 use Rattle.hintcheck_report.specs.declared.refused.Refused.{Refused}
 
 -- a font whose font program and CVT program have these instructions

@@ -3,24 +3,24 @@ use Rattle.std.specs.Prelude.{◌≡◌, ℕ, List, [], ◌∷◌, ◌++◌, Opt
 use Rattle.tt_code.specs.Cut.{CannotBeCut, Instruction, IsCut}
 use Rattle.tt_code.specs.Grammar.{IsFault}
 use Rattle.tt_code.specs.declared.reason.Reason.TheVariants as reason
-use Rattle.tt_abs.specs.Failures.{reason_of}
-use Rattle.tt_abs.specs.declared.setting.Setting.{Setting}
+use Rattle.tt_setting.specs.Refusals.{reason_of}
+use Rattle.tt_setting.specs.declared.setting.Setting.{Setting}
 use Rattle.tt_abs.specs.declared.state.State.{State}
-use Rattle.tt_abs.specs.Settings.{setting_of}
+use Rattle.tt_setting.specs.Settings.{setting_of}
 use Rattle.tt_abs.specs.Soundness.{IsSafe}
 use Rattle.tt_abs.specs.StateFlow.{FitsLimits, Place}
 use Rattle.tt_family.specs.Contents.{Contents, family_of}
 use Rattle.tt_family.specs.Fillings.{HasGoodFilling, IsFilling}
 use Rattle.tt_family.specs.GoodFamilies.{IsGoodFamily}
-use Rattle.tt_abs.specs.declared.spot.Spot.TheVariants as spot
-use Rattle.tt_abs.specs.declared.refusal.Refusal.{Refusal}
-use Rattle.tt_abs.specs.declared.refusal.Refusal.TheVariants.{Refused, Exhausted}
+use Rattle.tt_setting.specs.declared.spot.Spot.TheVariants as spot
+use Rattle.tt_setting.specs.declared.refusal.Refusal.{Refusal}
+use Rattle.tt_setting.specs.declared.refusal.Refusal.TheVariants.{Refused, Exhausted}
 use Rattle.tt_find.specs.Found.{IsLeast}
 use Rattle.hintcheck_fonts.specs.Certificates.{IsGoodListing}
 use Rattle.hintcheck_fonts.specs.Programs.{HasGoodFamily, IsCutInto, IsRefusal, Subject}
 use Rattle.hintcheck_report.specs.Places.{reported_at}
 use Rattle.tt_cert.specs.declared.form.Form.{Form}
-use Rattle.tt_cert.specs.declared.name.Name.{Name}
+use Rattle.tt_setting.specs.declared.name.Name.{Name}
 use Rattle.hintcheck_fonts.specs.declared.program.Search.{Search}
 use Rattle.hintcheck_fonts.specs.declared.program.Search.TheVariants as search
 use Rattle.hintcheck_report.specs.declared.refused.Refused.{Refused as AnyRefused}

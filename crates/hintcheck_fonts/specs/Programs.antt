@@ -9,9 +9,9 @@ use Rattle.tt_code.specs.declared.reason.Reason.TheVariants as reason
 use Rattle.tt_abs.specs.declared.state.State.{State}
 use Rattle.tt_abs.specs.StateFlow.{Place}
 use Rattle.tt_family.specs.GoodFamilies.{IsGoodFamily}
-use Rattle.tt_abs.specs.Spots.{spot_of}
+use Rattle.tt_setting.specs.Spots.{spot_of}
 use Rattle.tt_find.specs.Found.{IsJustified, IsLeast}
-use Rattle.tt_cert.specs.declared.name.Name.{Name}
+use Rattle.tt_setting.specs.declared.name.Name.{Name}
 use Rattle.hintcheck_report.specs.Places.{program_at}
 use Rattle.hintcheck_report.specs.declared.refused.Refused.{Refused}
 

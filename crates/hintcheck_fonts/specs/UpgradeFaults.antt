@@ -1,7 +1,7 @@
 -- What the fault of an upgrade tells of failed reads and writes.
 use Rattle.std.specs.Prelude.{◌≡◌, ◌+◌, ℕ, Result, Ok, Err}
-use Rattle.tt_cert.specs.declared.fault.CertFault.{CertFault}
-use Rattle.tt_cert.specs.declared.fault.CertFault.TheVariants as fault
+use Rattle.tt_setting.specs.declared.cert_fault.CertFault.{CertFault}
+use Rattle.tt_setting.specs.declared.cert_fault.CertFault.TheVariants as fault
 
 -- the count of failed reads goes up by one exactly where the fault is a failed read
 abbrev pub CountsReads : {T : Type 0} → Result T CertFault → ℕ → ℕ → Type 0

@@ -7,8 +7,8 @@ use Rattle.tt_family.specs.Contents.{Contents}
 use Rattle.tt_cert.specs.Families.{family_text}
 use Rattle.tt_cert.specs.declared.form.Form.{Form}
 use Rattle.tt_cert.specs.declared.form.Form.TheVariants.{Four}
-use Rattle.tt_cert.specs.declared.name.Name.{Name}
-use Rattle.tt_cert.specs.declared.name.Name.TheVariants as name
+use Rattle.tt_setting.specs.declared.name.Name.{Name}
+use Rattle.tt_setting.specs.declared.name.Name.TheVariants as name
 use Rattle.tt_cert.specs.Readers.{Answer, Input}
 use Rattle.tt_cert.specs.Reading.{header_at}
 use Rattle.tt_cert.specs.Text.{header_text}

@@ -7,9 +7,9 @@ ghost use Rattle.hintcheck_fonts.specs.BarePrograms.{IsJudged, IsMemory, bare_fo
 ghost use Rattle.hintcheck_fonts.specs.ProgramVerdicts.{IfRefused};
 ghost use Rattle.hintcheck_fonts.specs.Programs.{HasGoodFamily, HasLeastFamily, IsRefusal};
 ghost use Rattle.hintcheck_fonts.specs.Representation.Judges.{IsRefusedFor};
-ghost use Rattle.tt_cert.specs.declared.name.Name.TheVariants as name;
+ghost use Rattle.tt_setting.specs.declared.name.Name.TheVariants as name;
 ghost use Rattle.tt_code.specs.Faults.{IsMemory as IsMemoryAlone};
-ghost use Rattle.tt_family.specs.Budgets.{EndTellsBudget, Spends, TellsBudget};
+ghost use Rattle.tt_setting.specs.Budgets.{EndTellsBudget, Spends, TellsBudget};
 ghost use Rattle.tt_font.specs.Reading.{GlyphData, glyph_data};
 ghost use Rattle.tt_font.specs.Conditions.{maxp_fault};
 

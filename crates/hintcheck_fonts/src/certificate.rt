@@ -1,7 +1,7 @@
 //! The certificate of a font: found once more and written, after a verdict that refuses no program.
 
 ghost use Rattle.std.specs.Prelude.{◌≡◌, ◌⊎◌, [], Err, IfErr, IfOk, OnErr, OnOk};
-ghost use Rattle.tt_family.specs.Budgets.{Spends};
+ghost use Rattle.tt_setting.specs.Budgets.{Spends};
 ghost use Rattle.tt_font.specs.FileFaults.{font_fault};
 ghost use Rattle.tt_font.specs.Reading.{FontData, Reads};
 ghost use Rattle.hintcheck_report.specs.declared.answer_fault.AnswerFault.{AnswerFault};

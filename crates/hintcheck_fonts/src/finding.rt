@@ -2,8 +2,8 @@
 
 ghost use Rattle.std.specs.Prelude.{◌≡◌, is_some, option_map, refl, true};
 ghost use Rattle.std.specs.Option.{option_copied};
-ghost use Rattle.tt_abs.specs.Entries.{Ascends};
-ghost use Rattle.tt_abs.specs.Settings.{setting_of};
+ghost use Rattle.tt_setting.specs.Entries.{Ascends};
+ghost use Rattle.tt_setting.specs.Settings.{setting_of};
 ghost use Rattle.tt_code.specs.Cut.{size};
 ghost use Rattle.hintcheck_fonts.specs.Representation.FontVerdicts.{ComesToEnd};
 ghost use Rattle.hintcheck_fonts.specs.Representation.Judges.{AreWithin, IsFoundIn, IsFoundToEndIn, IsRefusedFor};

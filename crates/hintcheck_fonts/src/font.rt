@@ -1,7 +1,7 @@
 //! The verdict on a font.
 
 ghost use Rattle.std.specs.Prelude.{◌≡◌, [], IfOk, OnOk};
-ghost use Rattle.tt_family.specs.Budgets.{EndTellsBudget, Spends};
+ghost use Rattle.tt_setting.specs.Budgets.{EndTellsBudget, Spends};
 ghost use Rattle.tt_font.specs.Conditions.{TestsWithMemory};
 ghost use Rattle.tt_font.specs.FileFaults.{font_fault};
 ghost use Rattle.tt_font.specs.Reading.{FontData, Reads};

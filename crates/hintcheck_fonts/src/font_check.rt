@@ -1,7 +1,7 @@
 //! The check of a font by its certificate: each program by the family that its section lists.
 
 ghost use Rattle.std.specs.Prelude.{◌≡◌, ◌+◌, [], IfErr, IfOk, Ok, Err, length};
-ghost use Rattle.tt_family.specs.Budgets.{Spends};
+ghost use Rattle.tt_setting.specs.Budgets.{Spends};
 ghost use Rattle.tt_font.specs.FileFaults.{font_fault};
 ghost use Rattle.tt_font.specs.Reading.{FontData, Reads};
 ghost use Rattle.tt_stream.specs.Reads.{ConsumesBeginning};

@@ -1,10 +1,10 @@
 //! What decides on a font's programs, one at a time.
 
 ghost use Rattle.std.specs.Prelude.{List, IfErr, IfOk, OnOk};
-ghost use Rattle.tt_abs.specs.Settings.{setting_of};
+ghost use Rattle.tt_setting.specs.Settings.{setting_of};
 ghost use Rattle.tt_code.specs.Cut.{Instruction};
 ghost use Rattle.tt_code.specs.declared.limits.Limits.{Limits};
-ghost use Rattle.tt_family.specs.Budgets.{Spends, TellsBudget};
+ghost use Rattle.tt_setting.specs.Budgets.{Spends, TellsBudget};
 ghost use Rattle.hintcheck_fonts.specs.ProgramVerdicts.{IfRefused, IsProgramOf, IsUncut};
 ghost use Rattle.hintcheck_fonts.specs.Programs.{Subject};
 ghost use Rattle.hintcheck_fonts.specs.Representation.FontVerdicts.{ComesToEnd};

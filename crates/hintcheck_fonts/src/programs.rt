@@ -3,8 +3,8 @@
 //! where the CVT program ends.
 
 ghost use Rattle.std.specs.Prelude.{◌≡◌, ◌↔◌, [], IfErr, IfOk, IfSome, IsTrue, None, Some, false, true};
-ghost use Rattle.tt_abs.specs.Settings.{kind_of};
-ghost use Rattle.tt_family.specs.Budgets.{EndTellsBudget, Spends, TellsBudget};
+ghost use Rattle.tt_setting.specs.Settings.{kind_of};
+ghost use Rattle.tt_setting.specs.Budgets.{EndTellsBudget, Spends, TellsBudget};
 ghost use Rattle.hintcheck_fonts.specs.FontPrograms.{IsFontInRange};
 ghost use Rattle.hintcheck_fonts.specs.ProgramVerdicts.{IfRefused};
 ghost use Rattle.hintcheck_fonts.specs.Programs.{Subject};

@@ -1,9 +1,9 @@
 //! The judge that checks a program by its section of a certificate.
 
 ghost use Rattle.std.specs.Prelude.{◌≡◌, IfErr, OnOk, refl};
-ghost use Rattle.tt_abs.specs.Entries.{Ascends};
-ghost use Rattle.tt_abs.specs.Settings.{setting_of};
-ghost use Rattle.tt_family.specs.Budgets.{Spends, TellsBudget};
+ghost use Rattle.tt_setting.specs.Entries.{Ascends};
+ghost use Rattle.tt_setting.specs.Settings.{setting_of};
+ghost use Rattle.tt_setting.specs.Budgets.{Spends, TellsBudget};
 ghost use Rattle.tt_family.specs.Checks.{IsExhausted, Names};
 ghost use Rattle.hintcheck_fonts.specs.Certificates.{IsCheckRefusal, IsListingBrokenFirst};
 ghost use Rattle.hintcheck_fonts.specs.ProgramVerdicts.{IsFilledIn, IsListedIn, with_start};

@@ -2,7 +2,7 @@
 //! family is found anew. A session holds one certificate at a time.
 
 ghost use Rattle.std.specs.Prelude.{◌≡◌, ◌≢◌, IfErr, IfOk, None, Ok, Err, Some};
-ghost use Rattle.tt_family.specs.Budgets.{EndTellsBudget, Spends};
+ghost use Rattle.tt_setting.specs.Budgets.{EndTellsBudget, Spends};
 ghost use Rattle.tt_stream.specs.Reads.{ConsumesBeginning};
 ghost use Rattle.hintcheck_fonts.specs.BudgetAnswers.{AnswerTells, AnswerTellsBudget, IsOutsideFont};
 ghost use Rattle.hintcheck_fonts.specs.CertificateFaults.{CountsCheck, IsOutsideFontAndBudget};

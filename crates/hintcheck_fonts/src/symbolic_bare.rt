@@ -5,7 +5,7 @@ ghost use Rattle.std.specs.List.{All};
 ghost use Rattle.tt_font.specs.Conditions.{maxp_fault};
 ghost use Rattle.tt_font.specs.Reading.{GlyphData, glyph_data};
 ghost use Rattle.hintcheck_fonts.specs.BarePrograms.{IsMemory, bare_font, font_around, glyph_with};
-ghost use Rattle.tt_cert.specs.declared.name.Name.TheVariants as name;
+ghost use Rattle.tt_setting.specs.declared.name.Name.TheVariants as name;
 ghost use Rattle.hintcheck_fonts.specs.ProgramVerdicts.{IfRefused};
 ghost use Rattle.hintcheck_fonts.specs.SymbolicRefusals.{IsRefusedAlone};
 ghost use Rattle.hintcheck_fonts.specs.SymbolicVerdicts.{IsSafeAlone};

@@ -1,9 +1,9 @@
 //! The judge that searches and checks a program by symbolic states.
 
 ghost use Rattle.std.specs.Prelude.{◌≡◌, ℕ, List, IfErr, IfOk, IsTrue, OnOk, Some, refl};
-ghost use Rattle.tt_abs.specs.Entries.{Ascends};
-ghost use Rattle.tt_abs.specs.Refusals.{IsOfNoBudget, told_reason};
-ghost use Rattle.tt_abs.specs.Settings.{setting_of};
+ghost use Rattle.tt_setting.specs.Entries.{Ascends};
+ghost use Rattle.tt_setting.specs.Refusals.{IsOfNoBudget, told_reason};
+ghost use Rattle.tt_setting.specs.Settings.{setting_of};
 ghost use Rattle.tt_symbolic_font.specs.Known.{StartGlyphs};
 ghost use Rattle.hintcheck_fonts.specs.ProgramVerdicts.{with_start};
 ghost use Rattle.hintcheck_fonts.specs.SymbolicRefusals.{IsSymbolicAnswer, IsSymbolicRefusal, IsToldInTurn};

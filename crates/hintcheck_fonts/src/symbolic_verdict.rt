@@ -1,8 +1,8 @@
 //! The verdict on a font by symbolic states.
 
 ghost use Rattle.std.specs.Prelude.{◌≡◌, ◌∷◌, [], IfOk, IfSome, None, OnOk};
-ghost use Rattle.tt_abs.specs.Entries.{Ascends};
-ghost use Rattle.tt_cert.specs.declared.name.Name.TheVariants as name;
+ghost use Rattle.tt_setting.specs.Entries.{Ascends};
+ghost use Rattle.tt_setting.specs.declared.name.Name.TheVariants as name;
 ghost use Rattle.tt_font.specs.Conditions.{TestsWithMemory};
 ghost use Rattle.tt_font.specs.FileFaults.{font_fault};
 ghost use Rattle.tt_font.specs.Reading.{FontData, Reads};

@@ -1,7 +1,7 @@
 -- The search for the least number that is enough: what is known of the numbers that are left.
 use Rattle.std.proofs.Common.{◌≡◌, ℕ, suc, ◌+◌, ◌<◌, ◌≤◌, Bool, true, false, List, refl, subst, arith}
 use Rattle.std.specs.Prelude.{◌↔◌, IsTrue}
-use Rattle.tt_cert.specs.declared.name.Name.{Name}
+use Rattle.tt_setting.specs.declared.name.Name.{Name}
 use Rattle.tt_font.specs.Reading.{FontData}
 use Rattle.hintcheck_report.specs.declared.bound.Bound.{Bound}
 use Rattle.hintcheck_needs.specs.Needs.{IsLeastEnough, Refuses, RefusesOthers, TellsSame, greatest_number, with_number}

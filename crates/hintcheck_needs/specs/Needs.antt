@@ -1,6 +1,6 @@
 -- Which numbers a font needs, as far as a verdict tells. (own)
 use Rattle.std.specs.Prelude.{◌≡◌, ◌≢◌, ℕ, suc, List, map, Bool, true, false}
-use Rattle.tt_cert.specs.declared.name.Name.{Name}
+use Rattle.tt_setting.specs.declared.name.Name.{Name}
 use Rattle.tt_font.specs.Reading.{FontData}
 use Rattle.hintcheck_report.specs.Bounds.{cvt_count_with, declared_number, limits_with}
 use Rattle.hintcheck_report.specs.declared.bound.Bound.{Bound}

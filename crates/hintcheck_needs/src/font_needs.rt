@@ -1,7 +1,7 @@
 //! What a font file needs of each number, and what it declares.
 
 ghost use Rattle.std.specs.Prelude.{◌≡◌, IfOk};
-ghost use Rattle.tt_family.specs.Budgets.{EndTellsBudget, Spends};
+ghost use Rattle.tt_setting.specs.Budgets.{EndTellsBudget, Spends};
 ghost use Rattle.tt_font.specs.FileFaults.{font_fault};
 ghost use Rattle.tt_font.specs.Reading.{FontData, Reads};
 ghost use Rattle.hintcheck_fonts.specs.BudgetAnswers.{VerdictTellsBudget, VerdictTellsFontFault};

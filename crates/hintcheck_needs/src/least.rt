@@ -1,7 +1,7 @@
 //! The least number with which a verdict refuses the same programs as with the greatest one.
 
 ghost use Rattle.std.specs.Prelude.{◌≡◌, ◌↔◌, IfOk, IsTrue};
-ghost use Rattle.tt_family.specs.Budgets.{EndTellsBudget, Spends};
+ghost use Rattle.tt_setting.specs.Budgets.{EndTellsBudget, Spends};
 ghost use Rattle.hintcheck_needs.specs.Needs.{IsLeastEnough, Refuses, TellsSame, refused_names, with_number};
 
 use crate::numbers::replace_number;

@@ -1,8 +1,8 @@
 -- Why a call gives no answer on a font. (Own.)
 use Rattle.std.specs.Prelude.{alloc_error}
-use Rattle.tt_abs.specs.declared.exhausted.Exhausted.TheVariants as exhausted
-use Rattle.tt_cert.specs.declared.fault.CertFault.{CertFault}
-use Rattle.tt_cert.specs.declared.fault.CertFault.TheVariants as cert
+use Rattle.tt_setting.specs.declared.exhausted.Exhausted.TheVariants as exhausted
+use Rattle.tt_setting.specs.declared.cert_fault.CertFault.{CertFault}
+use Rattle.tt_setting.specs.declared.cert_fault.CertFault.TheVariants as cert
 use Rattle.tt_font.specs.declared.fault.FontFault.{FontFault}
 use Rattle.tt_font.specs.declared.fault.FontFault.TheVariants.{OutOfMemory}
 use Rattle.hintcheck_report.specs.declared.answer_fault.AnswerFault.{AnswerFault}

@@ -1,10 +1,10 @@
 -- In which program a place is, and what is reported of a program that is refused there.
 use Rattle.std.specs.Prelude.{ℕ}
 use Rattle.tt_code.specs.declared.reason.Reason.{Reason}
-use Rattle.tt_abs.specs.declared.spot.Spot.{Spot}
-use Rattle.tt_abs.specs.declared.spot.Spot.TheVariants as spot
-use Rattle.tt_cert.specs.declared.name.Name.{Name}
-use Rattle.tt_cert.specs.declared.name.Name.TheVariants as name
+use Rattle.tt_setting.specs.declared.spot.Spot.{Spot}
+use Rattle.tt_setting.specs.declared.spot.Spot.TheVariants as spot
+use Rattle.tt_setting.specs.declared.name.Name.{Name}
+use Rattle.tt_setting.specs.declared.name.Name.TheVariants as name
 use Rattle.hintcheck_report.specs.declared.refused.Place.{Place}
 use Rattle.hintcheck_report.specs.declared.refused.Refused.{Refused}
 

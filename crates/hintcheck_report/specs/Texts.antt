@@ -2,7 +2,7 @@
 use Rattle.std.specs.Prelude.{ℕ, codes, List, ◌++◌}
 use Rattle.std.specs.Fmt.{decimal}
 use Rattle.tt_code.specs.Refusals.{number_of, reason_text}
-use Rattle.tt_cert.specs.Names.{text_of}
+use Rattle.tt_setting.specs.Names.{text_of}
 use Rattle.hintcheck_report.specs.declared.refused.Place.{Place}
 use Rattle.hintcheck_report.specs.declared.refused.Refused.{Refused}
 

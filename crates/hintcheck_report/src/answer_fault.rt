@@ -3,7 +3,7 @@
 ghost use Rattle.std.specs.Prelude.{◌≡◌};
 ghost use Rattle.hintcheck_report.specs.AnswerFaults.{fault_of_certificate, font_fault_of, unlimited};
 ghost use Rattle.hintcheck_report.specs.declared.answer_fault.AnswerFault.{AnswerFault};
-ghost use Rattle.tt_abs.specs.declared.exhausted.Exhausted.{Exhausted as By};
+ghost use Rattle.tt_setting.specs.declared.exhausted.Exhausted.{Exhausted as By};
 
 use std::alloc::AllocError;
 use thiserror::Error;

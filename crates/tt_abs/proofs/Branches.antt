@@ -19,9 +19,10 @@ use Rattle.tt_code.specs.declared.kinds.Control.{Control}
 use Rattle.tt_code.specs.declared.kinds.Control.TheVariants.{If, Else, Jump, JumpIfTrue, JumpIfFalse, Call, LoopCall, FunctionDefinition, EndFunction, InstructionDefinition}
 use Rattle.tt_abs.specs.declared.cells.Cell.{Cell}
 use Rattle.tt_abs.specs.declared.cells.Cell.TheVariants.{Known, Unknown}
-use Rattle.tt_abs.specs.Cells.{Covers, CoversStack, CoversFunctions, Abstract}
+use Rattle.tt_abs.specs.Cells.{Covers, CoversStack, Abstract}
+use Rattle.tt_setting.specs.Functions.{CoversFunctions}
 use Rattle.tt_abs.specs.Covers.{Stands, Becomes, IsSmallestCover, At, AreSmallestCovers, TransfersTo}
-use Rattle.tt_abs.specs.Entries.{with_entry}
+use Rattle.tt_setting.specs.Entries.{with_entry}
 use Rattle.tt_abs.specs.Transfers.{Next, one_way, two_ways, known, leaves_cells, jump_target, jumps_cells, jumps_by, jumps_if_cells, controlled_cells}
 use Rattle.tt_abs.specs.Representation.Followed.{is_followed}
 use Rattle.tt_abs.proofs.Choosing.{zero_is_number, one_is_number, minus_one_is_number, some_covered, some_stack}

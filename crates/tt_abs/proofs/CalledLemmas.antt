@@ -9,8 +9,8 @@ use Rattle.tt_code.specs.States.{is_below}
 use Rattle.tt_code.specs.declared.reason.Reason.TheVariants as reason
 use Rattle.tt_abs.specs.declared.cells.Cell.{Cell}
 use Rattle.tt_abs.specs.declared.cells.Cell.TheVariants.{Known}
-use Rattle.tt_abs.specs.Entries.{listed}
-use Rattle.tt_abs.specs.Representation.EntryFacts.{listed-named}
+use Rattle.tt_setting.specs.Entries.{listed}
+use Rattle.tt_setting.specs.EntryLaws.{listed-named}
 use Rattle.tt_abs.specs.Transfers.{called_cell}
 
 pub called_is : (s : Setting) (functions : List (ℕ × ℕ)) (c : Cell) (z : ℤ) (bound : ℕ) (found : Option ℕ) → c ≡ Known z → bound ≡ s.limits.functions → is_below z bound ≡ true

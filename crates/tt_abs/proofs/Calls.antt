@@ -15,7 +15,8 @@ use Rattle.tt_code.specs.declared.reason.Reason.TheVariants as reason
 use Rattle.tt_code.specs.declared.kinds.Control.TheVariants.{Call, LoopCall, EndFunction}
 use Rattle.tt_abs.specs.declared.cells.Cell.{Cell}
 use Rattle.tt_abs.specs.declared.cells.Cell.TheVariants.{Known, Unknown}
-use Rattle.tt_abs.specs.Cells.{Covers, CoversStack, CoversFunctions, Abstract}
+use Rattle.tt_abs.specs.Cells.{Covers, CoversStack, Abstract}
+use Rattle.tt_setting.specs.Functions.{CoversFunctions}
 use Rattle.tt_abs.specs.Covers.{Stands, Becomes, TransfersTo, MOST_CONTEXTS, ManyFrames, StandsFor, has_body_twice}
 use Rattle.tt_abs.specs.Transfers.{Next, one_way, known, leaves_cells, called_cell, is_running, enters_cells, loops_cells, returns_cells, controlled_cells, within_cells}
 use Rattle.tt_abs.proofs.Choosing.{minus_one_is_number, some_stack, some_graphics}

@@ -46,13 +46,6 @@ codes_from_below a b h k lt =
     let Q : Cell → Type 0 = λ x. CellBelow (cell_at (cells_of a) k) x in
     subst P (code_at a k lt) (subst Q (code_at b k (omega arith)) (h.cells k))
 
--- the differences of numbers, gathered by their bits, are none exactly if there is none yet and the two are equal
-pub no_difference : (d a b : ℕ) → (bit_or d (bit_xor a b) ≡ 0) ↔ ((d ≡ 0) × (a ≡ b))
-no_difference d a b = (
-  λ e. (omega (arith, le_or_l d (bit_xor a b), e), omega (arith, le_or_r d (bit_xor a b), e, xor_add_and a b, and_le_l a b, and_le_r a b)),
-  λ p. ap (λ x. bit_or x (bit_xor a b)) p.0 ∙ or_zero_l (bit_xor a b) ∙ ap (λ x. bit_xor x b) p.1 ∙ xor_self b,
-)
-
 -- the least of each two codes
 least_of_unknown : IsLeastCell Unknown Unknown Unknown
 least_of_unknown = record { in_range = tt; left = tt; right = tt; least = λ d _ p _. p }

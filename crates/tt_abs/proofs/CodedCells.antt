@@ -13,7 +13,7 @@ use Rattle.tt_abs.specs.Representation.Codes.{cell_of_code, cells_of, kept_cells
 use Rattle.tt_abs.specs.Transfers.{cells_on}
 use Rattle.tt_abs.specs.CellOrders.{CellInRange}
 use Rattle.tt_abs.specs.Stacks.{cell_at, IsLeastCell, ShareBottom, StackInRange}
-use Rattle.tt_abs.proofs.Reversed.{cut_is, removed_is}
+use Rattle.tt_setting.proofs.Reversed.{cut_is, removed_is}
 use Rattle.tt_abs.proofs.StackOrders.{refilled}
 
 pub kept_length : (wide : List Cell) (codes : List ℕ) → length (kept_cells wide codes) ≡ length wide + length codes

@@ -5,8 +5,8 @@ use Rattle.tt_code.specs.Settings.{ZoneNumber, Zero, One}
 use Rattle.tt_code.specs.States.{IsNumber}
 use Rattle.tt_abs.specs.declared.cells.Cell.{Cell}
 use Rattle.tt_abs.specs.declared.cells.Cell.TheVariants.{Known, Unknown}
-use Rattle.tt_abs.specs.declared.cells.ZoneCell.{ZoneCell}
-use Rattle.tt_abs.specs.declared.cells.ZoneCell.TheVariants as zone
+use Rattle.tt_setting.specs.declared.zone.ZoneCell.{ZoneCell}
+use Rattle.tt_setting.specs.declared.zone.ZoneCell.TheVariants as zone
 use Rattle.tt_abs.specs.Cells.{Covers, CoversZone, CoversStack}
 use Rattle.tt_abs.specs.CellOrders.{CellInRange, CellBelow, ZoneBelow}
 use Rattle.tt_abs.specs.Stacks.{cell_at, StackBelow, StackInRange}

@@ -3,10 +3,10 @@ use Rattle.std.specs.Prelude.{nat_eq, nat_lt, if◌then◌else◌}
 use Rattle.std.specs.List.{AllByRecursion}
 use Rattle.std.specs.Result.{OnOk, OnErr}
 use Rattle.std.proofs.Common.{◌≡◌, ℕ, List, [], ◌∷◌, Bool, true, false, Result, Ok, Err, sym, subst}
-use Rattle.tt_abs.specs.Entries.{with_entry, without_entry}
-use Rattle.tt_abs.specs.EntryLists.{EntriesInRange}
-use Rattle.tt_abs.specs.EntryLaws.{Ascends-filter, all-filter}
-use Rattle.tt_abs.proofs.EntryEdits.{Ascends-with}
+use Rattle.tt_setting.specs.Entries.{with_entry, without_entry}
+use Rattle.tt_abs.specs.EntryOrders.{EntriesInRange}
+use Rattle.tt_setting.specs.EntryLaws.{Ascends-filter, all-filter}
+use Rattle.tt_setting.proofs.EntryEdits.{Ascends-with}
 
 values-with : {V : Type 0} (P : V → Type 0) (n : ℕ) (v : V) (es : List (ℕ × V)) → P v → AllByRecursion (λ e. P e.1) es → AllByRecursion (λ e. P e.1) (with_entry n v es)
 values-with {V} P n v [] h all = (h, tt)

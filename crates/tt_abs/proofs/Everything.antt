@@ -20,7 +20,8 @@ use Rattle.tt_abs.specs.Cells.{Abstract, CoversState}
 use Rattle.tt_abs.specs.Ranges.{AreInRange}
 use Rattle.tt_abs.specs.Covers.{Stands, MOST_CONTEXTS, IsRefused, Gives, StandsFor}
 use Rattle.tt_abs.specs.Representation.Followed.{is_followed}
-use Rattle.tt_abs.specs.Transfers.{Next, does_cells, controlled_cells, performs_cells, within_cells, instruction_of, outcome_on_cells}
+use Rattle.tt_abs.specs.Transfers.{Next, does_cells, controlled_cells, performs_cells, within_cells, outcome_on_cells}
+use Rattle.tt_setting.specs.Settings.{instruction_of}
 use Rattle.tt_abs.proofs.Rows.{is_readable_line}
 use Rattle.tt_abs.proofs.TableRows.{rows_readable}
 use Rattle.tt_abs.proofs.Depth.{AreBelow, becomes_wider, monotone_ways}

@@ -6,7 +6,7 @@ use Rattle.tt_code.specs.declared.reason.Reason.{Reason}
 use Rattle.tt_code.proofs.Running.{usual_limits, wide_twilight}
 use Rattle.tt_code.proofs.ExamplesAsCases.{Case, ◌⇒◌}
 use Rattle.tt_abs.specs.declared.cells.Cell.{Cell}
-use Rattle.tt_abs.specs.declared.cells.ZoneCell.TheVariants.{Either}
+use Rattle.tt_setting.specs.declared.zone.ZoneCell.TheVariants.{Either}
 use Rattle.tt_abs.specs.Cells.{Cells}
 use Rattle.tt_abs.proofs.RunningOnCells.{Place, Seen, goes_on_with, performed, untouched, ways, zones}
 

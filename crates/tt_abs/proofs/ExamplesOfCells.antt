@@ -6,7 +6,7 @@ use Rattle.tt_code.specs.declared.reason.Reason.TheVariants as reason
 use Rattle.tt_code.proofs.Running.{usual_limits}
 use Rattle.tt_code.proofs.ExamplesAsCases.{all_hold}
 use Rattle.tt_abs.specs.declared.cells.Cell.TheVariants.{Known, Unknown}
-use Rattle.tt_abs.specs.declared.cells.ZoneCell.TheVariants.{Zero, One, Either}
+use Rattle.tt_setting.specs.declared.zone.ZoneCell.TheVariants.{Zero, One, Either}
 use Rattle.tt_abs.proofs.RunningOnCells.{k, performed, zones, untouched, goes_on_with}
 use Rattle.tt_abs.proofs.ExamplesAsCases.{does, does_by, leaves, takes, faults, faults_by}
 

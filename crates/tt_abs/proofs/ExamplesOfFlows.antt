@@ -11,9 +11,10 @@ use Rattle.tt_code.specs.declared.reason.Reason.{Reason}
 use Rattle.tt_abs.specs.declared.state.State.{State}
 use Rattle.tt_abs.specs.Families.{CoversAt, IsGood}
 use Rattle.tt_abs.specs.Flows.{FlowLaws}
-use Rattle.tt_abs.specs.Ranges.{IsSettingInRange}
-use Rattle.tt_abs.specs.Soundness.{StartsWith}
-use Rattle.tt_abs.specs.StateFlow.{Place, RefusesState, GivesState, flow_of, height_of, AreProgramsShort}
+use Rattle.tt_setting.specs.Ranges.{IsSettingInRange}
+use Rattle.tt_setting.specs.Functions.{StartsWith}
+use Rattle.tt_abs.specs.StateFlow.{Place, RefusesState, GivesState, flow_of, height_of}
+use Rattle.tt_setting.specs.Ranges.{AreProgramsShort}
 use Rattle.tt_abs.specs.States.{abstract_of, start_of, state_order, state_laws}
 use Rattle.tt_abs.specs.Transfers.{Next, one_way, outcome_on_cells}
 use Rattle.tt_abs.proofs.FlowOfStates.{start_range, state_flow_laws}

@@ -5,7 +5,7 @@ use Rattle.tt_code.specs.declared.reason.Reason.TheVariants as reason
 use Rattle.tt_code.proofs.Running.{usual_limits}
 use Rattle.tt_code.proofs.ExamplesAsCases.{◌⇒◌, all_hold}
 use Rattle.tt_abs.specs.declared.cells.Cell.TheVariants.{Known, Unknown}
-use Rattle.tt_abs.specs.declared.cells.ZoneCell.TheVariants.{Either}
+use Rattle.tt_setting.specs.declared.zone.ZoneCell.TheVariants.{Either}
 use Rattle.tt_abs.proofs.RunningOnCells.{k, lowest, highest, zones, shown, stack_after, in_font_program, in_cvt_program, call_of, called, at_place, defines_a_function, glyph_does, function_calls, body_does}
 use Rattle.tt_abs.proofs.ExamplesAsCases.{faults, makes, leads, is_refused, is_refused_by}
 

@@ -10,10 +10,11 @@ use Rattle.tt_abs.specs.declared.state.State.{State}
 use Rattle.tt_abs.specs.Cells.{Abstract, CoversState}
 use Rattle.tt_abs.specs.Contexts.{FramesFit}
 use Rattle.tt_abs.specs.Covers.{Gives, StandsFor}
-use Rattle.tt_abs.specs.Entries.{Ascends}
+use Rattle.tt_setting.specs.Entries.{Ascends}
 use Rattle.tt_abs.specs.Flows.{FlowLaws}
-use Rattle.tt_abs.specs.Ranges.{IsSettingInRange}
-use Rattle.tt_abs.specs.StateFlow.{Place, IsPlace, CallsFit, FunctionsFit, FitsLimits, RefusesState, GivesState, flow_of, height_of, AreProgramsShort}
+use Rattle.tt_setting.specs.Ranges.{IsSettingInRange}
+use Rattle.tt_abs.specs.StateFlow.{Place, IsPlace, CallsFit, FunctionsFit, FitsLimits, RefusesState, GivesState, flow_of, height_of}
+use Rattle.tt_setting.specs.Ranges.{AreProgramsShort}
 use Rattle.tt_abs.specs.States.{abstract_of, start_of, state_order}
 use Rattle.tt_abs.specs.Transfers.{Next, outcome_on_cells}
 use Rattle.tt_abs.proofs.Choosing.{zero_is_number, one_is_number}

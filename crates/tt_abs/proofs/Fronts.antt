@@ -9,8 +9,8 @@ use Rattle.tt_code.specs.declared.reason.Reason.{Reason}
 use Rattle.std.specs.Result.{IsErrAnd}
 use Rattle.std.proofs.Math.Seq.{drop-cons}
 use Rattle.tt_code.specs.declared.kinds.Operand.{Operand}
-use Rattle.tt_abs.specs.declared.failed.Failed.{Failed}
-use Rattle.tt_abs.specs.Failures.{reason_of}
+use Rattle.tt_setting.specs.declared.failed.Failed.{Failed}
+use Rattle.tt_setting.specs.Refusals.{reason_of}
 use Rattle.tt_abs.specs.Cells.{Cells}
 use Rattle.tt_abs.specs.Stacks.{first}
 use Rattle.tt_abs.specs.Representation.Taken.{TakesTo, GoesOn}

@@ -16,11 +16,12 @@ use Rattle.tt_code.proofs.StructureLaws.{leads_iff_goes}
 use Rattle.tt_abs.specs.declared.cells.Cell.{Cell}
 use Rattle.tt_abs.specs.declared.state.State.{State}
 use Rattle.tt_abs.specs.Cells.{Abstract}
-use Rattle.tt_abs.specs.Entries.{listed, with_entry}
-use Rattle.tt_abs.specs.Representation.EntryFacts.{listed-with}
+use Rattle.tt_setting.specs.Entries.{listed, with_entry}
+use Rattle.tt_setting.specs.EntryLaws.{listed-with}
 use Rattle.tt_abs.specs.Families.{Derived, started, moved, joined}
 use Rattle.tt_abs.specs.FunctionBodies.{AreFunctionBodies, AreProgramsOfFont, IsFunctionBody, RunsAsItsKind, of_cvt_program, of_font_program}
-use Rattle.tt_abs.specs.StateFlow.{AreProgramsShort, Place, flow_of}
+use Rattle.tt_setting.specs.Ranges.{AreProgramsShort}
+use Rattle.tt_abs.specs.StateFlow.{Place, flow_of}
 use Rattle.tt_abs.specs.States.{abstract_of, state_order}
 use Rattle.tt_abs.specs.Transfers.{Next}
 use Rattle.tt_abs.proofs.ListsKept.{DefinesAt, lists_kept}

@@ -11,17 +11,21 @@ use Rattle.tt_code.specs.declared.machine.Frame.{Frame}
 use Rattle.tt_code.specs.declared.reason.Reason.{Reason}
 use Rattle.tt_code.specs.declared.reason.Reason.TheVariants as reason
 use Rattle.tt_abs.specs.declared.state.State.{State}
-use Rattle.tt_abs.specs.declared.cells.ZoneCell.TheVariants as zone
+use Rattle.tt_setting.specs.declared.zone.ZoneCell.TheVariants as zone
 use Rattle.tt_abs.specs.Cells.{Abstract, CoversGraphics, CoversStack, CoversState, CoversZone, Numbers}
 use Rattle.tt_abs.specs.Covers.{Becomes, Gives, IsRefused, MOST_CONTEXTS, ManyFrames, SomeFaults, SomeRecurs, Stands, StandsFor, has_body_twice}
-use Rattle.tt_abs.specs.Entries.{Ascends}
+use Rattle.tt_setting.specs.Entries.{Ascends}
 use Rattle.tt_abs.specs.Families.{CoversAt, IsGood}
 use Rattle.tt_abs.specs.Goodness.{CoversSteps, HasStateIn, IsFamilyByContext}
-use Rattle.tt_abs.specs.Ranges.{AreInRange, IsSettingInRange}
-use Rattle.tt_abs.specs.Soundness.{StartsWith, IsCoveredBy}
-use Rattle.tt_abs.specs.StateFlow.{AreProgramsShort, GivesState, Place, RefusesState, flow_of}
+use Rattle.tt_abs.specs.Ranges.{AreInRange}
+use Rattle.tt_setting.specs.Ranges.{IsSettingInRange}
+use Rattle.tt_setting.specs.Functions.{StartsWith}
+use Rattle.tt_abs.specs.Soundness.{IsCoveredBy}
+use Rattle.tt_setting.specs.Ranges.{AreProgramsShort}
+use Rattle.tt_abs.specs.StateFlow.{GivesState, Place, RefusesState, flow_of}
 use Rattle.tt_abs.specs.States.{abstract_of, default_cells, start_of, state_order}
-use Rattle.tt_abs.specs.Transfers.{Next, instruction_of, outcome_on_cells}
+use Rattle.tt_abs.specs.Transfers.{Next, outcome_on_cells}
+use Rattle.tt_setting.specs.Settings.{instruction_of}
 use Rattle.tt_abs.proofs.Choosing.{some_graphics, some_stack, zero_is_number}
 use Rattle.tt_abs.proofs.Everything.{everything_stands, more_is_refused}
 use Rattle.tt_abs.proofs.FlowOfStates.{start_range}

@@ -5,13 +5,13 @@ use Rattle.std.proofs.Common.{◌≡◌, ℕ, ◌+◌, ◌<◌, ◌≤◌, List,
 use Rattle.tt_code.specs.Settings.{Setting}
 use Rattle.tt_abs.specs.declared.cells.Cell.{Cell}
 use Rattle.tt_abs.specs.declared.cells.Cell.TheVariants.{Known, Unknown}
-use Rattle.tt_abs.specs.declared.cells.ZoneCell.{ZoneCell}
-use Rattle.tt_abs.specs.declared.cells.ZoneCell.TheVariants.{Zero, One, Either}
+use Rattle.tt_setting.specs.declared.zone.ZoneCell.{ZoneCell}
+use Rattle.tt_setting.specs.declared.zone.ZoneCell.TheVariants.{Zero, One, Either}
 use Rattle.tt_abs.specs.declared.state.State.{State}
 use Rattle.tt_abs.specs.CellOrders.{known_cells, known_zones}
 use Rattle.tt_abs.specs.Cells.{Cells}
-use Rattle.tt_abs.specs.Entries.{Ascends, listed}
-use Rattle.tt_abs.specs.EntryLaws.{listed-here, listed-there, number-above}
+use Rattle.tt_setting.specs.Entries.{Ascends, listed}
+use Rattle.tt_setting.specs.EntryLaws.{listed-here, listed-there, number-above}
 use Rattle.tt_abs.specs.GraphicsOrders.{graphics_order}
 use Rattle.tt_abs.specs.StateFlow.{FitsLimits, height_of}
 use Rattle.tt_abs.specs.Stacks.{known_count}

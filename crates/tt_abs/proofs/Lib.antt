@@ -1,4 +1,4 @@
-pub mod Reversed
+pub mod Firsts
 pub mod CodeLists
 pub mod CodedCells
 pub mod StackOrders
@@ -6,7 +6,6 @@ pub mod CoverageLemmas
 pub mod Fronts
 pub mod Told
 pub mod StackSteps
-pub mod EntryEdits
 pub mod Choosing
 pub mod Bests
 pub mod Machines
@@ -26,9 +25,6 @@ pub mod Pushes
 pub mod Steps
 pub mod StateCoverage
 pub mod EntriesInRange
-pub mod EntriesInTurn
-pub mod EntryMerge
-pub mod SameEntries
 pub mod RunningOnCells
 pub mod ExamplesAsCases
 pub mod ExamplesOfCells
@@ -36,7 +32,6 @@ pub mod ExamplesOfOtherCells
 pub mod RangesKept
 pub mod TakenLemmas
 pub mod PlainSteps
-pub mod TargetLemmas
 pub mod CalledLemmas
 pub mod Heights
 pub mod ListsKept

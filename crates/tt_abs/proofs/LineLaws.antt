@@ -10,7 +10,8 @@ use Rattle.tt_abs.specs.declared.state.State.{State}
 use Rattle.tt_abs.specs.Lines.{EndsAt, Precedes}
 use Rattle.tt_abs.specs.StateFlow.{Place, RefusesState}
 use Rattle.tt_abs.specs.States.{abstract_of}
-use Rattle.tt_abs.specs.Transfers.{instruction_of, performs_cells, outcome_on_cells}
+use Rattle.tt_setting.specs.Settings.{instruction_of}
+use Rattle.tt_abs.specs.Transfers.{performs_cells, outcome_on_cells}
 
 -- an instruction that isn't the first
 later : (is : List Instruction) (i : Instruction) (k : ℕ) (j : Instruction) → instruction_at (i ∷ is) (suc k) ≡ Some j → (length i ≤ suc k) × (instruction_at is (suc k - length i) ≡ Some j)

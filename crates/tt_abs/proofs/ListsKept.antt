@@ -30,12 +30,13 @@ use Rattle.tt_code.specs.declared.kinds.Control.{Control}
 use Rattle.tt_code.specs.declared.kinds.Control.TheVariants.{If, Else, Jump, JumpIfTrue, JumpIfFalse, Call, LoopCall, FunctionDefinition, EndFunction, InstructionDefinition}
 use Rattle.tt_abs.specs.declared.cells.Cell.{Cell}
 use Rattle.tt_abs.specs.declared.cells.Cell.TheVariants.{Known, Unknown}
-use Rattle.tt_abs.specs.declared.cells.ZoneCell.{ZoneCell}
+use Rattle.tt_setting.specs.declared.zone.ZoneCell.{ZoneCell}
 use Rattle.tt_abs.specs.Cells.{Abstract, Cells}
-use Rattle.tt_abs.specs.Entries.{with_entry}
-use Rattle.tt_abs.specs.StateFlow.{AreProgramsShort}
+use Rattle.tt_setting.specs.Entries.{with_entry}
+use Rattle.tt_setting.specs.Ranges.{AreProgramsShort}
 use Rattle.tt_abs.specs.Representation.Stored.{is_single, is_storage, is_storage_at, stores_tested, reads_tested}
-use Rattle.tt_abs.specs.Transfers.{Next, known, tested_cell, take_cell, take_cells, test_cell_uses, cells, index_in, leaves_cells, plain_cells, pushed_cells, shuffled_cells, of_one_cell, of_two_cells, computed_cells, one_way, two_ways, jump_target, jumps_cells, jumps_by, jumps_if_cells, if_ways, is_running, called_cell, enters_cells, loops_cells, returns_cells, controlled_cells, goes_on_cells, does_cells, are_within, within_cells, performs_cells, instruction_of, outcome_on_cells}
+use Rattle.tt_abs.specs.Transfers.{Next, known, tested_cell, take_cell, take_cells, test_cell_uses, cells, index_in, leaves_cells, plain_cells, pushed_cells, shuffled_cells, of_one_cell, of_two_cells, computed_cells, one_way, two_ways, jump_target, jumps_cells, jumps_by, jumps_if_cells, if_ways, is_running, called_cell, enters_cells, loops_cells, returns_cells, controlled_cells, goes_on_cells, does_cells, are_within, within_cells, performs_cells, outcome_on_cells}
+use Rattle.tt_setting.specs.Settings.{instruction_of}
 use Rattle.tt_abs.proofs.RangesKept.{Holds, holds_then, holds_any}
 use Rattle.tt_abs.proofs.TableRows.{rows_tested}
 

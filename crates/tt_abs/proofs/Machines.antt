@@ -12,7 +12,8 @@ use Rattle.tt_code.specs.Runs.{Choices, left_by}
 use Rattle.tt_code.specs.declared.machine.Frame.{Frame}
 use Rattle.tt_abs.specs.declared.cells.Cell.{Cell}
 use Rattle.tt_abs.specs.declared.cells.Cell.TheVariants.{Known, Unknown}
-use Rattle.tt_abs.specs.Cells.{Covers, CoversZone, CoversStack, CoversGraphics, CoversStorage, CoversState, CoversFunctions, Abstract, Numbers}
+use Rattle.tt_abs.specs.Cells.{Covers, CoversZone, CoversStack, CoversGraphics, CoversStorage, CoversState, Abstract, Numbers}
+use Rattle.tt_setting.specs.Functions.{CoversFunctions}
 use Rattle.tt_abs.specs.Covers.{IsBestFor, Stands, Becomes, Transfers}
 use Rattle.tt_abs.proofs.Choosing.{zero_is_number, one_is_number, some_covered, some_stack, some_graphics}
 use Rattle.tt_abs.proofs.Bests.{best_covers, best_least, zone_covers, zone_least, best_along, zone_along, best_self, zone_self, IsBestStack, AreBest, stack_covers, covered_length, covered_at}

@@ -18,8 +18,9 @@ use Rattle.tt_code.specs.declared.kinds.Control.TheVariants.{If, Else, Jump, Jum
 use Rattle.tt_abs.specs.declared.cells.Cell.{Cell}
 use Rattle.tt_abs.specs.declared.cells.Cell.TheVariants.{Known, Unknown}
 use Rattle.tt_abs.specs.Cells.{Abstract}
-use Rattle.tt_abs.specs.Entries.{with_entry}
-use Rattle.tt_abs.specs.Transfers.{Next, known, leaves_cells, plain_cells, pushed_cells, shuffled_cells, computed_cells, one_way, two_ways, jump_target, jumps_cells, jumps_by, jumps_if_cells, if_ways, is_running, called_cell, enters_cells, loops_cells, returns_cells, controlled_cells, goes_on_cells, does_cells, are_within, within_cells, performs_cells, instruction_of, outcome_on_cells}
+use Rattle.tt_setting.specs.Entries.{with_entry}
+use Rattle.tt_abs.specs.Transfers.{Next, known, leaves_cells, plain_cells, pushed_cells, shuffled_cells, computed_cells, one_way, two_ways, jump_target, jumps_cells, jumps_by, jumps_if_cells, if_ways, is_running, called_cell, enters_cells, loops_cells, returns_cells, controlled_cells, goes_on_cells, does_cells, are_within, within_cells, performs_cells, outcome_on_cells}
+use Rattle.tt_setting.specs.Settings.{instruction_of}
 use Rattle.tt_abs.proofs.RangesKept.{Holds, holds_then, holds_any}
 use Rattle.tt_abs.proofs.StateParts.{one_of_all}
 

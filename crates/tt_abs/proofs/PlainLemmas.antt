@@ -24,7 +24,8 @@ use Rattle.tt_abs.specs.declared.cells.Cell.TheVariants.{Known, Unknown}
 use Rattle.tt_abs.specs.Cells.{Abstract, Cells}
 use Rattle.tt_abs.specs.Covers.{IsBestFor, Transfers}
 use Rattle.tt_abs.proofs.Rows.{is_tested, is_single, is_known_at, is_readable, are_readable, is_readable_push, are_readable_pushes, is_readable_line}
-use Rattle.tt_abs.specs.Transfers.{tested_cell, take_cell, take_cells, test_cell_uses, plain_cells, leaves_cells, cells_pushed, cells_on, cells, index_in, is_point_in, is_below_in}
+use Rattle.tt_abs.specs.Transfers.{tested_cell, take_cell, take_cells, test_cell_uses, plain_cells, leaves_cells, cells_pushed, cells_on, cells, index_in, is_point_in}
+use Rattle.tt_setting.specs.Settings.{is_below_in}
 use Rattle.tt_abs.proofs.Takes.{Splits, StandsFor, TestStandsFor, operands_stand, uses_stand}
 use Rattle.tt_abs.proofs.Bests.{IsBestStack, covered_length, best_cons, best_drop, best_take, best_same, updates_best, Readable, AllReadable}
 use Rattle.tt_abs.proofs.Machines.{May, machine_with, machine_stands, some_area, area_covered, with_graphics, some_machine, may, zeros, choice_best, stack_best, registers_best, transfers_same}

@@ -34,10 +34,12 @@ use Rattle.tt_code.specs.declared.kinds.Control.{Control}
 use Rattle.tt_code.specs.declared.kinds.Control.TheVariants.{If, Else, Jump, JumpIfTrue, JumpIfFalse, Call, LoopCall, FunctionDefinition, EndFunction, InstructionDefinition}
 use Rattle.tt_abs.specs.declared.cells.Cell.{Cell}
 use Rattle.tt_abs.specs.declared.cells.Cell.TheVariants.{Known, Unknown}
-use Rattle.tt_abs.specs.declared.cells.ZoneCell.{ZoneCell}
+use Rattle.tt_setting.specs.declared.zone.ZoneCell.{ZoneCell}
 use Rattle.tt_abs.specs.Cells.{Abstract}
-use Rattle.tt_abs.specs.Ranges.{IsInRange, AreInRange, AreRegistersInRange, IsStateInRange, AreNextInRange, AreBytes, IsSettingInRange}
-use Rattle.tt_abs.specs.Transfers.{Next, known, take_cells, test_cell_uses, cells, index_in, cells_pushed, cells_on, leaves_cells, plain_cells, pushed_cells, shuffled_cells, exact_cell, truth_cell, only_if, of_known, of_both_known, lt_cells, le_cells, and_cells, or_cells, of_one_cell, of_two_cells, computed_cells, LEAST, GREATEST, one_way, two_ways, jump_target, jumps_cells, jumps_by, jumps_if_cells, if_ways, called_cell, is_running, enters_cells, loops_cells, returns_cells, controlled_cells, goes_on_cells, does_cells, are_within, within_cells, performs_cells, instruction_of, outcome_on_cells}
+use Rattle.tt_abs.specs.Ranges.{IsInRange, AreInRange, AreRegistersInRange, IsStateInRange, AreNextInRange}
+use Rattle.tt_setting.specs.Ranges.{AreBytes, IsSettingInRange}
+use Rattle.tt_abs.specs.Transfers.{Next, known, take_cells, test_cell_uses, cells, index_in, cells_pushed, cells_on, leaves_cells, plain_cells, pushed_cells, shuffled_cells, exact_cell, truth_cell, only_if, of_known, of_both_known, lt_cells, le_cells, and_cells, or_cells, of_one_cell, of_two_cells, computed_cells, LEAST, GREATEST, one_way, two_ways, jump_target, jumps_cells, jumps_by, jumps_if_cells, if_ways, called_cell, is_running, enters_cells, loops_cells, returns_cells, controlled_cells, goes_on_cells, does_cells, are_within, within_cells, performs_cells, outcome_on_cells}
+use Rattle.tt_setting.specs.Settings.{instruction_of}
 use Rattle.tt_abs.proofs.Choosing.{zero_is_number, one_is_number}
 use Rattle.tt_abs.proofs.Takes.{StandsFor, operands_stand}
 use Rattle.tt_abs.proofs.ArithmeticLemmas.{number_by_test}

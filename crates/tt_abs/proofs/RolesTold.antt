@@ -11,15 +11,16 @@ use Rattle.tt_code.specs.declared.kinds.Operand.{Operand}
 use Rattle.tt_code.specs.declared.kinds.Operand.TheVariants as operands
 use Rattle.tt_code.specs.declared.kinds.Within.{Within}
 use Rattle.tt_abs.specs.declared.cells.Cell.{Cell}
-use Rattle.tt_abs.specs.declared.failed.Role.{Role}
-use Rattle.tt_abs.specs.declared.setting.Point.{Point}
-use Rattle.tt_abs.specs.declared.setting.Setting.{Setting}
+use Rattle.tt_setting.specs.declared.failed.Role.{Role}
+use Rattle.tt_setting.specs.declared.setting.Point.{Point}
+use Rattle.tt_setting.specs.declared.setting.Setting.{Setting}
 use Rattle.tt_abs.specs.declared.state.State.{State}
-use Rattle.tt_abs.specs.declared.step_fault.StepFault.{StepFault}
+use Rattle.tt_setting.specs.declared.step_fault.StepFault.{StepFault}
 use Rattle.tt_abs.specs.Cells.{Cells}
 use Rattle.tt_abs.specs.Failures.{IsRoleAt, IsRoleIn, IsRoleInLine, Roles, every_other, role_in_operand}
-use Rattle.tt_abs.specs.Moves.{TellsOf, TellsWhatFails, point_instruction}
-use Rattle.tt_abs.specs.Settings.{frames_of, setting_of}
+use Rattle.tt_abs.specs.Moves.{TellsOf, TellsWhatFails}
+use Rattle.tt_setting.specs.Settings.{point_instruction}
+use Rattle.tt_setting.specs.Settings.{frames_of, setting_of}
 use Rattle.tt_abs.specs.States.{abstract_of}
 use Rattle.tt_abs.specs.Transfers.{take_cell, take_cells}
 use Rattle.tt_abs.specs.Representation.Steps.{TellsOfBytes}

@@ -12,8 +12,8 @@ use Rattle.tt_code.specs.declared.reason.Reason.TheVariants as reason
 use Rattle.tt_code.proofs.Running.{usual_limits, font_of, cut_of, cut_within, alone}
 use Rattle.tt_abs.specs.declared.cells.Cell.{Cell}
 use Rattle.tt_abs.specs.declared.cells.Cell.TheVariants.{Known, Unknown}
-use Rattle.tt_abs.specs.declared.cells.ZoneCell.{ZoneCell}
-use Rattle.tt_abs.specs.declared.cells.ZoneCell.TheVariants.{One}
+use Rattle.tt_setting.specs.declared.zone.ZoneCell.{ZoneCell}
+use Rattle.tt_setting.specs.declared.zone.ZoneCell.TheVariants.{One}
 use Rattle.tt_abs.specs.Cells.{Cells, Abstract}
 use Rattle.tt_abs.specs.Transfers.{Next, outcome_on_cells}
 

@@ -11,11 +11,13 @@ use Rattle.tt_code.specs.declared.reason.Reason.TheVariants as reason
 use Rattle.tt_abs.specs.declared.state.State.{State}
 use Rattle.tt_abs.specs.Cells.{Abstract, CoversGraphics, CoversStack, CoversState, Numbers}
 use Rattle.tt_abs.specs.Covers.{Becomes, Gives, Stands, StandsFor, has_body_twice}
-use Rattle.tt_abs.specs.Entries.{Ascends}
+use Rattle.tt_setting.specs.Entries.{Ascends}
 use Rattle.tt_abs.specs.Families.{IsGood}
-use Rattle.tt_abs.specs.Ranges.{IsSettingInRange}
-use Rattle.tt_abs.specs.Soundness.{StartsWith, IsCoveredBy, IsSafe}
-use Rattle.tt_abs.specs.StateFlow.{Place, GivesState, flow_of, AreProgramsShort}
+use Rattle.tt_setting.specs.Ranges.{IsSettingInRange}
+use Rattle.tt_setting.specs.Functions.{StartsWith}
+use Rattle.tt_abs.specs.Soundness.{IsCoveredBy, IsSafe}
+use Rattle.tt_abs.specs.StateFlow.{Place, GivesState, flow_of}
+use Rattle.tt_setting.specs.Ranges.{AreProgramsShort}
 use Rattle.tt_abs.specs.States.{abstract_of, default_cells, start_of, state_order}
 use Rattle.tt_abs.specs.Transfers.{Next, outcome_on_cells}
 use Rattle.tt_abs.proofs.Everything.{everything_stands, never_faults, steps_are_covered}

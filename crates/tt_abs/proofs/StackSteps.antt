@@ -7,11 +7,11 @@ use Rattle.tt_code.specs.declared.reason.Reason.TheVariants as reason
 use Rattle.tt_code.specs.declared.kinds.StackOp.TheVariants as op
 use Rattle.tt_code.specs.declared.kinds.Arithmetic.{Arithmetic}
 use Rattle.tt_code.specs.declared.kinds.Arithmetic.TheVariants.{Add, Sub, Abs, Neg, Lt, LtEq, Gt, GtEq, Eq, Neq, And, Or, Not}
-use Rattle.tt_abs.specs.Moves.{ForReason}
+use Rattle.tt_setting.specs.Refusals.{ForReason}
 use Rattle.tt_abs.specs.declared.cells.Cell.{Cell}
 use Rattle.tt_abs.specs.declared.cells.Cell.TheVariants.{Known}
-use Rattle.tt_abs.specs.declared.step_fault.StepFault.{StepFault}
-use Rattle.tt_abs.specs.declared.step_fault.StepFault.TheVariants.{Refused, OutOfMemory}
+use Rattle.tt_setting.specs.declared.step_fault.StepFault.{StepFault}
+use Rattle.tt_setting.specs.declared.step_fault.StepFault.TheVariants.{Refused, OutOfMemory}
 use Rattle.tt_abs.specs.Cells.{Abstract}
 use Rattle.tt_abs.specs.Stacks.{first}
 use Rattle.tt_abs.specs.Representation.Steps.{Restacks, RefusesStack, takes_one}

@@ -5,7 +5,7 @@ use Rattle.tt_code.specs.Settings.{ZoneNumber}
 use Rattle.tt_code.specs.States.{Machine}
 use Rattle.tt_abs.specs.declared.state.State.{State}
 use Rattle.tt_abs.specs.Cells.{Covers, CoversZone, Cells, Numbers, CoversGraphics, CoversState}
-use Rattle.tt_abs.specs.Entries.{storage_of}
+use Rattle.tt_abs.specs.StorageCells.{storage_of}
 use Rattle.tt_abs.specs.Representation.EntryCoverage.{functions_below_is_coverage, storage_below_is_coverage}
 use Rattle.tt_abs.specs.GraphicsOrders.{graphics_order}
 use Rattle.tt_abs.specs.States.{abstract_of, state_order}

@@ -12,16 +12,21 @@ use Rattle.tt_abs.specs.declared.cells.Cell.TheVariants.{Known, Unknown}
 use Rattle.tt_abs.specs.declared.state.State.{State}
 use Rattle.tt_abs.specs.CellOrders.{CellInRange}
 use Rattle.tt_abs.specs.Cells.{Abstract}
-use Rattle.tt_abs.specs.Entries.{Ascends, listed, with_entry, known_or_not, storage_of, with_cell}
-use Rattle.tt_abs.specs.Representation.EntryFacts.{listed-all, listed-with, storage-with_cell}
-use Rattle.tt_abs.specs.EntryLaws.{listed-here, listed-there, number-above, Ascends-filter, entry_laws}
-use Rattle.tt_abs.specs.EntryLists.{EntriesBelow}
-use Rattle.tt_abs.specs.Ranges.{IsInRange, AreInRange, IsStateInRange, IsSettingInRange}
-use Rattle.tt_abs.specs.StateFlow.{FunctionsFit, FitsLimits, AreProgramsShort}
+use Rattle.tt_setting.specs.Entries.{Ascends, listed, with_entry}
+use Rattle.tt_abs.specs.StorageCells.{known_or_not, storage_of, with_cell}
+use Rattle.tt_abs.specs.Representation.EntryFacts.{listed-all, storage-with_cell}
+use Rattle.tt_setting.specs.EntryLaws.{listed-with}
+use Rattle.tt_setting.specs.EntryLaws.{listed-here, listed-there, number-above, Ascends-filter}
+use Rattle.tt_abs.specs.EntryLaws.{entry_laws}
+use Rattle.tt_abs.specs.EntryOrders.{EntriesBelow}
+use Rattle.tt_abs.specs.Ranges.{IsInRange, AreInRange, IsStateInRange}
+use Rattle.tt_setting.specs.Ranges.{IsSettingInRange}
+use Rattle.tt_abs.specs.StateFlow.{FunctionsFit, FitsLimits}
+use Rattle.tt_setting.specs.Ranges.{AreProgramsShort}
 use Rattle.tt_abs.specs.Stacks.{StackInRange}
 use Rattle.tt_abs.specs.States.{abstract_of, state_order}
 use Rattle.tt_abs.specs.Transfers.{Next, outcome_on_cells}
-use Rattle.tt_abs.proofs.EntryEdits.{Ascends-with}
+use Rattle.tt_setting.proofs.EntryEdits.{Ascends-with}
 use Rattle.tt_abs.proofs.ListsKept.{DefinesAt, lists_kept, are_shallow}
 use Rattle.tt_abs.proofs.RangesKept.{keeps_range}
 

@@ -15,45 +15,34 @@ use Rattle.tt_code.specs.declared.machine.Body.TheVariants as body
 use Rattle.tt_code.specs.declared.machine.Frame.{Frame}
 use Rattle.tt_code.specs.declared.reason.Reason.{Reason}
 use Rattle.tt_code.specs.declared.reason.Reason.TheVariants as reason
-use Rattle.tt_abs.specs.declared.failed.Failed.{Failed}
-use Rattle.tt_abs.specs.declared.refusal.Refusal.{Refusal}
-use Rattle.tt_abs.specs.declared.spot.Spot.{Spot}
-use Rattle.tt_abs.specs.declared.step_fault.StepFault.{StepFault}
-use Rattle.tt_abs.specs.declared.step_fault.StepFault.TheVariants.{Refused, OutOfMemory}
+use Rattle.tt_setting.specs.declared.failed.Failed.{Failed}
+use Rattle.tt_setting.specs.declared.refusal.Refusal.{Refusal}
+use Rattle.tt_setting.specs.declared.spot.Spot.{Spot}
+use Rattle.tt_setting.specs.declared.step_fault.StepFault.{StepFault}
+use Rattle.tt_setting.specs.declared.step_fault.StepFault.TheVariants.{Refused, OutOfMemory}
 use Rattle.tt_abs.specs.declared.cells.Cell.{Cell}
 use Rattle.tt_abs.specs.declared.cells.Cell.TheVariants.{Known}
 use Rattle.tt_abs.specs.declared.state.State.{State}
 use Rattle.tt_abs.specs.declared.moves.Moves.{Moves}
 use Rattle.tt_abs.specs.declared.moves.Moves.TheVariants as moves
-use Rattle.tt_abs.specs.Failures.{reason_of}
-use Rattle.tt_abs.specs.Moves.{ForFailed, ForReason, nexts_of}
-use Rattle.tt_abs.specs.Refusals.{IsOfNoBudget, refusal_at}
+use Rattle.tt_setting.specs.Refusals.{reason_of}
+use Rattle.tt_setting.specs.Refusals.{ForFailed, ForReason}
+use Rattle.tt_abs.specs.Moves.{nexts_of}
+use Rattle.tt_setting.specs.Refusals.{IsOfNoBudget, refusal_at}
 use Rattle.tt_abs.specs.States.{abstract_of, state_order}
-use Rattle.tt_abs.specs.Entries.{Ascends}
-use Rattle.tt_abs.specs.Ranges.{AreNextInRange, IsStateInRange, IsSettingInRange}
+use Rattle.tt_setting.specs.Entries.{Ascends}
+use Rattle.tt_abs.specs.Ranges.{AreNextInRange, IsStateInRange}
+use Rattle.tt_setting.specs.Ranges.{IsSettingInRange}
 use Rattle.tt_abs.proofs.RangesKept.{keeps_range}
 use Rattle.tt_abs.proofs.StateParts.{abstract_in_range, state_in_range}
 use Rattle.tt_abs.specs.Cells.{Abstract}
-use Rattle.tt_abs.specs.Transfers.{Next, cells_on, pushed_cells, one_way, does_cells, goes_on_cells, performs_cells, within_cells, are_within, instruction_of, outcome_on_cells}
+use Rattle.tt_abs.specs.Transfers.{Next, cells_on, pushed_cells, one_way, does_cells, goes_on_cells, performs_cells, within_cells, are_within, outcome_on_cells}
+use Rattle.tt_setting.specs.Settings.{instruction_of}
 
 -- a refusal that is passed on
 pub passed_on : {A : Type 0} (r : Result A StepFault) (e : StepFault) (P : StepFault → Type 0) → P e → IsErrAnd r (λ x. x ≡ e) → IfErr r P
 passed_on (Ok a) e P h k = tt
 passed_on (Err x) e P h k = subst P (sym k) h
-
-pub for_reason : (e : StepFault) (P Q : Reason → Type 0) → ((r : Reason) → P r → Q r) → ForReason e P → ForReason e Q
-for_reason (Refused r) P Q f h = f (reason_of r) h
-for_reason (OutOfMemory m) P Q f h = tt
-
--- what is told of a failed test says why the program is refused
-pub failed_reason : (e : StepFault) (P : Failed → Type 0) (Q : Reason → Type 0) → ((f : Failed) → P f → Q (reason_of f)) → ForFailed e P → ForReason e Q
-failed_reason (Refused f) P Q h told = h f told
-failed_reason (OutOfMemory m) P Q h told = tt
-
--- the refusal of a step at a place is of no budget
-pub refused_within : (spot : Spot) (offset : ℕ) (e : StepFault) (fault : Refusal) → fault ≡ refusal_at spot offset e → IsOfNoBudget fault
-refused_within spot offset (Refused failed) fault is = let N : Refusal → Type 0 = λ x. IsOfNoBudget x in subst N (sym is) tt
-refused_within spot offset (OutOfMemory m) fault is = let N : Refusal → Type 0 = λ x. IsOfNoBudget x in subst N (sym is) tt
 
 pub first_code : (i : Instruction) (c code : ℕ) (rest : List ℕ) → code_of i ≡ Some c → i ≡ code ∷ rest → code ≡ c
 first_code [] c code rest e f = absurd (cc)

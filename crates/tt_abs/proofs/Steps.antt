@@ -21,7 +21,8 @@ use Rattle.tt_abs.specs.Cells.{Abstract, CoversState}
 use Rattle.tt_abs.specs.Ranges.{AreInRange}
 use Rattle.tt_abs.specs.Covers.{Stands, Becomes, TransfersTo}
 use Rattle.tt_abs.specs.Representation.Followed.{is_followed, is_followed_instruction}
-use Rattle.tt_abs.specs.Transfers.{Next, plain_cells, pushed_cells, shuffled_cells, computed_cells, does_cells, performs_cells, instruction_of, outcome_on_cells}
+use Rattle.tt_abs.specs.Transfers.{Next, plain_cells, pushed_cells, shuffled_cells, computed_cells, does_cells, performs_cells, outcome_on_cells}
+use Rattle.tt_setting.specs.Settings.{instruction_of}
 use Rattle.tt_abs.proofs.Rows.{is_readable_line}
 use Rattle.tt_abs.proofs.PlainLemmas.{plain_stands}
 use Rattle.tt_abs.proofs.TableRows.{rows_readable}

@@ -7,7 +7,7 @@ use Rattle.tt_code.specs.declared.kinds.Update.TheVariants as update
 use Rattle.tt_abs.specs.declared.state.State.{State}
 use Rattle.tt_abs.specs.Cells.{Abstract}
 use Rattle.tt_abs.specs.States.{abstract_of}
-use Rattle.tt_abs.specs.Entries.{with_cell}
+use Rattle.tt_abs.specs.StorageCells.{with_cell}
 use Rattle.tt_abs.specs.Representation.EntryFacts.{storage-with_cell}
 use Rattle.tt_abs.specs.Transfers.{cells, index_in}
 use Rattle.tt_abs.specs.declared.cells.Cell.{Cell}

@@ -17,10 +17,11 @@ use Rattle.tt_code.specs.declared.kinds.Pointer.{Pointer}
 use Rattle.tt_code.specs.declared.kinds.Pointer.TheVariants.{Zp2}
 use Rattle.tt_abs.specs.declared.cells.Cell.{Cell}
 use Rattle.tt_abs.specs.declared.cells.Cell.TheVariants.{Known, Unknown}
-use Rattle.tt_abs.specs.declared.cells.ZoneCell.{ZoneCell}
-use Rattle.tt_abs.specs.declared.cells.ZoneCell.TheVariants as zone
+use Rattle.tt_setting.specs.declared.zone.ZoneCell.{ZoneCell}
+use Rattle.tt_setting.specs.declared.zone.ZoneCell.TheVariants as zone
 use Rattle.tt_abs.specs.Cells.{Covers, CoversZone, CoversStack, Cells, Numbers, CoversGraphics}
-use Rattle.tt_abs.specs.Transfers.{known, is_below_in, is_point_in, tested_cell, known_count, take_cell, take_cells, test_cell_uses}
+use Rattle.tt_abs.specs.Transfers.{known, is_point_in, tested_cell, known_count, take_cell, take_cells, test_cell_uses}
+use Rattle.tt_setting.specs.Settings.{is_below_in}
 use Rattle.tt_abs.proofs.Choosing.{minus_one_is_number, some_stack, covers_append, same_below, some_graphics, choose_pointer, choose_reference, choose_loop, pointer_covered, reference_covered}
 
 -- what is taken from numbers is taken from a list: the numbers taken and those below are the list again, each covered

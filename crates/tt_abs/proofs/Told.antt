@@ -6,23 +6,25 @@ use Rattle.std.proofs.lemmas.Result.{IfErr-weaker}
 use Rattle.tt_code.specs.Computing.{element}
 use Rattle.tt_code.specs.declared.reason.Reason.TheVariants as reason
 use Rattle.tt_abs.specs.declared.cells.Cell.TheVariants as cell
-use Rattle.tt_abs.specs.declared.failed.Failed.TheVariants as failed
-use Rattle.tt_abs.specs.declared.failed.Role.{Role}
+use Rattle.tt_setting.specs.declared.failed.Failed.TheVariants as failed
+use Rattle.tt_setting.specs.declared.failed.Role.{Role}
 use Rattle.tt_abs.specs.declared.cells.Cell.{Cell}
-use Rattle.tt_abs.specs.declared.failed.Failed.{Failed}
+use Rattle.tt_setting.specs.declared.failed.Failed.{Failed}
 use Rattle.tt_code.specs.Settings.{Setting as SpecSetting}
 use Rattle.tt_code.specs.declared.kinds.Operand.{Operand}
 use Rattle.tt_code.specs.declared.kinds.Row.{Row}
 use Rattle.tt_code.specs.declared.machine.Frame.{Frame}
-use Rattle.tt_abs.specs.declared.setting.Point.{Point}
-use Rattle.tt_abs.specs.declared.setting.Setting.{Setting}
+use Rattle.tt_setting.specs.declared.setting.Point.{Point}
+use Rattle.tt_setting.specs.declared.setting.Setting.{Setting}
 use Rattle.tt_abs.specs.declared.state.State.{State}
-use Rattle.tt_abs.specs.declared.step_fault.StepFault.{StepFault}
-use Rattle.tt_abs.specs.declared.step_fault.StepFault.TheVariants.{Refused, OutOfMemory}
+use Rattle.tt_setting.specs.declared.step_fault.StepFault.{StepFault}
+use Rattle.tt_setting.specs.declared.step_fault.StepFault.TheVariants.{Refused, OutOfMemory}
 use Rattle.tt_abs.specs.Cells.{Abstract, Cells}
-use Rattle.tt_abs.specs.Failures.{IsOnTop, Roles, TellsWith, reason_of, role_in_operand}
-use Rattle.tt_abs.specs.Moves.{ForFailed, TellsOf}
-use Rattle.tt_abs.specs.Settings.{frames_of, setting_of}
+use Rattle.tt_abs.specs.Failures.{IsOnTop, Roles, TellsWith, role_in_operand}
+use Rattle.tt_setting.specs.Refusals.{reason_of}
+use Rattle.tt_setting.specs.Refusals.{ForFailed}
+use Rattle.tt_abs.specs.Moves.{TellsOf}
+use Rattle.tt_setting.specs.Settings.{frames_of, setting_of}
 use Rattle.tt_abs.specs.States.{abstract_of}
 use Rattle.tt_abs.specs.Representation.Steps.{IsRoleOfLine, TellsOfLine}
 use Rattle.tt_abs.specs.Representation.Taken.{IsNoRole, IsRole, IsRoleFrom, TellsOfGraphics, TellsOfGraphicsIn, TellsOfOperands, TellsOfStack, TellsOfStackAs, TellsOfStackIn}

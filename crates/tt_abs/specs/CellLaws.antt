@@ -3,8 +3,8 @@ use Rattle.std.specs.Prelude.{◌≡◌, ◌≤◌}
 use Rattle.std.proofs.Common.{refl, ◌∙◌, ap, arith}
 use Rattle.tt_abs.specs.declared.cells.Cell.{Cell}
 use Rattle.tt_abs.specs.declared.cells.Cell.TheVariants.{Known, Unknown}
-use Rattle.tt_abs.specs.declared.cells.ZoneCell.{ZoneCell}
-use Rattle.tt_abs.specs.declared.cells.ZoneCell.TheVariants.{Zero, One, Either}
+use Rattle.tt_setting.specs.declared.zone.ZoneCell.{ZoneCell}
+use Rattle.tt_setting.specs.declared.zone.ZoneCell.TheVariants.{Zero, One, Either}
 use Rattle.tt_abs.specs.Orders.{OrderLaws}
 use Rattle.tt_abs.specs.CellOrders.{CellBelow, known_cells, ZoneBelow, known_zones, cell_order, zone_order}
 

@@ -6,8 +6,8 @@ use Rattle.tt_code.specs.Control.{body_named}
 use Rattle.tt_code.specs.declared.machine.Graphics.{Graphics}
 use Rattle.tt_abs.specs.declared.cells.Cell.{Cell}
 use Rattle.tt_abs.specs.declared.cells.Cell.TheVariants.{Known, Unknown}
-use Rattle.tt_abs.specs.declared.cells.ZoneCell.{ZoneCell}
-use Rattle.tt_abs.specs.declared.cells.ZoneCell.TheVariants as zone
+use Rattle.tt_setting.specs.declared.zone.ZoneCell.{ZoneCell}
+use Rattle.tt_setting.specs.declared.zone.ZoneCell.TheVariants as zone
 
 -- the cell covers the number
 abbrev pub Covers : Cell → ℤ → Type 0
@@ -50,11 +50,6 @@ pub record CoversGraphics (a : Cells) (g : Numbers) : Type 0 where
 -- each cell covers what is stored at its index
 abbrev pub CoversStorage : (ℕ → Cell) → (ℕ → ℤ) → Type 0
 CoversStorage cells area = (i : ℕ) → Covers (cells i) (area i)
-
--- each function that is listed is defined, with the body that is listed; others may be anything
-abbrev pub CoversFunctions : List (ℕ × ℕ) → List (ℕ × ℕ) → Type 0
-CoversFunctions listed functions =
-    (n body : ℕ) → body_named listed n ≡ Some body → body_named functions n ≡ Some body
 
 -- An abstract state: what is known of a machine state, except for where it is and its calls.
 pub record Abstract : Type 0 where

@@ -24,45 +24,17 @@ use Rattle.tt_code.specs.declared.reason.Reason.{Reason}
 use Rattle.tt_code.specs.declared.reason.Reason.TheVariants as reason
 use Rattle.tt_abs.specs.declared.cells.Cell.{Cell}
 use Rattle.tt_abs.specs.declared.cells.Cell.TheVariants as cell
-use Rattle.tt_abs.specs.declared.cells.ZoneCell.{ZoneCell}
-use Rattle.tt_abs.specs.declared.cells.ZoneCell.TheVariants as zone
-use Rattle.tt_abs.specs.declared.failed.Failed.{Failed}
-use Rattle.tt_abs.specs.declared.failed.Failed.TheVariants.{Only, TooFew, NoElement, TooDeep, Unknown, UnknownIn, NoPoint, NoReferencePoint, NoControlValue, NoStorageCell, NoZone, NoContour, NegativeCount, NegativeLoop, LowIndex, NoTarget, NoFunction, Undefined, Running, OtherDepth}
-use Rattle.tt_abs.specs.declared.failed.Register.{Register}
-use Rattle.tt_abs.specs.declared.failed.Register.TheVariants as register
-use Rattle.tt_abs.specs.declared.failed.Role.{Role}
-use Rattle.tt_abs.specs.declared.failed.Role.TheVariants as role
+use Rattle.tt_setting.specs.declared.zone.ZoneCell.{ZoneCell}
+use Rattle.tt_setting.specs.declared.zone.ZoneCell.TheVariants as zone
+use Rattle.tt_setting.specs.declared.failed.Failed.{Failed}
+use Rattle.tt_setting.specs.declared.failed.Failed.TheVariants.{Only, TooFew, NoElement, TooDeep, Unknown, UnknownIn, NoPoint, NoReferencePoint, NoControlValue, NoStorageCell, NoZone, NoContour, NegativeCount, NegativeLoop, LowIndex, NoTarget, NoFunction, Undefined, Running, OtherDepth}
+use Rattle.tt_setting.specs.declared.failed.Register.{Register}
+use Rattle.tt_setting.specs.declared.failed.Register.TheVariants as register
+use Rattle.tt_setting.specs.declared.failed.Role.{Role}
+use Rattle.tt_setting.specs.declared.failed.Role.TheVariants as role
 use Rattle.tt_abs.specs.Cells.{Abstract, Cells}
-use Rattle.tt_abs.specs.Transfers.{instruction_of, is_below_in, is_running, take_cells}
-
--- the reason for which a program is refused where this test fails
-abbrev pub reason_of : Failed → Reason
-reason_of (Only r) = r
-reason_of (TooFew depth) = reason.Underflow
-reason_of (NoElement index) = reason.Underflow
-reason_of (TooDeep depth) = reason.Overflow
-reason_of (Unknown role under) = reason.UnknownOperand
-reason_of (UnknownIn register) = reason.UnknownOperand
-reason_of (NoPoint z number) = reason.Point
-reason_of (NoReferencePoint register z number) = reason.Point
-reason_of (NoControlValue index) = reason.Cvt
-reason_of (NoStorageCell index) = reason.Storage
-reason_of (NoZone number) = reason.Zone
-reason_of (NoContour z number) = reason.Contour
-reason_of (NegativeCount count) = reason.Count
-reason_of (NegativeLoop count) = reason.Count
-reason_of (LowIndex index) = reason.Count
-reason_of (NoTarget by) = reason.Target
-reason_of (NoFunction number) = reason.Function
-reason_of (Undefined number) = reason.Function
-reason_of (Running number) = reason.Recursion
-reason_of (OtherDepth depth) = reason.DepthMismatch
-
--- a reference point as a number of the graphics state
-abbrev pub register_of : Reference → Register
-register_of reference.Rp0 = register.Rp0
-register_of reference.Rp1 = register.Rp1
-register_of reference.Rp2 = register.Rp2
+use Rattle.tt_setting.specs.Settings.{instruction_of, is_below_in}
+use Rattle.tt_abs.specs.Transfers.{is_running, take_cells}
 
 -- what is known of a number of the graphics state
 abbrev pub cell_in : Register → Cells → Cell

@@ -6,7 +6,7 @@ use Rattle.tt_code.specs.Cut.{IsInstruction}
 use Rattle.tt_code.specs.Grammar.{IsStructured}
 use Rattle.tt_code.specs.Settings.{Setting, Kind, FontProgram, CvtProgram, GlyphProgram, CVT_BODIES}
 use Rattle.tt_code.specs.Structure.{after_fdef}
-use Rattle.tt_abs.specs.Entries.{listed}
+use Rattle.tt_setting.specs.Entries.{listed}
 
 -- the name of the body of a function of the font program or of the CVT program: it begins after an
 -- FDEF, which has its ENDF

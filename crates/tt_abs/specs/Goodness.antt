@@ -10,11 +10,14 @@ use Rattle.tt_abs.specs.declared.state.State.{State}
 use Rattle.tt_abs.specs.Contexts.{FramesFit}
 use Rattle.tt_abs.specs.Cells.{Abstract}
 use Rattle.tt_abs.specs.Covers.{IsRefused, MOST_CONTEXTS, StandsFor, has_body_twice}
-use Rattle.tt_abs.specs.Entries.{Ascends}
+use Rattle.tt_setting.specs.Entries.{Ascends}
 use Rattle.tt_abs.specs.Families.{IsFamilyInRange, IsGood}
-use Rattle.tt_abs.specs.Ranges.{AreInRange, IsSettingInRange}
-use Rattle.tt_abs.specs.Soundness.{IsCoveredBy, IsSafe, StartsWith}
-use Rattle.tt_abs.specs.StateFlow.{AreProgramsShort, Place, flow_of}
+use Rattle.tt_abs.specs.Ranges.{AreInRange}
+use Rattle.tt_setting.specs.Ranges.{IsSettingInRange}
+use Rattle.tt_abs.specs.Soundness.{IsCoveredBy, IsSafe}
+use Rattle.tt_setting.specs.Functions.{StartsWith}
+use Rattle.tt_setting.specs.Ranges.{AreProgramsShort}
+use Rattle.tt_abs.specs.StateFlow.{Place, flow_of}
 use Rattle.tt_abs.specs.States.{state_order}
 use Rattle.tt_abs.specs.Transfers.{outcome_on_cells}
 

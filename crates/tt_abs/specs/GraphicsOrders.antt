@@ -1,7 +1,7 @@
 -- The order of graphics states of cells: part by part.
 use Rattle.std.proofs.Common.{refl}
 use Rattle.tt_abs.specs.declared.cells.Cell.{Cell}
-use Rattle.tt_abs.specs.declared.cells.ZoneCell.{ZoneCell}
+use Rattle.tt_setting.specs.declared.zone.ZoneCell.{ZoneCell}
 use Rattle.tt_abs.specs.Orders.{Order, OrderLaws}
 use Rattle.tt_abs.specs.Cells.{Cells}
 use Rattle.tt_abs.specs.CellOrders.{cell_order, zone_order}

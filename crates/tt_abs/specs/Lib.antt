@@ -1,12 +1,9 @@
 pub mod Orders
 pub mod Cells
-pub mod Entries
+pub mod StorageCells
 pub mod Transfers
 pub mod Covers
 pub mod Registers
-pub mod Settings
-pub mod Spots
-pub mod Refusals
 pub mod Successors
 pub mod Stacks
 pub mod Failures
@@ -18,7 +15,7 @@ pub mod Products
 pub mod Coverage
 pub mod GraphicsOrders
 pub mod States
-pub mod EntryLists
+pub mod EntryOrders
 pub mod EntryLaws
 pub mod Ranges
 pub mod Flows

@@ -4,7 +4,7 @@ use Rattle.std.specs.Prelude.{◌≡◌, ℕ, ◌+◌, ◌<◌, Some, false, len
 use Rattle.tt_code.specs.Cut.{Instruction}
 use Rattle.tt_code.specs.Settings.{Setting, is_main_end}
 use Rattle.tt_abs.specs.StateFlow.{Place}
-use Rattle.tt_abs.specs.Transfers.{instruction_of}
+use Rattle.tt_setting.specs.Settings.{instruction_of}
 
 -- the instruction at the place, which has at least one byte, ends at the offset
 pub record EndsAt (s : Setting) (p : Place) (end : ℕ) : Type 0 where

@@ -11,18 +11,20 @@ use Rattle.tt_abs.specs.declared.moves.Moves.{Moves}
 use Rattle.tt_abs.specs.declared.moves.Moves.TheVariants as moves
 use Rattle.tt_code.specs.declared.kinds.Control.{Control}
 use Rattle.tt_code.specs.declared.reason.Reason.{Reason}
-use Rattle.tt_abs.specs.declared.failed.Failed.{Failed}
-use Rattle.tt_abs.specs.declared.step_fault.StepFault.{StepFault}
-use Rattle.tt_abs.specs.declared.step_fault.StepFault.TheVariants.{Refused, OutOfMemory}
-use Rattle.tt_abs.specs.declared.setting.Setting.{Setting}
-use Rattle.tt_abs.specs.declared.setting.Point.{Point}
+use Rattle.tt_setting.specs.declared.failed.Failed.{Failed}
+use Rattle.tt_setting.specs.declared.step_fault.StepFault.{StepFault}
+use Rattle.tt_setting.specs.declared.step_fault.StepFault.TheVariants.{Refused, OutOfMemory}
+use Rattle.tt_setting.specs.declared.setting.Setting.{Setting}
+use Rattle.tt_setting.specs.declared.setting.Point.{Point}
 use Rattle.tt_abs.specs.declared.state.State.{State}
 use Rattle.tt_abs.specs.Cells.{Abstract}
 use Rattle.tt_abs.specs.Covers.{Gives, IsRefused}
-use Rattle.tt_abs.specs.Failures.{IsRoleAt, Roles, TellsWith, reason_of}
-use Rattle.tt_abs.specs.Settings.{setting_of, frames_of}
+use Rattle.tt_abs.specs.Failures.{IsRoleAt, Roles, TellsWith}
+use Rattle.tt_setting.specs.Refusals.{reason_of}
+use Rattle.tt_setting.specs.Settings.{setting_of, frames_of}
 use Rattle.tt_abs.specs.States.{abstract_of}
-use Rattle.tt_abs.specs.Transfers.{Next, controlled_cells, instruction_of, outcome_on_cells}
+use Rattle.tt_abs.specs.Transfers.{Next, controlled_cells, outcome_on_cells}
+use Rattle.tt_setting.specs.Settings.{instruction_of}
 
 -- the calls after a move, the innermost first
 abbrev pub frames_after : List Frame → Move → List Frame
@@ -58,16 +60,6 @@ nexts_of fs moves a = map (next_by fs a) (ways_of moves)
 
 -- What the code's settings, points and states say of an instruction at its place.
 
--- an instruction of the point's body starts there
-abbrev pub StartsAt : Setting → Point → Type 0
-StartsAt setting point =
-    starts_in_body (setting_of setting) (frames_of point) point.offset ≡ true
-
--- the instruction of the point's body that starts there
-abbrev pub point_instruction : Setting → Point → Option Instruction
-point_instruction setting point =
-    instruction_of (setting_of setting) (frames_of point) point.offset
-
 -- what the instruction there makes of the state
 abbrev pub outcome_at : Setting → Point → State → Tested (List Next)
 outcome_at setting point state =
@@ -81,16 +73,6 @@ control_at setting point state op =
 -- the outcome leads by these moves, with this state left
 abbrev pub LeadsBy : Point → Tested (List Next) → Moves → State → Type 0
 LeadsBy point outcome moves new = outcome ≡ Ok (nexts_of (frames_of point) moves (abstract_of new))
-
--- what holds of the test that fails; where memory ran out, nothing has to hold
-abbrev pub ForFailed : StepFault → (Failed → Type 0) → Type 0
-ForFailed (Refused f) P = P f
-ForFailed (OutOfMemory e) P = Unit {0}
-
--- what holds of its reason
-abbrev pub ForReason : StepFault → (Reason → Type 0) → Type 0
-ForReason (Refused f) P = P (reason_of f)
-ForReason (OutOfMemory e) P = Unit {0}
 
 -- the outcome is refused for this reason
 abbrev pub IsRefusedFor : {A : Type 0} → Tested A → StepFault → Type 0

@@ -6,7 +6,7 @@ use Rattle.tt_code.specs.Settings.{Setting}
 use Rattle.tt_code.specs.States.{IsNumber, Registers}
 use Rattle.tt_abs.specs.declared.cells.Cell.{Cell}
 use Rattle.tt_abs.specs.declared.cells.Cell.TheVariants.{Known, Unknown}
-use Rattle.tt_abs.specs.declared.cells.ZoneCell.{ZoneCell}
+use Rattle.tt_setting.specs.declared.zone.ZoneCell.{ZoneCell}
 use Rattle.tt_abs.specs.Cells.{Abstract}
 use Rattle.tt_abs.specs.Transfers.{Next}
 
@@ -36,14 +36,3 @@ pub record IsStateInRange (a : Abstract) : Type 0 where
 -- each of the next abstract states is in range
 abbrev pub AreNextInRange : List Next → Type 0
 AreNextInRange nexts = AllByRecursion (λ n. IsStateInRange n.state) nexts
-
--- each byte is below 256
-abbrev pub AreBytes : List ℕ → Type 0
-AreBytes bytes = AllByRecursion (λ b. b < 256) bytes
-
--- each program consists of bytes, and maxStackElements is a number of 16 bits
-pub record IsSettingInRange (s : Setting) : Type 0 where
-  pub depth : s.limits.stack < 2 ^ 16
-  pub main : AllByRecursion AreBytes s.main
-  pub font : AllByRecursion AreBytes s.font
-  pub prep : AllByRecursion AreBytes s.prep

@@ -5,15 +5,10 @@ use Rattle.tt_code.specs.Settings.{Setting}
 use Rattle.tt_code.specs.States.{Machine}
 use Rattle.tt_code.specs.declared.reason.Reason.{Reason}
 use Rattle.tt_abs.specs.declared.state.State.{State}
-use Rattle.tt_abs.specs.Cells.{CoversFunctions, CoversState}
+use Rattle.tt_setting.specs.Functions.{CoversFunctions}
+use Rattle.tt_abs.specs.Cells.{CoversState}
 use Rattle.tt_abs.specs.StateFlow.{Place}
 use Rattle.tt_abs.specs.States.{abstract_of}
-
--- the machine is one with which a program starts, and each of these functions is defined in it,
--- with its body
-pub record StartsWith (functions : List (ℕ × ℕ)) (m : Machine) : Type 0 where
-  pub fresh : IsFresh m
-  pub defined : CoversFunctions functions m.functions
 
 -- the family's state at the machine's place covers it
 abbrev pub IsCoveredBy : (Place → Option State) → Machine → Type 0

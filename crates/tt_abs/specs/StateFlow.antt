@@ -7,10 +7,10 @@ use Rattle.tt_code.specs.Settings.{Setting, is_main_end}
 use Rattle.tt_code.specs.declared.machine.Frame.{Frame}
 use Rattle.tt_code.specs.declared.reason.Reason.{Reason}
 use Rattle.tt_abs.specs.declared.state.State.{State}
-use Rattle.tt_abs.specs.Entries.{Ascends, listed}
+use Rattle.tt_setting.specs.Entries.{Ascends, listed}
 use Rattle.tt_abs.specs.Flows.{Flow, FlowLaws}
 use Rattle.tt_abs.specs.Contexts.{FramesFit}
-use Rattle.tt_abs.specs.Ranges.{IsSettingInRange}
+use Rattle.tt_setting.specs.Ranges.{IsSettingInRange}
 use Rattle.tt_abs.specs.States.{abstract_of, start_of, state_order}
 use Rattle.tt_abs.specs.Transfers.{Next, outcome_on_cells}
 
@@ -80,12 +80,6 @@ flow_of s functions = record {
 -- stack and of the storage area, and once for each function
 abbrev pub height_of : Setting → ℕ
 height_of s = 7 + s.limits.stack + s.limits.functions + s.limits.storage
-
--- each program has fewer than 2^31 bytes
-pub record AreProgramsShort (s : Setting) : Type 0 where
-  pub main : size s.main < 2 ^ 31
-  pub font : size s.font < 2 ^ 31
-  pub prep : size s.prep < 2 ^ 31
 
 -- the laws of the flow, of each setting in range whose programs are short, and of each list of
 -- functions that are within the font's limits, in ascending order of their numbers

@@ -4,15 +4,15 @@ use Rattle.std.proofs.Common.{refl}
 use Rattle.tt_code.specs.States.{IsNumber}
 use Rattle.tt_abs.specs.declared.cells.Cell.{Cell}
 use Rattle.tt_abs.specs.declared.cells.Cell.TheVariants.{Known}
-use Rattle.tt_abs.specs.declared.cells.ZoneCell.TheVariants.{One}
+use Rattle.tt_setting.specs.declared.zone.ZoneCell.TheVariants.{One}
 use Rattle.tt_abs.specs.declared.state.State.{State}
 use Rattle.tt_abs.specs.Orders.{Order, OrderLaws, IsLeastAbove}
 use Rattle.tt_abs.specs.Cells.{Cells, Abstract}
-use Rattle.tt_abs.specs.Entries.{storage_of}
+use Rattle.tt_abs.specs.StorageCells.{storage_of}
 use Rattle.tt_abs.specs.Stacks.{stack_order}
 use Rattle.tt_abs.specs.StackLaws.{stack_laws}
 use Rattle.tt_abs.specs.GraphicsOrders.{graphics_order, graphics_laws}
-use Rattle.tt_abs.specs.EntryLists.{entry_order}
+use Rattle.tt_abs.specs.EntryOrders.{entry_order}
 use Rattle.tt_abs.specs.EntryLaws.{entry_laws}
 use Rattle.tt_abs.specs.Products.{product, product_laws, product_least, along, along_laws, along_least}
 

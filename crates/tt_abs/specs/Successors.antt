@@ -3,19 +3,20 @@ use Rattle.std.specs.Prelude.{◌≡◌, List, [], ◌∷◌, Err, Ok}
 use Rattle.tt_code.specs.Runs.{outcome}
 use Rattle.tt_code.specs.declared.machine.Frame.{Frame}
 use Rattle.tt_code.specs.declared.reason.Reason.{Reason}
-use Rattle.tt_abs.specs.declared.refusal.Refusal.{Refusal}
-use Rattle.tt_abs.specs.declared.refusal.Refusal.TheVariants.{Refused, Exhausted}
-use Rattle.tt_abs.specs.declared.setting.Setting.{Setting}
-use Rattle.tt_abs.specs.declared.setting.Point.{Point}
+use Rattle.tt_setting.specs.declared.refusal.Refusal.{Refusal}
+use Rattle.tt_setting.specs.declared.refusal.Refusal.TheVariants.{Refused, Exhausted}
+use Rattle.tt_setting.specs.declared.setting.Setting.{Setting}
+use Rattle.tt_setting.specs.declared.setting.Point.{Point}
 use Rattle.tt_abs.specs.declared.state.State.{State}
 use Rattle.tt_abs.specs.declared.successors.Successor.{Successor}
 use Rattle.tt_abs.specs.declared.successors.Successors.{Successors}
 use Rattle.tt_abs.specs.declared.successors.Successors.TheVariants.{One, Two}
 use Rattle.tt_abs.specs.Covers.{Gives, IsRefused}
-use Rattle.tt_abs.specs.Failures.{IsTold, reason_of}
+use Rattle.tt_abs.specs.Failures.{IsTold}
+use Rattle.tt_setting.specs.Refusals.{reason_of}
 use Rattle.tt_abs.specs.Moves.{next_by, outcome_at}
-use Rattle.tt_abs.specs.Settings.{setting_of, frames_of}
-use Rattle.tt_abs.specs.Spots.{spot_of}
+use Rattle.tt_setting.specs.Settings.{setting_of, frames_of}
+use Rattle.tt_setting.specs.Spots.{spot_of}
 use Rattle.tt_abs.specs.States.{abstract_of, state_order}
 use Rattle.tt_abs.specs.Transfers.{Next}
 

@@ -32,10 +32,10 @@ use Rattle.tt_code.specs.declared.kinds.Control.{Control}
 use Rattle.tt_code.specs.declared.kinds.Control.TheVariants.{If, Else, Jump, JumpIfTrue, JumpIfFalse, Call, LoopCall, FunctionDefinition, EndFunction, InstructionDefinition}
 use Rattle.tt_abs.specs.declared.cells.Cell.{Cell}
 use Rattle.tt_abs.specs.declared.cells.Cell.TheVariants.{Known, Unknown}
-use Rattle.tt_abs.specs.declared.cells.ZoneCell.{ZoneCell}
-use Rattle.tt_abs.specs.declared.cells.ZoneCell.TheVariants as zone
+use Rattle.tt_setting.specs.declared.zone.ZoneCell.{ZoneCell}
+use Rattle.tt_setting.specs.declared.zone.ZoneCell.TheVariants as zone
 use Rattle.tt_abs.specs.Cells.{Cells, Abstract}
-use Rattle.tt_abs.specs.Entries.{with_entry}
+use Rattle.tt_setting.specs.Entries.{with_entry}
 
 -- Operands.
 
@@ -43,12 +43,6 @@ use Rattle.tt_abs.specs.Entries.{with_entry}
 abbrev pub known : Cell → Tested ℤ
 known (Known k) = Ok k
 known Unknown = Err reason.UnknownOperand
-
--- whether the number is below the bound in each zone that the pointer may name
-abbrev pub is_below_in : (ZoneNumber → ℕ) → ZoneCell → ℤ → Bool
-is_below_in bound zone.Zero z = is_below z (bound Zero)
-is_below_in bound zone.One z = is_below z (bound One)
-is_below_in bound zone.Either z = is_below z (bound Zero) && is_below z (bound One)
 
 -- whether the number names a point in each zone in which it is tested, whichever zones the pointers
 -- name
@@ -453,11 +447,6 @@ performs_cells s fs at a None = Err reason.Target
 performs_cells s fs at a (Some []) = Err reason.Target
 performs_cells s fs at a (Some (code ∷ rest)) =
     does_cells s fs at a (effect_of code) rest (at + suc (length rest)) >>= within_cells s
-
--- the instruction of the frames' body that starts at the offset
-abbrev pub instruction_of : Setting → List Frame → ℕ → Option Instruction
-instruction_of s fs at =
-    if starts_in_body s fs at then instruction_at (program_of s fs) at else None
 
 -- what an abstract state becomes at a place, or the reason of the first test that fails
 unfoldable pub outcome_on_cells : Setting → List Frame → ℕ → Abstract → Tested (List Next)

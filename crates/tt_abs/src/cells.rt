@@ -7,6 +7,7 @@ ghost use Rattle.tt_abs.specs.CellOrders.{cell_order, zone_order};
 use crate::order::{DepthMismatch, Order};
 use std::alloc::Global;
 use std::default::MadeWith;
+use tt_setting::ZoneCell;
 
 /// What is known of a number: the number itself, or nothing.
 #[derive(Clone, Copy, Debug, PartialEq, Eq)]
@@ -15,17 +16,6 @@ pub enum Cell {
     Known(i32),
     /// Any number of the machine.
     Unknown,
-}
-
-/// What is known of a zone pointer.
-#[derive(Clone, Copy, Debug, PartialEq, Eq)]
-pub enum ZoneCell {
-    /// The twilight zone.
-    Zero,
-    /// The glyph zone.
-    One,
-    /// One of the two; it isn't known which.
-    Either,
 }
 
 impl MadeWith<Global> for Cell {
@@ -74,24 +64,11 @@ impl Order for Cell {
     ghost laws = { cell_laws };
 }
 
-impl ZoneCell {
-    /// Whether the two are the same.
-    pub(crate) fn is_same(self, other: ZoneCell) -> bool
-        ensures { IsTrue result ↔ (self ≡ other) }
-    {
-        self == other
-    }
-
-    /// Returns the least zone cell above both.
-    pub fn joined(self, other: ZoneCell) -> ZoneCell
-        ensures { IsLeastAbove zone_order self other result }
-    {
-        if self == other {
-            self
-        } else {
-            ZoneCell::Either
-        }
-    }
+/// Returns the least zone cell above both.
+pub fn joined_zones(one: ZoneCell, other: ZoneCell) -> ZoneCell
+    ensures { IsLeastAbove zone_order one other result }
+{
+    if one == other { one } else { ZoneCell::Either }
 }
 
 impl Order for ZoneCell {

@@ -7,13 +7,13 @@ ghost use Rattle.tt_abs.specs.Representation.Stored.{AreIndexed, AreIndexedPushe
 ghost use Rattle.tt_abs.specs.Transfers.{index_in, zone_in};
 ghost use Rattle.tt_abs.specs.declared.cells.Cell.TheVariants.{Known};
 
-use crate::cells::{Cell, ZoneCell};
-use crate::registers::{reference, set_pointer, set_reference};
+use crate::cells::Cell;
 use crate::stack::Stack;
 use crate::state::State;
 use smallvec::SmallVec;
 use std::alloc::{AllocError, Global};
 use tt_code::kinds::{NewNumber, Pushed, Update};
+use tt_setting::ZoneCell;
 
 /// What a line pushes: at most two cells.
 pub type PushedCells = SmallVec<Cell, 2>;
@@ -64,13 +64,13 @@ fn update(state: &mut State, count: usize, change: Update) -> Result<(), AllocEr
         Update::SetReference(r, source) => {
             let cell = match source {
                 NewNumber::Taken(position) => taken(&state.stack, count, position),
-                NewNumber::Same(q) => reference(&state.graphics, q),
+                NewNumber::Same(q) => state.graphics.reference(q),
             };
-            set_reference(&mut state.graphics, r, cell);
+            state.graphics.set_reference(r, cell);
         }
         Update::SetPointer(p, position) => {
             let zone = zone_of(taken(&state.stack, count, position));
-            set_pointer(&mut state.graphics, p, zone);
+            state.graphics.set_pointer(p, zone);
         }
         Update::SetLoop(position) => {
             state.graphics.loop_number = taken(&state.stack, count, position);

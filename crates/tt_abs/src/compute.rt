@@ -2,7 +2,7 @@
 
 ghost use Rattle.std.specs.Prelude.{◌≡◌, IfErr, OnOk};
 ghost use Rattle.tt_abs.specs.Representation.Computes.{one_computed, two_computed, one_result, two_results};
-ghost use Rattle.tt_abs.specs.Moves.{ForFailed};
+ghost use Rattle.tt_setting.specs.Refusals.{ForFailed};
 ghost use Rattle.tt_abs.specs.Representation.Taken.{TellsOfStack};
 ghost use Rattle.tt_abs.specs.Representation.Steps.{IsStackRefusedFor, Restacks, takes_one};
 ghost use Rattle.tt_abs.specs.Transfers.{computed_cells};
@@ -11,8 +11,8 @@ use crate::arithmetic;
 use crate::cells::Cell;
 use crate::shuffle::cell_under;
 use crate::stack::Stack;
-use crate::step_fault::StepFault;
 use tt_code::kinds::Arithmetic;
+use tt_setting::StepFault;
 
 /// Whether the instruction takes only one operand.
 fn is_of_one(operation: Arithmetic) -> bool

@@ -6,9 +6,10 @@ ghost use Rattle.tt_code.specs.Control.{body_named};
 ghost use Rattle.tt_code.specs.declared.kinds.Control.TheVariants as control;
 ghost use Rattle.tt_code.specs.declared.reason.Reason.TheVariants as reason;
 ghost use Rattle.tt_abs.specs.declared.cells.Cell.TheVariants.{Known};
-ghost use Rattle.tt_abs.specs.declared.failed.Failed.TheVariants.{Only, TooDeep};
-ghost use Rattle.tt_abs.specs.declared.failed.Role.TheVariants as roles;
-ghost use Rattle.tt_abs.specs.Failures.{IsRoleOfControl, reason_of};
+ghost use Rattle.tt_setting.specs.declared.failed.Failed.TheVariants.{Only, TooDeep};
+ghost use Rattle.tt_setting.specs.declared.failed.Role.TheVariants as roles;
+ghost use Rattle.tt_abs.specs.Failures.{IsRoleOfControl};
+ghost use Rattle.tt_setting.specs.Refusals.{reason_of};
 ghost use Rattle.tt_abs.specs.Moves.{ControlsTo, IsControlRefusedFor, IsRefusedFor, LeadsBy, TellsOf};
 ghost use Rattle.tt_abs.specs.Representation.Steps.{JumpsNowhere, JumpsTo, Leads, LeadsNowhere, TellsOfCall, TellsOfEntry, TellsOfJump, called_at, enter_at, if_at, jump_at, jump_if_at, loop_at};
 ghost use Rattle.tt_abs.specs.Representation.Taken.{IsRole};
@@ -16,15 +17,14 @@ ghost use Rattle.tt_abs.specs.Transfers.{is_running as runs_already};
 
 use crate::arithmetic::is_true;
 use crate::cells::Cell;
-use crate::failed::{Failed, Role};
 use crate::moves::{Move, Moves};
 use crate::operands::number;
-use crate::setting::{Point, Setting, is_index};
 use crate::shuffle::cell_under;
 use crate::state::State;
-use crate::step_fault::StepFault;
 use tt_code::kinds::Control;
 use tt_code::{Frame, Reason};
+use tt_setting::setting::is_index;
+use tt_setting::{Failed, Point, Role, Setting, StepFault};
 
 /// Returns the offset just after an instruction of one byte.
 fn next_offset(point: &Point<'_>) -> u32

@@ -4,9 +4,10 @@ ghost use Rattle.std.specs.Prelude.{◌≡◌, ◌↔◌, IsTrue};
 ghost use Rattle.tt_abs.specs.Orders.{IsLeastAbove};
 ghost use Rattle.tt_abs.specs.GraphicsOrders.{graphics_order};
 
-use crate::cells::{Cell, ZoneCell};
+use crate::cells::{Cell, joined_zones};
 use crate::order::{DepthMismatch, Order};
 use tt_code::Graphics;
+use tt_setting::ZoneCell;
 
 /// Whether the two graphics states are the same, part by part.
 pub fn is_same_graphics(mine: &Graphics<Cell, ZoneCell>, theirs: &Graphics<Cell, ZoneCell>) -> bool
@@ -32,9 +33,9 @@ pub fn joined_graphics(
         rp0: mine.rp0.joined(theirs.rp0),
         rp1: mine.rp1.joined(theirs.rp1),
         rp2: mine.rp2.joined(theirs.rp2),
-        zp0: mine.zp0.joined(theirs.zp0),
-        zp1: mine.zp1.joined(theirs.zp1),
-        zp2: mine.zp2.joined(theirs.zp2),
+        zp0: joined_zones(mine.zp0, theirs.zp0),
+        zp1: joined_zones(mine.zp1, theirs.zp1),
+        zp2: joined_zones(mine.zp2, theirs.zp2),
         loop_number: mine.loop_number.joined(theirs.loop_number),
     }
 }

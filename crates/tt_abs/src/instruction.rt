@@ -1,24 +1,24 @@
 //! What an instruction makes of an abstract state.
 
 ghost use Rattle.std.specs.Prelude.{◌≡◌, ◌+◌, ◌<◌, ◌^◌, IfErr, IfOk, Some, length};
-ghost use Rattle.tt_abs.specs.Moves.{IsStepRefusedFor, StartsAt, StepsTo, TellsWhatFails, point_instruction};
+ghost use Rattle.tt_abs.specs.Moves.{IsStepRefusedFor, StepsTo, TellsWhatFails};
+ghost use Rattle.tt_setting.specs.Settings.{StartsAt, point_instruction};
 ghost use Rattle.tt_abs.specs.Lines.{EndsAt};
-ghost use Rattle.tt_abs.specs.Settings.{frames_of, setting_of};
+ghost use Rattle.tt_setting.specs.Settings.{frames_of, setting_of};
 ghost use Rattle.tt_abs.specs.States.{state_order};
 ghost use Rattle.tt_abs.specs.Representation.Steps.{DoesTo, IsDoingRefusedFor, TellsOfBytes};
 
 use crate::compute::compute;
 use crate::control::execute_control;
-use crate::failed::Failed;
 use crate::moves::{Move, Moves};
 use crate::plain::execute_plain;
 use crate::push::push_data;
-use crate::setting::{Point, Setting, body_of, is_same_body};
 use crate::shuffle::shuffle;
 use crate::state::State;
-use crate::step_fault::StepFault;
 use tt_code::kinds::Effect;
 use tt_code::{Instr, Reason, entry};
+use tt_setting::setting::{body_of, is_same_body};
+use tt_setting::{Failed, Point, Setting, StepFault};
 
 /// What is told where no instruction of the body starts.
 const NO_INSTRUCTION: Failed = Failed::Only(Reason::Target);

@@ -1,10 +1,11 @@
 //! Laws of orders, of the flow of abstract states, and of runs. The functions here do nothing:
 //! their contracts are the laws.
 
-ghost use Rattle.tt_abs.specs.Cells.{Covers, CoversFunctions, CoversStack, CoversState, CoversStorage, CoversZone};
+ghost use Rattle.tt_abs.specs.Cells.{Covers, CoversStack, CoversState, CoversStorage, CoversZone};
+ghost use Rattle.tt_setting.specs.Functions.{CoversFunctions};
 ghost use Rattle.tt_abs.specs.CellOrders.{cell_order, zone_order};
 ghost use Rattle.tt_abs.specs.Coverage.{IsCoverage};
-ghost use Rattle.tt_abs.specs.Entries.{storage_of};
+ghost use Rattle.tt_abs.specs.StorageCells.{storage_of};
 ghost use Rattle.tt_abs.specs.Goodness.{GoodFamiliesAreSafe, IsGoodByMachines, IsRefusedExactly, OutcomeStandsForMachines};
 ghost use Rattle.tt_abs.specs.Stacks.{stack_order};
 ghost use Rattle.tt_abs.specs.StateFlow.{HasFlowLaws};

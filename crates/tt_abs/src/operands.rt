@@ -5,20 +5,21 @@ ghost use Rattle.std.specs.Prelude.{◌≡◌, ◌+◌, Err, IfErr, IfOk, Ok, On
 ghost use Rattle.tt_code.specs.Operands.{pair, take_one, times};
 ghost use Rattle.tt_code.specs.declared.kinds.Operand.TheVariants as operands;
 ghost use Rattle.tt_abs.specs.declared.cells.Cell.TheVariants.{Known, Unknown};
-ghost use Rattle.tt_abs.specs.declared.failed.Failed.TheVariants as failed;
-ghost use Rattle.tt_abs.specs.declared.failed.Role.TheVariants as roles;
-ghost use Rattle.tt_abs.specs.Failures.{IsRoleInLine, reason_of};
-ghost use Rattle.tt_abs.specs.Settings.{setting_of};
+ghost use Rattle.tt_setting.specs.declared.failed.Failed.TheVariants as failed;
+ghost use Rattle.tt_setting.specs.declared.failed.Role.TheVariants as roles;
+ghost use Rattle.tt_abs.specs.Failures.{IsRoleInLine};
+ghost use Rattle.tt_setting.specs.Refusals.{reason_of};
+ghost use Rattle.tt_setting.specs.Settings.{setting_of};
 ghost use Rattle.tt_abs.specs.Representation.Taken.{IsCountUnder, IsNumberUnder, IsRole, IsRoleFrom, IsTakingRefused, NoCountUnder, NoNumberUnder, TakesFrom, TakesTo, FailsUse, PassesUse, TellsOfGraphics, TellsOfGraphicsIn, TellsOfOperands, TellsOfStack, TellsOfStackAs, TellsOfStackIn, cvt_pairs, loop_points, one_contour, one_cvt, one_operand, one_point, one_storage, one_zone, point_pairs};
 ghost use Rattle.tt_abs.specs.Transfers.{known, known_count, take_cells, test_cell_uses};
 
-use crate::cells::{Cell, ZoneCell};
-use crate::failed::{Failed, Register, Role};
-use crate::registers::{pointer, reference};
-use crate::setting::{Setting, is_index, zone_within};
+use crate::cells::Cell;
+use crate::registers::zone_within;
 use crate::stack::Stack;
 use tt_code::Graphics;
 use tt_code::kinds::{Operand, Use, Within};
+use tt_setting::setting::is_index;
+use tt_setting::{Failed, Register, Role, Setting, ZoneCell};
 
 /// Returns the failed test of a stack that has too few cells.
 pub fn too_few(stack: &Stack) -> Failed
@@ -387,8 +388,8 @@ fn test_use(
     ensures told { IfErr result (TellsOfGraphicsIn setting.now graphics.now) }
 {
     let register = Register::of(used.reference);
-    let zone = pointer(graphics, used.pointer);
-    match reference(graphics, used.reference) {
+    let zone = graphics.pointer(used.pointer);
+    match graphics.reference(used.reference) {
         Cell::Known(number) => {
             if setting.is_in(zone, number) {
                 Ok(())

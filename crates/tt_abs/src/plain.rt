@@ -1,7 +1,8 @@
 //! The instructions of plain lines, which take, test, change and push.
 
 ghost use Rattle.std.specs.Prelude.{◌≡◌, IfErr, Ok, OnOk, true};
-ghost use Rattle.tt_abs.specs.Moves.{ForFailed, IsRefusedFor};
+ghost use Rattle.tt_setting.specs.Refusals.{ForFailed};
+ghost use Rattle.tt_abs.specs.Moves.{IsRefusedFor};
 ghost use Rattle.tt_abs.specs.States.{abstract_of};
 ghost use Rattle.tt_abs.specs.Representation.Steps.{TellsOfLine, line_of, plain_at};
 ghost use Rattle.tt_abs.specs.Representation.Stored.{is_of_one_kind, is_tested_line};
@@ -9,10 +10,9 @@ ghost use Rattle.tt_abs.specs.Representation.Stored.{is_of_one_kind, is_tested_l
 use crate::changes::{pushed_cells, update_all};
 use crate::operands::{take_operands, test_uses};
 use crate::push::push_cells;
-use crate::setting::Setting;
 use crate::state::State;
-use crate::step_fault::StepFault;
 use tt_code::kinds::Row;
+use tt_setting::{Setting, StepFault};
 
 /// Carries out a plain line: its operands are taken and its reference points tested, and then it
 /// changes or pushes. No line does both.

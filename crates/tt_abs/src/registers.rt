@@ -1,54 +1,38 @@
-//! Reading and setting what is known of reference points and zone pointers.
+//! Zone pointers and reference points: the zone in which a point is tested, and their numbers.
 
-ghost use Rattle.std.specs.Prelude.{◌≡◌};
-ghost use Rattle.tt_code.specs.States.{pointer as pointer_of, reference as reference_of, with_pointer, with_reference};
+ghost use Rattle.std.specs.Prelude.{◌≡◌, ℤ};
+ghost use Rattle.tt_code.specs.Settings.{Setting as AnySetting, zone_size};
+ghost use Rattle.tt_setting.specs.Settings.{is_below_in};
+ghost use Rattle.tt_abs.specs.Failures.{both_zones as zone_of_both, zone_within as zone_of_within};
+ghost use Rattle.tt_abs.specs.Transfers.{is_point_in};
 ghost use Rattle.tt_abs.specs.Registers.{pointer_numbered, reference_numbered};
 
-use crate::cells::{Cell, ZoneCell};
+use crate::cells::Cell;
 use tt_code::Graphics;
-use tt_code::kinds::{Pointer, Reference};
+use tt_code::kinds::{Pointer, Reference, Within};
+use tt_setting::ZoneCell;
 
-/// Returns what is known of the reference point.
-pub fn reference(graphics: &Graphics<Cell, ZoneCell>, reference: Reference) -> Cell
-    ensures { result ≡ reference_of reference graphics.now }
+/// Returns the zone that both are, or either one where they differ.
+fn both_zones(one: ZoneCell, other: ZoneCell) -> ZoneCell
+    ensures { result ≡ zone_of_both one other }
 {
-    match reference {
-        Reference::Rp0 => graphics.rp0,
-        Reference::Rp1 => graphics.rp1,
-        Reference::Rp2 => graphics.rp2,
+    match (one, other) {
+        (ZoneCell::Zero, ZoneCell::Zero) => ZoneCell::Zero,
+        (ZoneCell::One, ZoneCell::One) => ZoneCell::One,
+        _ => ZoneCell::Either,
     }
 }
 
-/// Returns what is known of the zone that the pointer names.
-pub fn pointer(graphics: &Graphics<Cell, ZoneCell>, pointer: Pointer) -> ZoneCell
-    ensures { result ≡ pointer_of pointer graphics.now }
+/// Returns the zone in which a point number is tested, or either one where it is tested in both.
+pub(crate) fn zone_within(graphics: &Graphics<Cell, ZoneCell>, within: Within) -> ZoneCell
+    ensures zone { result ≡ zone_of_within graphics.now within }
+    ensures points { (s : AnySetting) (z : ℤ)
+        → is_below_in (zone_size s) result z ≡ is_point_in s graphics.now within z }
 {
-    match pointer {
-        Pointer::Zp0 => graphics.zp0,
-        Pointer::Zp1 => graphics.zp1,
-        Pointer::Zp2 => graphics.zp2,
-    }
-}
-
-/// Sets what is known of a reference point.
-pub fn set_reference(graphics: &mut Graphics<Cell, ZoneCell>, reference: Reference, cell: Cell)
-    ensures { graphics.new ≡ with_reference reference cell graphics.old }
-{
-    match reference {
-        Reference::Rp0 => graphics.rp0 = cell,
-        Reference::Rp1 => graphics.rp1 = cell,
-        Reference::Rp2 => graphics.rp2 = cell,
-    }
-}
-
-/// Sets what is known of a zone pointer.
-pub fn set_pointer(graphics: &mut Graphics<Cell, ZoneCell>, pointer: Pointer, zone: ZoneCell)
-    ensures { graphics.new ≡ with_pointer pointer zone graphics.old }
-{
-    match pointer {
-        Pointer::Zp0 => graphics.zp0 = zone,
-        Pointer::Zp1 => graphics.zp1 = zone,
-        Pointer::Zp2 => graphics.zp2 = zone,
+    match within {
+        Within::In(p) => graphics.pointer(p),
+        Within::Both(p, q) => both_zones(graphics.pointer(p), graphics.pointer(q)),
+        Within::GlyphAnd(p) => both_zones(ZoneCell::One, graphics.pointer(p)),
     }
 }
 

@@ -3,21 +3,21 @@
 ghost use Rattle.std.specs.Prelude.{◌≡◌, ◌+◌, ◌∷◌, [], Err, IfErr, IfOk, List, OnOk, drop, length, pos, suc};
 ghost use Rattle.tt_code.specs.Computing.{element};
 ghost use Rattle.tt_code.specs.declared.kinds.StackOp.TheVariants as op;
-ghost use Rattle.tt_abs.specs.Failures.{IsRoleOfShuffle, reason_of};
-ghost use Rattle.tt_abs.specs.Moves.{ForFailed};
+ghost use Rattle.tt_abs.specs.Failures.{IsRoleOfShuffle};
+ghost use Rattle.tt_setting.specs.Refusals.{reason_of};
+ghost use Rattle.tt_setting.specs.Refusals.{ForFailed};
 ghost use Rattle.tt_abs.specs.Representation.Taken.{IsRole, TellsOfStack, TellsOfStackAs};
 ghost use Rattle.tt_abs.specs.Representation.Steps.{IsNamedCell, IsStackRefusedFor, NamesNoCell, Restacks};
 ghost use Rattle.tt_abs.specs.Transfers.{shuffled_cells};
 ghost use Rattle.tt_abs.specs.declared.cells.Cell.{Cell as AnyCell};
-ghost use Rattle.tt_abs.specs.declared.failed.Failed.TheVariants as failed;
-ghost use Rattle.tt_abs.specs.declared.failed.Role.TheVariants as roles;
+ghost use Rattle.tt_setting.specs.declared.failed.Failed.TheVariants as failed;
+ghost use Rattle.tt_setting.specs.declared.failed.Role.TheVariants as roles;
 
 use crate::cells::Cell;
-use crate::failed::{Failed, Role};
 use crate::operands::{number, too_few};
 use crate::stack::Stack;
-use crate::step_fault::StepFault;
 use tt_code::kinds::StackOp;
+use tt_setting::{Failed, Role, StepFault};
 
 /// Returns the cell under `taken` others.
 ///

@@ -1,14 +1,14 @@
 //! Abstract states: what is known of a hint machine's state.
 
-use crate::cells::{Cell, ZoneCell};
+use crate::cells::Cell;
 use crate::graphics::{is_same_graphics, joined_graphics};
 use crate::order::{DepthMismatch, Order};
-use crate::registers::{self, pointer_with_number, reference_with_number};
-use crate::sorted_map::SortedMap;
+use crate::registers::{pointer_with_number, reference_with_number};
 use crate::stack::Stack;
 use std::alloc::{AllocError, Global};
 use tt_code::Graphics;
 use tt_code::kinds::{Pointer, Reference};
+use tt_setting::{SortedMap, ZoneCell};
 
 /// What is known of a machine's state, except for where it is and its calls.
 pub struct State {
@@ -51,7 +51,8 @@ const DEFAULT: Graphics<Cell, ZoneCell> = Graphics {
 impl State {
     ghost use Rattle.std.specs.Prelude.{◌≡◌, ◌<◌, ◌≤◌, ◌+◌, ◌^◌, ◌∷◌, ◌↔◌, length, reverse, slice_get, IsTrue, IfOk, OnOk, OnErr, [], drop};
     ghost use Rattle.tt_code.specs.States.{pointer, reference, with_pointer, with_reference};
-    ghost use Rattle.tt_abs.specs.Entries.{Ascends, storage_of, with_cell, with_entries, with_entry};
+    ghost use Rattle.tt_setting.specs.Entries.{Ascends, with_entries, with_entry};
+    ghost use Rattle.tt_abs.specs.StorageCells.{storage_of, with_cell};
     ghost use Rattle.tt_abs.specs.Registers.{pointer_numbered, reference_numbered};
     ghost use Rattle.tt_abs.specs.Stacks.{ShareBottom};
     ghost use Rattle.tt_abs.specs.States.{KeepsRange, start_of, state_order};
@@ -160,7 +161,7 @@ impl State {
     pub fn reference_point(&self, which: Reference) -> Cell
         ensures { result ≡ reference which self.now.graphics }
     {
-        registers::reference(&self.graphics, which)
+        self.graphics.reference(which)
     }
 
     /// Returns what is known of the zone pointer with number `i`, which is below 3.
@@ -175,7 +176,7 @@ impl State {
     pub fn zone_pointer(&self, which: Pointer) -> ZoneCell
         ensures { result ≡ pointer which self.now.graphics }
     {
-        registers::pointer(&self.graphics, which)
+        self.graphics.pointer(which)
     }
 
     /// Returns what is known of the loop number.
@@ -272,7 +273,7 @@ impl State {
             ≡ record self.old { graphics = with_reference which cell self.old.graphics } }
         ensures in_range { KeepsRange self.old self.new }
     {
-        registers::set_reference(&mut self.graphics, which, cell);
+        self.graphics.set_reference(which, cell);
     }
 
     /// Sets what is known of the zone pointer with number `i`, which is below 3.
@@ -291,7 +292,7 @@ impl State {
             ≡ record self.old { graphics = with_pointer which zone self.old.graphics } }
         ensures in_range { KeepsRange self.old self.new }
     {
-        registers::set_pointer(&mut self.graphics, which, zone);
+        self.graphics.set_pointer(which, zone);
     }
 
     /// Sets what is known of the loop number.

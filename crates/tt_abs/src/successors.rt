@@ -3,17 +3,17 @@
 ghost use Rattle.std.specs.Prelude.{◌≡◌, IfErr, IfOk, false};
 ghost use Rattle.tt_abs.specs.Covers.{has_body_twice};
 ghost use Rattle.tt_abs.specs.Failures.{IsTold};
-ghost use Rattle.tt_abs.specs.Moves.{ForFailed, GivesByMachines, IsRefusedByMachines, IsStepRefusedFor, StartsAt, StepsTo};
-ghost use Rattle.tt_abs.specs.Settings.{frames_of, setting_of};
+ghost use Rattle.tt_setting.specs.Refusals.{ForFailed};
+ghost use Rattle.tt_abs.specs.Moves.{GivesByMachines, IsRefusedByMachines, IsStepRefusedFor, StepsTo};
+ghost use Rattle.tt_setting.specs.Settings.{StartsAt};
+ghost use Rattle.tt_setting.specs.Settings.{frames_of, setting_of};
 ghost use Rattle.tt_abs.specs.States.{abstract_of, state_order};
 ghost use Rattle.tt_abs.specs.Successors.{AreInRange, IsRefusalBy, LeadTo, PassMachinesTo, RefuseMachines, TellsRefusal};
 
 use crate::instruction::step;
 use crate::moves::{Move, Moves};
-use crate::refusal::Refusal;
-use crate::setting::{Point, Setting};
 use crate::state::State;
-use crate::step_fault::StepFault;
+use tt_setting::{Point, Refusal, Setting, StepFault};
 
 /// A way on, and what is known of the machine's state there.
 #[derive(Drop)]

@@ -2,7 +2,7 @@
 
 ghost use Rattle.std.specs.Prelude.{◌≡◌, false};
 ghost use Rattle.tt_abs.specs.Covers.{has_body_twice};
-ghost use Rattle.tt_abs.specs.Settings.{frames_of};
+ghost use Rattle.tt_setting.specs.Settings.{frames_of};
 ghost use Rattle.tt_abs.specs.States.{state_order};
 
 use crate::context::Context;

@@ -5,8 +5,8 @@ use Rattle.std.specs.Io.{StartsWith}
 use Rattle.std.specs.Io.KnownBytes.{Consumes}
 use Rattle.std.proofs.lemmas.List.{drop-append-le, drop_at, length-append, length-take}
 use Rattle.tt_abs.specs.declared.cells.Cell.{Cell}
-use Rattle.tt_cert.specs.declared.fault.CertFault.{CertFault}
-use Rattle.tt_cert.specs.declared.fault.CertFault.TheVariants as fault
+use Rattle.tt_setting.specs.declared.cert_fault.CertFault.{CertFault}
+use Rattle.tt_setting.specs.declared.cert_fault.CertFault.TheVariants as fault
 use Rattle.tt_cert.specs.Answers.{Fails, Gives, input_at}
 use Rattle.tt_cert.specs.Representation.Blocks.{AreSomeCellsTaken, AreSpelled, AreTaken, IsTaking, ReadsBlock, ReadsCells, ReadsMoreCells, Takes, TakesSomeCells, cells_at, input_of}
 use Rattle.tt_cert.specs.Readers.{Answer, list_at, place_after}

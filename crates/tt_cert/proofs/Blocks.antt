@@ -7,8 +7,8 @@ use Rattle.std.specs.Io.KnownBytes.{Consumes, IsAtEnd, Keeps}
 use Rattle.std.proofs.KnownBytes.{Consumes-kept, Consumes-trans}
 use Rattle.tt_stream.specs.Reads.{ConsumesBeginning}
 use Rattle.tt_stream.proofs.Beginnings.{consumes_then}
-use Rattle.tt_cert.specs.declared.fault.CertFault.{CertFault}
-use Rattle.tt_cert.specs.declared.fault.CertFault.TheVariants as fault
+use Rattle.tt_setting.specs.declared.cert_fault.CertFault.{CertFault}
+use Rattle.tt_setting.specs.declared.cert_fault.CertFault.TheVariants as fault
 use Rattle.tt_cert.specs.Answers.{Fails, StopsAtEnd, input_at}
 use Rattle.tt_cert.specs.Representation.Blocks.{AreTaken, BreaksAt, FillsOn, IsTaking, ReadsBlock, Takes, input_held, input_of}
 use Rattle.tt_cert.specs.Readers.{Answer, Input, list_at, place_after, unit}

@@ -11,8 +11,8 @@ use Rattle.tt_abs.specs.declared.cells.Cell.{Cell}
 use Rattle.tt_abs.specs.declared.cells.Cell.TheVariants.{Known, Unknown}
 use Rattle.tt_stream.specs.Reads.{ConsumesBeginning, ConsumesFewer}
 use Rattle.tt_stream.proofs.Beginnings.{consumes_then}
-use Rattle.tt_cert.specs.declared.fault.CertFault.{CertFault}
-use Rattle.tt_cert.specs.declared.fault.CertFault.TheVariants as fault
+use Rattle.tt_setting.specs.declared.cert_fault.CertFault.{CertFault}
+use Rattle.tt_setting.specs.declared.cert_fault.CertFault.TheVariants as fault
 use Rattle.tt_cert.specs.Answers.{Fails, IsReadFault, StopsAtEnd, input_at}
 use Rattle.tt_cert.specs.Representation.Blocks.{AreCellsTaken, FillsOn, FillsRest, IsBegun, IsTakingCells, ReadsCells, ReadsFurther, ReadsMoreCells, ReadsRest, TakesCells, cells_at, input_begun, input_held, input_of}
 use Rattle.tt_cert.specs.Readers.{Answer, Input, list_at, place_after}

@@ -4,7 +4,7 @@ use Rattle.std.proofs.lemmas.List.{length-append, length-drop, length-take}
 use Rattle.tt_abs.specs.declared.cells.Cell.{Cell}
 use Rattle.tt_abs.specs.declared.cells.Cell.TheVariants.{Unknown}
 use Rattle.tt_cert.specs.Answers.{AreBytes}
-use Rattle.tt_cert.specs.declared.fault.CertFault.TheVariants as fault
+use Rattle.tt_setting.specs.declared.cert_fault.CertFault.TheVariants as fault
 use Rattle.tt_cert.specs.Representation.Blocks.{IsTakingCells, TakesSomeCells, cells_at, input_of}
 use Rattle.tt_cert.specs.Readers.{place_after}
 use Rattle.tt_cert.specs.Reading.{cell_at}

@@ -4,9 +4,9 @@ use Rattle.std.specs.Prelude.{IfOk, MatchResult}
 use Rattle.tt_family.specs.Ascending.{IsFinished}
 use Rattle.tt_family.specs.Contents.{Contents}
 use Rattle.tt_family.specs.Contexts.{frames_of}
-use Rattle.tt_cert.specs.declared.fault.CertFault.{CertFault}
+use Rattle.tt_setting.specs.declared.cert_fault.CertFault.{CertFault}
 use Rattle.tt_cert.specs.declared.form.Form.{Form}
-use Rattle.tt_cert.specs.declared.name.Name.{Name}
+use Rattle.tt_setting.specs.declared.name.Name.{Name}
 use Rattle.tt_cert.specs.Answers.{IsFormFault}
 use Rattle.tt_cert.specs.Families.{HasText, family_text}
 use Rattle.tt_cert.specs.Sections.{Section, section_of}

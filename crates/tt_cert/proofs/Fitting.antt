@@ -17,7 +17,7 @@ use Rattle.tt_abs.specs.Cells.{Cells}
 use Rattle.tt_abs.specs.CellOrders.{CellInRange}
 use Rattle.tt_abs.specs.Contexts.{FramesFit}
 use Rattle.tt_abs.specs.Covers.{has_body_twice}
-use Rattle.tt_abs.specs.Entries.{Ascends}
+use Rattle.tt_setting.specs.Entries.{Ascends}
 use Rattle.tt_abs.specs.GraphicsOrders.{graphics_order}
 use Rattle.tt_abs.specs.Stacks.{StackInRange}
 use Rattle.tt_abs.specs.States.{state_order}
@@ -32,7 +32,7 @@ use Rattle.tt_family.specs.Contexts.{frames_of, grow-push, length-grow}
 use Rattle.tt_family.specs.Places.{place_cmp}
 use Rattle.tt_family.specs.Ascending.{IsFinished, IsContextAt}
 use Rattle.tt_cert.specs.declared.form.Form.TheVariants.{Four}
-use Rattle.tt_cert.specs.declared.name.Name.{Name}
+use Rattle.tt_setting.specs.declared.name.Name.{Name}
 use Rattle.tt_cert.specs.Rules.{AreCallsInTurn, CallFits, CellFits, ContextFits, EachAfter, EntryFits, Fits, FunctionFits, GraphicsFits, HasRoom, NameFits, StateFits, StoredFits, is_above, is_above_context, is_new_body, is_turn, last_of, last_point}
 use Rattle.tt_cert.specs.Sections.{Context, Entry, contexts_in, section_of}
 use Rattle.tt_cert.proofs.ContextLists.{last_taken}

@@ -7,10 +7,10 @@ use Rattle.tt_code.specs.declared.machine.Frame.{Frame}
 use Rattle.tt_family.specs.Contents.{Contents, IsFamily, frames_at}
 use Rattle.tt_family.specs.Contexts.{frames_of, length-grow}
 use Rattle.tt_family.specs.Puts.{number_at}
-use Rattle.tt_cert.specs.declared.fault.CertFault.{CertFault}
-use Rattle.tt_cert.specs.declared.fault.CertFault.TheVariants as fault
+use Rattle.tt_setting.specs.declared.cert_fault.CertFault.{CertFault}
+use Rattle.tt_setting.specs.declared.cert_fault.CertFault.TheVariants as fault
 use Rattle.tt_cert.specs.declared.form.Form.{Form}
-use Rattle.tt_cert.specs.declared.name.Name.{Name}
+use Rattle.tt_setting.specs.declared.name.Name.{Name}
 use Rattle.tt_cert.specs.Answers.{Fails}
 use Rattle.tt_cert.specs.Readers.{Input}
 use Rattle.tt_cert.specs.Reading.{contexts_at, name_at, section_at, states_at}

@@ -3,8 +3,8 @@ use Rattle.std.proofs.Common.{◌≡◌, ℕ, suc, ◌-◌, ◌+◌, ◌≤◌, 
 use Rattle.std.proofs.KnownBytes.{Consumes-nil}
 use Rattle.tt_stream.specs.Reads.{ConsumesBeginning}
 use Rattle.tt_stream.proofs.Beginnings.{consumes_then}
-use Rattle.tt_cert.specs.declared.fault.CertFault.{CertFault}
-use Rattle.tt_cert.specs.declared.fault.CertFault.TheVariants as fault
+use Rattle.tt_setting.specs.declared.cert_fault.CertFault.{CertFault}
+use Rattle.tt_setting.specs.declared.cert_fault.CertFault.TheVariants as fault
 use Rattle.tt_cert.specs.Answers.{Fails, Gives, StopsAtEnd, input_at}
 use Rattle.tt_cert.specs.Readers.{Answer, Input, list_at}
 use Rattle.tt_cert.proofs.Steady.{IsSteady}

@@ -20,7 +20,7 @@ use Rattle.tt_family.proofs.Ascending.{key_total}
 use Rattle.tt_family.proofs.PlaceEntries.{same_points}
 use Rattle.tt_family.proofs.Putting.{place_total}
 use Rattle.tt_cert.specs.declared.form.Form.{Form}
-use Rattle.tt_cert.specs.declared.name.Name.{Name}
+use Rattle.tt_setting.specs.declared.name.Name.{Name}
 use Rattle.tt_cert.specs.Families.{HasText, family_text}
 use Rattle.tt_cert.specs.Rules.{EachAfter, EntryFits, is_next_point, last_of, last_point}
 use Rattle.tt_cert.specs.Sections.{Entry}

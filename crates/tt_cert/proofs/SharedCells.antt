@@ -10,10 +10,10 @@ use Rattle.tt_abs.specs.Cells.{Cells}
 use Rattle.tt_abs.specs.States.{state_order}
 use Rattle.tt_abs.specs.Transfers.{cells_on}
 use Rattle.tt_abs.proofs.CodedCells.{cells_on_reversed}
-use Rattle.tt_abs.proofs.Reversed.{reverse-drop}
+use Rattle.tt_setting.proofs.Reversed.{reverse-drop}
 use Rattle.tt_abs.proofs.StackOrders.{StackInRange-reverse}
-use Rattle.tt_cert.specs.declared.fault.CertFault.{CertFault}
-use Rattle.tt_cert.specs.declared.fault.CertFault.TheVariants as fault
+use Rattle.tt_setting.specs.declared.cert_fault.CertFault.{CertFault}
+use Rattle.tt_setting.specs.declared.cert_fault.CertFault.TheVariants as fault
 use Rattle.tt_cert.specs.declared.form.Form.{Form}
 use Rattle.tt_cert.specs.Answers.{Fails, StopsAtEnd, input_at}
 use Rattle.tt_cert.specs.Representation.Blocks.{ReadsCells, ReadsFurther, ReadsMoreCells, cells_at, cells_up_to}

@@ -4,10 +4,10 @@ use Rattle.std.specs.Int.{w16, w32, from_be_bytes, cast_signed}
 use Rattle.tt_abs.specs.Cells.{Cells}
 use Rattle.tt_abs.specs.declared.cells.Cell.{Cell}
 use Rattle.tt_abs.specs.declared.cells.Cell.TheVariants.{Known, Unknown}
-use Rattle.tt_abs.specs.declared.cells.ZoneCell.{ZoneCell}
+use Rattle.tt_setting.specs.declared.zone.ZoneCell.{ZoneCell}
 use Rattle.tt_cert.specs.declared.form.Form.{Form}
 use Rattle.tt_cert.specs.declared.form.Form.TheVariants.{One, Two, Three, Four}
-use Rattle.tt_cert.specs.declared.fault.CertFault.{CertFault}
+use Rattle.tt_setting.specs.declared.cert_fault.CertFault.{CertFault}
 use Rattle.tt_cert.specs.Answers.{StopsAtEnd}
 use Rattle.tt_cert.specs.Forms.{form_of, most_contexts}
 use Rattle.tt_cert.specs.Readers.{Answer, Input, and_then, given, list_at, made_of, unit}

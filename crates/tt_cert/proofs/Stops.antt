@@ -4,8 +4,8 @@ use Rattle.std.specs.Prelude.{IfErr}
 use Rattle.std.proofs.lemmas.List.{length-append}
 use Rattle.std.specs.Io.KnownBytes.{Consumes}
 use Rattle.std.proofs.KnownBytes.{Consumes-nil, Consumes-trans}
-use Rattle.tt_cert.specs.declared.fault.CertFault.{CertFault}
-use Rattle.tt_cert.specs.declared.fault.CertFault.TheVariants as fault
+use Rattle.tt_setting.specs.declared.cert_fault.CertFault.{CertFault}
+use Rattle.tt_setting.specs.declared.cert_fault.CertFault.TheVariants as fault
 use Rattle.tt_cert.specs.Answers.{StopsAtEnd, input_at}
 use Rattle.tt_cert.specs.Readers.{Answer, Input, and_then, list_at, made_of, place_after, ruled, ◌>>=◌}
 use Rattle.tt_cert.proofs.Codecs.{here}

@@ -3,7 +3,7 @@ use Rattle.std.specs.Prelude.{ℕ, List}
 use Rattle.tt_family.specs.Ascending.{IsFinished}
 use Rattle.tt_family.specs.Contents.{Contents}
 use Rattle.tt_cert.specs.declared.form.Form.{Form}
-use Rattle.tt_cert.specs.declared.name.Name.{Name}
+use Rattle.tt_setting.specs.declared.name.Name.{Name}
 use Rattle.tt_cert.specs.Rules.{Fits}
 use Rattle.tt_cert.specs.Sections.{section_of}
 use Rattle.tt_cert.specs.Text.{section_text}

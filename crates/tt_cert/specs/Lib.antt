@@ -1,4 +1,3 @@
-pub mod Names
 pub mod Forms
 pub mod Sections
 pub mod Text

@@ -7,13 +7,13 @@ use Rattle.std.specs.Int.{w16, w32, from_be_bytes, cast_signed}
 use Rattle.tt_abs.specs.Cells.{Cells}
 use Rattle.tt_abs.specs.declared.cells.Cell.{Cell}
 use Rattle.tt_abs.specs.declared.cells.Cell.TheVariants.{Known, Unknown}
-use Rattle.tt_abs.specs.declared.cells.ZoneCell.{ZoneCell}
-use Rattle.tt_abs.specs.declared.cells.ZoneCell.TheVariants as zone
+use Rattle.tt_setting.specs.declared.zone.ZoneCell.{ZoneCell}
+use Rattle.tt_setting.specs.declared.zone.ZoneCell.TheVariants as zone
 use Rattle.tt_abs.specs.declared.state.State.{State}
 use Rattle.tt_cert.specs.declared.form.Form.{Form}
 use Rattle.tt_cert.specs.declared.form.Form.TheVariants.{One, Two, Three, Four}
-use Rattle.tt_cert.specs.declared.name.Name.{Name}
-use Rattle.tt_cert.specs.declared.name.Name.TheVariants as name
+use Rattle.tt_setting.specs.declared.name.Name.{Name}
+use Rattle.tt_setting.specs.declared.name.Name.TheVariants as name
 use Rattle.tt_cert.specs.Forms.{form_number, form_of, most_contexts}
 use Rattle.tt_cert.specs.Readers.{Answer, Input, and_then, given, list_at, made_of, ruled, unit, ◌>>=◌}
 use Rattle.tt_cert.specs.Rules.{is_above, is_next_point, last_of, last_point, may_follow}

@@ -16,8 +16,8 @@ use Rattle.tt_family.specs.Contexts.{frames_of}
 use Rattle.tt_family.specs.Places.{place_cmp}
 use Rattle.tt_cert.specs.declared.form.Form.{Form}
 use Rattle.tt_cert.specs.declared.form.Form.TheVariants.{One, Two, Three, Four}
-use Rattle.tt_cert.specs.declared.name.Name.{Name}
-use Rattle.tt_cert.specs.declared.name.Name.TheVariants as name
+use Rattle.tt_setting.specs.declared.name.Name.{Name}
+use Rattle.tt_setting.specs.declared.name.Name.TheVariants as name
 use Rattle.tt_cert.specs.Forms.{most_contexts}
 use Rattle.tt_cert.specs.Sections.{Context, Entry, Section}
 use Rattle.tt_cert.specs.Text.{counted, pair_text}

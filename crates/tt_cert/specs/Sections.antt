@@ -4,7 +4,7 @@ use Rattle.std.specs.Prelude.{ℕ, List, [], ◌∷◌, map, drop}
 use Rattle.tt_code.specs.declared.machine.Frame.{Frame}
 use Rattle.tt_abs.specs.declared.state.State.{State}
 use Rattle.tt_family.specs.Contents.{Contents, number_of}
-use Rattle.tt_cert.specs.declared.name.Name.{Name}
+use Rattle.tt_setting.specs.declared.name.Name.{Name}
 
 -- A context other than the main one: the number of its parent, and its last call, the innermost.
 -- The parent has its other calls.

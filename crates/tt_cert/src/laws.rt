@@ -8,7 +8,7 @@ ghost use Rattle.tt_cert.specs.Rules.{Fits};
 ghost use Rattle.tt_cert.specs.Sections.{Section};
 ghost use Rattle.tt_cert.specs.Text.{section_text};
 ghost use Rattle.tt_cert.specs.declared.form.Form.{Form};
-ghost use Rattle.tt_cert.specs.declared.name.Name.{Name};
+ghost use Rattle.tt_setting.specs.declared.name.Name.{Name};
 
 /// Shows that no section's text begins another one's: where bytes begin with the texts of two
 /// sections that fit one form, the sections are the same, and so are the bytes after their texts.

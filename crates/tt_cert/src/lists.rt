@@ -3,7 +3,7 @@
 ghost use Rattle.std.specs.Prelude.{◌≡◌, ◌+◌, ◌-◌, ◌*◌, ◌^◌, ◌<◌, ◌≤◌, List, [], ◌++◌, false, true, length, take, Ok, Err, IfErr, IfOk, OnErr, OnOk};
 ghost use Rattle.std.specs.Io.KnownBytes.{Keeps};
 ghost use Rattle.tt_abs.specs.declared.cells.Cell.{Cell as AnyCell};
-ghost use Rattle.tt_abs.specs.Entries.{Ascends};
+ghost use Rattle.tt_setting.specs.Entries.{Ascends};
 ghost use Rattle.tt_stream.specs.Reads.{ConsumesBeginning, ConsumesFewer};
 ghost use Rattle.tt_stream.specs.Streams.{CountsFailure};
 ghost use Rattle.tt_cert.specs.Answers.{CountsRead, IsReadFault, IsOutOfMemory};
@@ -14,7 +14,7 @@ ghost use Rattle.tt_cert.specs.Readers.{list_at};
 ghost use Rattle.tt_cert.specs.Reading.{function_at, functions_at, storage_at, stored_at};
 ghost use Rattle.tt_cert.specs.Rules.{is_above, last_of};
 
-use crate::fault::CertFault;
+use tt_setting::CertFault;
 use crate::form::Form;
 use crate::stack_text::StackText;
 use crate::units::{pair_of, read_cell, read_pair, read_word};

@@ -13,12 +13,12 @@ ghost use Rattle.tt_cert.specs.Reading.{section_at};
 ghost use Rattle.tt_cert.specs.Rules.{Fits};
 ghost use Rattle.tt_cert.specs.Sections.{Section, section_of};
 ghost use Rattle.tt_cert.specs.Text.{section_text};
-ghost use Rattle.tt_cert.specs.declared.name.Name.{Name as ProgramName};
+ghost use Rattle.tt_setting.specs.declared.name.Name.{Name as ProgramName};
 
 use crate::contexts::{builder_of, read_contexts};
-use crate::fault::CertFault;
+use tt_setting::CertFault;
 use crate::form::Form;
-use crate::name::Name;
+use tt_setting::Name;
 use crate::states::{LastState, read_states};
 use crate::units::read_name;
 use std::alloc::{AllocError, Global};

@@ -12,7 +12,7 @@ ghost use Rattle.tt_cert.specs.Representation.Clauses.{ReadsInto, StopsWhole};
 ghost use Rattle.tt_cert.specs.Representation.KeptTexts.{AreWithin, IsStackText};
 ghost use Rattle.tt_cert.specs.Representation.SharedCells.{AreAhead, IsStackKept};
 
-use crate::fault::CertFault;
+use tt_setting::CertFault;
 use crate::lists::{BLOCK, read_cell_block, take_ahead_cells};
 use crate::stack_text::StackText;
 use crate::units::read_word;

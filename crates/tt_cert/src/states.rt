@@ -1,7 +1,7 @@
 //! States of a section: each is made from its parts, and put into a builder.
 
 ghost use Rattle.std.specs.Prelude.{◌≡◌, [], ◌∷◌, ◌++◌, true, length, IfErr, IfOk, OnOk};
-ghost use Rattle.tt_abs.specs.Entries.{Ascends};
+ghost use Rattle.tt_setting.specs.Entries.{Ascends};
 ghost use Rattle.tt_abs.specs.States.{KeepsRange, state_order};
 ghost use Rattle.tt_stream.specs.Reads.{ConsumesBeginning};
 ghost use Rattle.tt_cert.specs.Answers.{CountsRead, IsOutOfMemory};
@@ -10,13 +10,14 @@ ghost use Rattle.tt_cert.specs.Rules.{is_next_point as is_next_point_after, last
 ghost use Rattle.tt_cert.specs.Representation.Clauses.{ReadsAs, ReadsBy, ReadsInto, StopsWhole, entries_at};
 ghost use Rattle.tt_cert.specs.Representation.SharedCells.{IsLast};
 
-use crate::fault::CertFault;
+use tt_setting::CertFault;
 use crate::form::Form;
 use crate::lists::{Functions, read_functions, read_storage};
 use crate::shared_cells::{LastStack, read_stack};
 use crate::units::{read_graphics, read_long, read_pair};
 use std::alloc::{AllocError, Global};
-use tt_abs::{Cell, State, StepFault, ZoneCell};
+use tt_abs::{Cell, State};
+use tt_setting::{StepFault, ZoneCell};
 use tt_code::Graphics;
 use tt_code::kinds::{Pointer, Reference};
 use tt_family::Builder;

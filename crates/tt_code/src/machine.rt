@@ -1,6 +1,11 @@
 //! What the hint machine keeps of a call and of the graphics state, and the body that an
 //! instruction belongs to (Apple TrueType Reference Manual, "Graphics state").
 
+ghost use Rattle.std.specs.Prelude.{◌≡◌};
+ghost use Rattle.tt_code.specs.States.{pointer as pointer_of, reference as reference_of, with_pointer, with_reference};
+
+use crate::kinds::{Pointer, Reference};
+
 /// A call that hasn't returned.
 #[derive(Clone, Copy, Debug, PartialEq, Eq)]
 pub struct Frame {
@@ -34,6 +39,52 @@ pub struct Graphics<N, Z> {
     pub zp2: Z,
     /// The loop number, which SLOOP sets.
     pub loop_number: N,
+}
+
+impl<N: Copy, Z: Copy> Graphics<N, Z> {
+    /// Returns the number of a reference point.
+    pub fn reference(&self, reference: Reference) -> N
+        ensures { result ≡ reference_of reference self.now }
+    {
+        match reference {
+            Reference::Rp0 => self.rp0,
+            Reference::Rp1 => self.rp1,
+            Reference::Rp2 => self.rp2,
+        }
+    }
+
+    /// Returns the zone that a zone pointer names.
+    pub fn pointer(&self, pointer: Pointer) -> Z
+        ensures { result ≡ pointer_of pointer self.now }
+    {
+        match pointer {
+            Pointer::Zp0 => self.zp0,
+            Pointer::Zp1 => self.zp1,
+            Pointer::Zp2 => self.zp2,
+        }
+    }
+
+    /// Sets the number of a reference point.
+    pub fn set_reference(&mut self, reference: Reference, number: N)
+        ensures { self.new ≡ with_reference reference number self.old }
+    {
+        match reference {
+            Reference::Rp0 => self.rp0 = number,
+            Reference::Rp1 => self.rp1 = number,
+            Reference::Rp2 => self.rp2 = number,
+        }
+    }
+
+    /// Sets the zone that a zone pointer names.
+    pub fn set_pointer(&mut self, pointer: Pointer, zone: Z)
+        ensures { self.new ≡ with_pointer pointer zone self.old }
+    {
+        match pointer {
+            Pointer::Zp0 => self.zp0 = zone,
+            Pointer::Zp1 => self.zp1 = zone,
+            Pointer::Zp2 => self.zp2 = zone,
+        }
+    }
 }
 
 /// Which part of a program an instruction belongs to.

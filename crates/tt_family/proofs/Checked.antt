@@ -11,29 +11,30 @@ use Rattle.tt_code.specs.Settings.{Setting, is_main_end}
 use Rattle.tt_code.specs.declared.machine.Frame.{Frame}
 use Rattle.tt_code.specs.declared.reason.Reason.{Reason}
 use Rattle.tt_code.specs.declared.reason.Reason.TheVariants.{MissingPoint, NotCovered, Storage}
-use Rattle.tt_abs.specs.Failures.{reason_of}
-use Rattle.tt_abs.specs.declared.failed.Failed.TheVariants.{Only}
+use Rattle.tt_setting.specs.Refusals.{reason_of}
+use Rattle.tt_setting.specs.declared.failed.Failed.TheVariants.{Only}
 use Rattle.tt_abs.specs.declared.state.State.{State}
-use Rattle.tt_abs.specs.declared.step_fault.StepFault.{StepFault}
-use Rattle.tt_abs.specs.declared.step_fault.StepFault.TheVariants as step
+use Rattle.tt_setting.specs.declared.step_fault.StepFault.{StepFault}
+use Rattle.tt_setting.specs.declared.step_fault.StepFault.TheVariants as step
 use Rattle.tt_abs.specs.declared.moves.Move.{Move}
 use Rattle.tt_abs.specs.declared.moves.Move.TheVariants.{To, Enter, NextTurn, Return}
 use Rattle.tt_abs.specs.declared.moves.Moves.{Moves}
 use Rattle.tt_abs.specs.Cells.{Abstract}
 use Rattle.tt_abs.specs.Families.{CoversAt}
-use Rattle.tt_abs.specs.Moves.{ForReason, frames_after, next_by, nexts_of, offset_after, ways_of}
-use Rattle.tt_abs.specs.Refusals.{refusal_at}
+use Rattle.tt_setting.specs.Refusals.{ForReason}
+use Rattle.tt_abs.specs.Moves.{frames_after, next_by, nexts_of, offset_after, ways_of}
+use Rattle.tt_setting.specs.Refusals.{refusal_at}
 use Rattle.tt_abs.specs.StateFlow.{Place, GivesState}
 use Rattle.tt_abs.specs.States.{abstract_of, state_order}
 use Rattle.tt_abs.specs.Transfers.{Next, outcome_on_cells}
 use Rattle.tt_abs.proofs.StateParts.{one_state}
 use Rattle.tt_family.specs.Checks.{AreCovered, AreMet, BreaksAt, IsFirstGap, IsGap, IsMet, IsSoundAt, Names, NamesAt, place_of_next, saturated_offset, stores, refused, leaves}
 use Rattle.tt_family.specs.GoodFamilies.{IsStoredWithin}
-use Rattle.tt_abs.specs.Spots.{spot_of}
+use Rattle.tt_setting.specs.Spots.{spot_of}
 use Rattle.tt_family.specs.Representation.Cursors.{AreMetBy, IsLeftOut, IsMetBy, IsNextState, IsPassed, coverage_of_both}
 use Rattle.tt_family.specs.Fillings.{IsAfter}
-use Rattle.tt_abs.specs.declared.refusal.Refusal.{Refusal}
-use Rattle.tt_abs.specs.declared.refusal.Refusal.TheVariants.{Refused, Exhausted}
+use Rattle.tt_setting.specs.declared.refusal.Refusal.{Refusal}
+use Rattle.tt_setting.specs.declared.refusal.Refusal.TheVariants.{Refused, Exhausted}
 use Rattle.tt_family.specs.declared.meeting.Coverage.{Coverage}
 use Rattle.tt_family.specs.declared.meeting.Coverage.TheVariants as coverage
 

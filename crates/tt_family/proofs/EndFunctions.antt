@@ -7,8 +7,9 @@ use Rattle.tt_code.specs.Settings.{Setting, is_main_end}
 use Rattle.tt_code.specs.States.{Machine}
 use Rattle.tt_code.specs.declared.machine.Frame.{Frame}
 use Rattle.tt_abs.specs.declared.state.State.{State}
-use Rattle.tt_abs.specs.Cells.{CoversFunctions}
-use Rattle.tt_abs.specs.Soundness.{IsSafe, StartsWith}
+use Rattle.tt_setting.specs.Functions.{CoversFunctions}
+use Rattle.tt_abs.specs.Soundness.{IsSafe}
+use Rattle.tt_setting.specs.Functions.{StartsWith}
 use Rattle.tt_abs.specs.StateFlow.{Place}
 use Rattle.tt_abs.proofs.Soundness.{good_is_safe}
 use Rattle.tt_family.specs.Ends.{AreDefinedAtEnd, AreDefinedWhereFilled, FillingsKeepEnd}

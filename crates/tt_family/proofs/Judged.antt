@@ -3,17 +3,18 @@ use Rattle.std.specs.Prelude.{◌≡◌, ℕ, Bool, true, false, Option, Some, L
 use Rattle.std.proofs.Common.{sym, ◌∙◌, ap, inl, inr}
 use Rattle.tt_code.specs.Settings.{Setting}
 use Rattle.tt_code.specs.declared.reason.Reason.{Reason}
-use Rattle.tt_abs.specs.Failures.{reason_of}
-use Rattle.tt_abs.specs.Settings.{setting_of}
-use Rattle.tt_abs.specs.declared.setting.Setting.{Setting as Subject}
+use Rattle.tt_setting.specs.Refusals.{reason_of}
+use Rattle.tt_setting.specs.Settings.{setting_of}
+use Rattle.tt_setting.specs.declared.setting.Setting.{Setting as Subject}
 use Rattle.tt_abs.specs.declared.state.State.{State}
-use Rattle.tt_abs.specs.Entries.{Ascends}
+use Rattle.tt_setting.specs.Entries.{Ascends}
 use Rattle.tt_abs.specs.Families.{CoversAt, IsGood}
 use Rattle.tt_abs.proofs.FamilyLaws.{good_from_fine}
 use Rattle.tt_abs.specs.Lines.{Precedes}
-use Rattle.tt_abs.specs.Ranges.{IsSettingInRange}
+use Rattle.tt_setting.specs.Ranges.{IsSettingInRange}
 use Rattle.tt_abs.specs.Soundness.{IsSafe}
-use Rattle.tt_abs.specs.StateFlow.{Place, AreProgramsShort, flow_of}
+use Rattle.tt_abs.specs.StateFlow.{Place, flow_of}
+use Rattle.tt_setting.specs.Ranges.{AreProgramsShort}
 use Rattle.tt_abs.specs.States.{start_of, state_order}
 use Rattle.tt_abs.proofs.Soundness.{good_is_safe}
 use Rattle.tt_family.specs.CheckedSubjects.{IsGoodListingFor, IsSafeListingFor, NamesListingBrokenFirst}
@@ -22,8 +23,8 @@ use Rattle.tt_family.specs.Fillings.{HasGoodFilling, HasSafeFilling}
 use Rattle.tt_family.specs.GoodFamilies.{EndsWell, HasFewContexts, IsGoodFamily, IsShortEnough}
 use Rattle.tt_family.specs.Checks.{AreSound, IsBrokenBy, IsBrokenFirst, IsFilledBy, IsFillingBrokenFirst, IsFirstBreak, IsFirstBreakOnTheWay, IsGap, IsMet, IsSoundAt, IsExhausted, Names, NamesAt, Nowhere, too_long, no_start, no_end, no_way}
 use Rattle.tt_family.specs.Representation.Cursors.{IsFoundSound, IsFoundSoundFor, IsWalkedThrough, MayLeaveOut, NamesFirstFor}
-use Rattle.tt_abs.specs.declared.refusal.Refusal.{Refusal}
-use Rattle.tt_abs.specs.declared.refusal.Refusal.TheVariants.{Refused, Exhausted}
+use Rattle.tt_setting.specs.declared.refusal.Refusal.{Refusal}
+use Rattle.tt_setting.specs.declared.refusal.Refusal.TheVariants.{Refused, Exhausted}
 use Rattle.tt_family.specs.declared.listing.Listing.{Listing}
 use Rattle.tt_family.specs.declared.listing.Listing.TheVariants.{Whole, Sparse}
 use Rattle.tt_family.proofs.FillingLaws.{broken_way, ends_kept, ends_listed, filling_from_walk, gap_not_met, good_from_walk, some_or_none, sound_not_broken, start_listed}

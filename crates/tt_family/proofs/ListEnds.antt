@@ -4,9 +4,9 @@ use Rattle.std.specs.List.{AllByRecursion}
 use Rattle.std.proofs.Common.{refl, sym, ◌∙◌, ap, arith, inl, inr}
 use Rattle.std.proofs.lemmas.Bool.{cases_eq, eq-eqb, ne_eqb, lt-ltb, ltb-true}
 use Rattle.std.proofs.lemmas.Option.{slice_get_within, get_or_from_slice_get}
-use Rattle.tt_abs.specs.Entries.{Ascends, listed}
-use Rattle.tt_abs.specs.EntryLaws.{listed-here, listed-there}
-use Rattle.tt_abs.proofs.EntryEdits.{all-at}
+use Rattle.tt_setting.specs.Entries.{Ascends, listed}
+use Rattle.tt_setting.specs.EntryLaws.{listed-here, listed-there}
+use Rattle.tt_setting.proofs.EntryEdits.{all-at}
 use Rattle.tt_family.specs.Representation.SlotLists.{Offsets, AreBelow}
 
 -- the last offset

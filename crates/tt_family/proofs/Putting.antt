@@ -17,7 +17,7 @@ use Rattle.tt_family.specs.Contexts.{frames_of}
 use Rattle.tt_family.specs.Contents.{Contents, IsFamily, family_of}
 use Rattle.tt_family.specs.Puts.{Reweighs, ReweighsStates, place_of, weigh, PutsAt-family, Reweighs-family, family_at}
 use Rattle.tt_family.specs.Built.{Key, IsBuilt}
-use Rattle.tt_abs.specs.declared.step_fault.StepFault.{StepFault}
+use Rattle.tt_setting.specs.declared.step_fault.StepFault.{StepFault}
 use Rattle.tt_family.specs.declared.joined.Joined.{Joined}
 use Rattle.tt_family.specs.Joins.{TellsNew, TellsOtherDepth, is_change}
 use Rattle.tt_family.proofs.Puts.{cases_place}

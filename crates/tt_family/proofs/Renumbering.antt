@@ -7,10 +7,10 @@ use Rattle.std.proofs.lemmas.Option.{slice_get_within, slice_get-get_or, get_or_
 use Rattle.tt_code.specs.declared.machine.Frame.{Frame}
 use Rattle.tt_family.specs.Contents.{Contents, IsFamily, AddsContext, frames_at}
 use Rattle.tt_family.specs.Ascending.{AreMoved}
-use Rattle.tt_abs.specs.declared.failed.Failed.{Failed}
-use Rattle.tt_abs.specs.declared.step_fault.StepFault.{StepFault}
-use Rattle.tt_abs.specs.Moves.{ForFailed}
-use Rattle.tt_abs.specs.Refusals.{IsOutOfMemory}
+use Rattle.tt_setting.specs.declared.failed.Failed.{Failed}
+use Rattle.tt_setting.specs.declared.step_fault.StepFault.{StepFault}
+use Rattle.tt_setting.specs.Refusals.{ForFailed}
+use Rattle.tt_setting.specs.Refusals.{IsOutOfMemory}
 use Rattle.tt_abs.proofs.StepLemmas.{passed_on}
 use Rattle.tt_abs.proofs.Told.{for_failed}
 use Rattle.tt_family.specs.Representation.FileOrder.{IsFileOrder, ArePlaces, in_order}

@@ -14,7 +14,7 @@ use Rattle.std.proofs.lemmas.Bool.{cases_eq, cases_lt, eq-eqb, ne_eqb}
 use Rattle.std.proofs.lemmas.Cmp.{tied_itself}
 use Rattle.std.proofs.lemmas.List.{get_or-set_same, get_or-set_other, set-get_or, length-append, length-set}
 use Rattle.std.proofs.lemmas.Option.{slice_get_read, get_or_from_slice_get}
-use Rattle.tt_abs.specs.Entries.{Ascends, listed}
+use Rattle.tt_setting.specs.Entries.{Ascends, listed}
 use Rattle.tt_family.specs.Places.{place_cmp, states_of}
 use Rattle.tt_family.specs.Representation.SlotLists.{Point, Offsets, list_points, lists_points, merged, list_of, AreBelow, AreApart, AreEmptyFrom, AreSlotLists, AddsLists}
 use Rattle.tt_family.proofs.Puts.{places_apart}

@@ -1,11 +1,11 @@
 -- What is spent of a budget, one call after another.
 use Rattle.std.proofs.Common.{◌∙◌, arith}
-use Rattle.tt_abs.specs.declared.exhausted.Exhausted.{Exhausted as By}
-use Rattle.tt_abs.specs.declared.exhausted.Exhausted.TheVariants.{Memory, Budget as Points}
-use Rattle.tt_abs.specs.declared.refusal.Refusal.{Refusal}
-use Rattle.tt_abs.specs.declared.refusal.Refusal.TheVariants.{Refused, Exhausted}
-use Rattle.tt_family.specs.Budgets.{AreAlike, EndTells, RefusalTells, Spends}
-use Rattle.tt_family.specs.declared.budget.Budget.{Budget}
+use Rattle.tt_setting.specs.declared.exhausted.Exhausted.{Exhausted as By}
+use Rattle.tt_setting.specs.declared.exhausted.Exhausted.TheVariants.{Memory, Budget as Points}
+use Rattle.tt_setting.specs.declared.refusal.Refusal.{Refusal}
+use Rattle.tt_setting.specs.declared.refusal.Refusal.TheVariants.{Refused, Exhausted}
+use Rattle.tt_setting.specs.Budgets.{AreAlike, EndTells, RefusalTells, Spends}
+use Rattle.tt_setting.specs.declared.budget.Budget.{Budget}
 
 -- what two calls spend, one after the other
 pub spends_on : (a b c : Budget) → Spends a b → Spends b c → Spends a c

@@ -5,7 +5,7 @@ use Rattle.std.proofs.Common.{refl, sym, ◌∙◌, ap, subst, arith, inl, inr}
 use Rattle.std.proofs.lemmas.Bool.{cases_Bool, eqb-true, eq-eqb}
 use Rattle.tt_code.specs.Settings.{Setting}
 use Rattle.tt_abs.specs.declared.state.State.{State}
-use Rattle.tt_abs.specs.Entries.{listed}
+use Rattle.tt_setting.specs.Entries.{listed}
 use Rattle.tt_family.specs.GoodFamilies.{IsStoredWithin}
 
 not_both : (b : Bool) → b ≡ false → b ≡ true → ⊥

@@ -18,7 +18,8 @@ use Rattle.tt_abs.specs.declared.moves.Move.TheVariants.{NextTurn}
 use Rattle.tt_abs.specs.declared.moves.Moves.{Moves}
 use Rattle.tt_abs.specs.Cells.{Abstract}
 use Rattle.tt_abs.specs.Moves.{next_by, nexts_of, ways_of}
-use Rattle.tt_abs.specs.Transfers.{Next, one_way, known, leaves_cells, called_cell, is_running, enters_cells, loops_cells, returns_cells, does_cells, controlled_cells, performs_cells, instruction_of, outcome_on_cells}
+use Rattle.tt_abs.specs.Transfers.{Next, one_way, known, leaves_cells, called_cell, is_running, enters_cells, loops_cells, returns_cells, does_cells, controlled_cells, performs_cells, outcome_on_cells}
+use Rattle.tt_setting.specs.Settings.{instruction_of}
 use Rattle.tt_abs.proofs.Places.{LeadTo, leads_after, leads_one, leads_within, does_leads}
 use Rattle.tt_family.specs.Checks.{HasNextTurn}
 

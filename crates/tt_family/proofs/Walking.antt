@@ -25,8 +25,8 @@ use Rattle.tt_family.specs.Puts.{number_at, place_of}
 use Rattle.tt_family.specs.Checks.{FitOffsetsBefore, BreaksAt, IsFilledBy, IsFirstBreakOnTheWay, IsSoundAt, Names, WasAdded, point_key_of}
 use Rattle.tt_family.specs.Representation.Cursors.{Entry, IsAtPoint, IsCarried, IsComingAfter, IsEntry, IsOnWay, IsPassed, IsRead, IsUnlisted, IsWalkedThrough, IsWalkedTo, MayLeaveOut, to_come}
 use Rattle.tt_family.specs.Fillings.{IsAfter}
-use Rattle.tt_abs.specs.declared.refusal.Refusal.{Refusal}
-use Rattle.tt_abs.specs.declared.refusal.Refusal.TheVariants.{Refused, Exhausted}
+use Rattle.tt_setting.specs.declared.refusal.Refusal.{Refusal}
+use Rattle.tt_setting.specs.declared.refusal.Refusal.TheVariants.{Refused, Exhausted}
 use Rattle.tt_family.specs.declared.listing.Listing.{Listing}
 use Rattle.tt_family.specs.declared.listing.Listing.TheVariants.{Whole, Sparse}
 use Rattle.tt_family.specs.declared.cursor.Cursor.{Cursor}

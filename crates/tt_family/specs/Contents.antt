@@ -4,13 +4,13 @@ use Rattle.std.specs.Map.{values_of}
 use Rattle.std.specs.List.{sum_by}
 use Rattle.tt_code.specs.declared.machine.Frame.{Frame}
 use Rattle.tt_code.specs.declared.reason.Reason.TheVariants.{TooManyContexts}
-use Rattle.tt_abs.specs.declared.failed.Failed.TheVariants.{Only}
-use Rattle.tt_abs.specs.declared.refusal.Refusal.{Refusal}
+use Rattle.tt_setting.specs.declared.failed.Failed.TheVariants.{Only}
+use Rattle.tt_setting.specs.declared.refusal.Refusal.{Refusal}
 use Rattle.tt_abs.specs.declared.state.State.{State}
-use Rattle.tt_abs.specs.declared.step_fault.StepFault.{StepFault}
-use Rattle.tt_abs.specs.Moves.{ForFailed}
-use Rattle.tt_abs.specs.Refusals.{refusal_at}
-use Rattle.tt_abs.specs.Spots.{spot_of}
+use Rattle.tt_setting.specs.declared.step_fault.StepFault.{StepFault}
+use Rattle.tt_setting.specs.Refusals.{ForFailed}
+use Rattle.tt_setting.specs.Refusals.{refusal_at}
+use Rattle.tt_setting.specs.Spots.{spot_of}
 use Rattle.tt_abs.specs.States.{state_order}
 use Rattle.tt_family.specs.Places.{states_of}
 

@@ -4,12 +4,13 @@ use Rattle.tt_code.specs.Cut.{size}
 use Rattle.tt_code.specs.Fonts.{Leaves}
 use Rattle.tt_code.specs.Settings.{Setting}
 use Rattle.tt_abs.specs.declared.state.State.{State}
-use Rattle.tt_abs.specs.Cells.{CoversFunctions}
-use Rattle.tt_abs.specs.Entries.{Ascends}
+use Rattle.tt_setting.specs.Functions.{CoversFunctions}
+use Rattle.tt_setting.specs.Entries.{Ascends}
 use Rattle.tt_abs.specs.Families.{IsGood}
-use Rattle.tt_abs.specs.Ranges.{IsSettingInRange}
-use Rattle.tt_abs.specs.Soundness.{StartsWith}
-use Rattle.tt_abs.specs.StateFlow.{AreProgramsShort, Place, flow_of}
+use Rattle.tt_setting.specs.Ranges.{IsSettingInRange}
+use Rattle.tt_setting.specs.Functions.{StartsWith}
+use Rattle.tt_setting.specs.Ranges.{AreProgramsShort}
+use Rattle.tt_abs.specs.StateFlow.{Place, flow_of}
 use Rattle.tt_abs.specs.States.{state_order}
 use Rattle.tt_family.specs.Fillings.{HasGoodFilling, IsFilling}
 

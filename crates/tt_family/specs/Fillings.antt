@@ -2,8 +2,8 @@
 use Rattle.std.specs.Prelude.{◌≡◌, ◌↔◌, ℕ, List, Option, Some, None}
 use Rattle.tt_code.specs.Settings.{Setting}
 use Rattle.tt_code.specs.declared.machine.Frame.{Frame}
-use Rattle.tt_abs.specs.Settings.{frames_of}
-use Rattle.tt_abs.specs.declared.setting.Point.{Point}
+use Rattle.tt_setting.specs.Settings.{frames_of}
+use Rattle.tt_setting.specs.declared.setting.Point.{Point}
 use Rattle.tt_abs.specs.declared.state.State.{State}
 use Rattle.tt_abs.specs.Lines.{Precedes}
 use Rattle.tt_abs.specs.Soundness.{IsSafe}

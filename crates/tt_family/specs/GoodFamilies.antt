@@ -5,7 +5,7 @@ use Rattle.tt_code.specs.Cut.{size}
 use Rattle.tt_code.specs.declared.machine.Frame.{Frame}
 use Rattle.tt_code.specs.Settings.{Setting, Kind, FontProgram, CvtProgram, GlyphProgram}
 use Rattle.tt_abs.specs.declared.state.State.{State}
-use Rattle.tt_abs.specs.Entries.{listed}
+use Rattle.tt_setting.specs.Entries.{listed}
 use Rattle.tt_abs.specs.Families.{IsGood}
 use Rattle.tt_abs.specs.StateFlow.{Place, flow_of}
 use Rattle.tt_abs.specs.States.{state_order}

@@ -1,9 +1,9 @@
 -- What putting a state tells.
 use Rattle.std.specs.Prelude.{◌≡◌, ◌↔◌, ℕ, Bool, true, false, Option, Some, None, List, length}
 use Rattle.tt_abs.specs.declared.state.State.{State}
-use Rattle.tt_abs.specs.declared.failed.Failed.TheVariants.{OtherDepth}
-use Rattle.tt_abs.specs.declared.step_fault.StepFault.{StepFault}
-use Rattle.tt_abs.specs.Moves.{ForFailed}
+use Rattle.tt_setting.specs.declared.failed.Failed.TheVariants.{OtherDepth}
+use Rattle.tt_setting.specs.declared.step_fault.StepFault.{StepFault}
+use Rattle.tt_setting.specs.Refusals.{ForFailed}
 use Rattle.tt_abs.specs.States.{state_order}
 use Rattle.tt_family.specs.Contents.{Contents, family_of}
 use Rattle.tt_family.specs.Places.{PutsAt, states_of}

@@ -3,15 +3,15 @@ use Rattle.std.specs.Prelude.{◌≡◌, ℕ, ◌+◌, ◌≤◌, ◌<◌, ◌^�
 use Rattle.tt_code.specs.Settings.{body_offset}
 use Rattle.tt_code.specs.declared.machine.Frame.{Frame}
 use Rattle.tt_code.specs.declared.reason.Reason.TheVariants.{MissingPoint}
-use Rattle.tt_abs.specs.declared.failed.Failed.TheVariants.{Only}
+use Rattle.tt_setting.specs.declared.failed.Failed.TheVariants.{Only}
 use Rattle.tt_abs.specs.Moves.{frames_after, offset_after}
 use Rattle.tt_abs.specs.StateFlow.{Place}
 use Rattle.tt_abs.specs.declared.moves.Move.{Move}
 use Rattle.tt_family.specs.Checks.{saturated_offset}
 use Rattle.tt_family.specs.Contents.{Contents, family_of, frames_at}
-use Rattle.tt_abs.specs.Spots.{spot_of}
-use Rattle.tt_abs.specs.declared.refusal.Refusal.{Refusal}
-use Rattle.tt_abs.specs.declared.refusal.Refusal.TheVariants.{Refused}
+use Rattle.tt_setting.specs.Spots.{spot_of}
+use Rattle.tt_setting.specs.declared.refusal.Refusal.{Refusal}
+use Rattle.tt_setting.specs.declared.refusal.Refusal.TheVariants.{Refused}
 use Rattle.tt_family.specs.declared.landing.Landing.{Landing}
 use Rattle.tt_family.specs.declared.landing.Landing.TheVariants.{In, Body, Beyond}
 

@@ -9,7 +9,6 @@ pub mod Ascending
 pub mod GoodFamilies
 pub mod Fillings
 pub mod Checks
-pub mod Budgets
 pub mod Landings
 pub mod CheckedSubjects
 pub mod Ends

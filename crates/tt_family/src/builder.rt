@@ -5,8 +5,8 @@ ghost use Rattle.std.specs.List.{All};
 ghost use Rattle.std.specs.List.Sorted.{IsStrictlySortedBy};
 ghost use Rattle.std.specs.Map.{keys_of};
 ghost use Rattle.tt_code.specs.declared.reason.Reason.TheVariants.{TooManyContexts};
-ghost use Rattle.tt_abs.specs.declared.failed.Failed.TheVariants.{Only};
-ghost use Rattle.tt_abs.specs.Entries.{Ascends};
+ghost use Rattle.tt_setting.specs.declared.failed.Failed.TheVariants.{Only};
+ghost use Rattle.tt_setting.specs.Entries.{Ascends};
 ghost use Rattle.tt_abs.specs.States.{state_order};
 ghost use Rattle.tt_family.specs.Joins.{HasSameDepth, PutsState, PutsStateAs, TellsNewAt, TellsOtherDepth};
 ghost use Rattle.tt_family.specs.Places.{place_cmp, states_of};
@@ -17,7 +17,7 @@ ghost use Rattle.tt_family.specs.Representation.FileOrder.{IsFileOrder, children
 ghost use Rattle.tt_family.specs.Ascending.{IsFinished, IsContextAt};
 ghost use Rattle.tt_family.specs.Ends.{AreDefinedAtEnd, AreDefinedWhereFilled, AreKnownAtEnd, FillingsKeepEnd};
 ghost use Rattle.tt_family.specs.Contents.{AddsChild, HasChild, IsChild, IsFamily, IsFullWithout, family_of, frames_at, points_of, refusal_in, state_at};
-ghost use Rattle.tt_abs.specs.Spots.{spot_of};
+ghost use Rattle.tt_setting.specs.Spots.{spot_of};
 
 use crate::joined::Joined;
 use crate::state_store::StateStore;
@@ -25,7 +25,8 @@ use crate::states::States;
 use std::alloc::{AllocError, Global};
 use std::collections::BTreeMap;
 use std::marker::Model;
-use tt_abs::{Failed, Refusal, Spot, State, StepFault};
+use tt_abs::State;
+use tt_setting::{Failed, Refusal, Spot, StepFault};
 use tt_code::{Frame, Reason};
 
 /// How many contexts are kept at most, including the empty one.

@@ -4,7 +4,7 @@ ghost use Rattle.std.specs.Prelude.{◌≡◌, ◌⊎◌, ◌<◌, ◌≤◌, No
 ghost use Rattle.std.specs.List.{All};
 ghost use Rattle.std.specs.List.Sorted.{IsStrictlySortedBy};
 ghost use Rattle.std.specs.Map.{keys_of};
-ghost use Rattle.tt_abs.specs.Entries.{Ascends};
+ghost use Rattle.tt_setting.specs.Entries.{Ascends};
 ghost use Rattle.tt_family.specs.Places.{place_cmp, states_of};
 ghost use Rattle.tt_family.specs.Puts.{family_state};
 ghost use Rattle.tt_family.specs.Ends.{AreDefinedAtEnd, AreDefinedWhereFilled, AreKnownAtEnd, FillingsKeepEnd};
@@ -15,7 +15,8 @@ use crate::builder::Builder;
 use crate::states::States;
 use std::alloc::{AllocError, Global};
 use std::marker::Model;
-use tt_abs::{Spot, State};
+use tt_abs::State;
+use tt_setting::Spot;
 use tt_code::Frame;
 
 /// A family of states whose contexts have their numbers in order: the empty one is number 0, and

@@ -3,13 +3,13 @@
 
 ghost use Rattle.std.specs.Prelude.{◌≡◌, ◌↔◌, ◌<◌, ◌^◌, [], None, IfOk, IfErr, IsFalse, IsTrue, OnOk, length};
 ghost use Rattle.std.specs.List.{All};
-ghost use Rattle.tt_abs.specs.Entries.{Ascends};
+ghost use Rattle.tt_setting.specs.Entries.{Ascends};
 ghost use Rattle.tt_abs.specs.Families.{CoversAt};
 ghost use Rattle.tt_abs.specs.Lines.{EndsAt};
-ghost use Rattle.tt_abs.specs.Refusals.{IsOfNoBudget};
-ghost use Rattle.tt_abs.specs.Settings.{setting_of};
+ghost use Rattle.tt_setting.specs.Refusals.{IsOfNoBudget};
+ghost use Rattle.tt_setting.specs.Settings.{setting_of};
 ghost use Rattle.tt_abs.specs.States.{state_order};
-ghost use Rattle.tt_family.specs.Budgets.{Counts, IsPaidFor, Spends, TellsBudget};
+ghost use Rattle.tt_setting.specs.Budgets.{Counts, IsPaidFor, Spends, TellsBudget};
 ghost use Rattle.tt_family.specs.CheckedSubjects.{EndsWellFor, HasGoodFillingFor, HasSafeFillingFor, IsGoodFor, IsGoodListingFor, IsSafeFor, IsSafeListingFor, IsShortFor, NamesBrokenFirst, NamesFillingBrokenFirst, NamesListingBrokenFirst};
 ghost use Rattle.tt_family.specs.Representation.Cursors.{IsFoundSoundFor, NamesFirstFor, AreToCome, AreUnlisted, IsLeftOutAfter, IsWalk, IsWalkedThrough, NamesBreak, NamesFirstBreak, PassesPoint, to_come};
 ghost use Rattle.tt_family.specs.Checks.{FitOffsetsBefore, IsExhausted, NamesGap};
@@ -17,7 +17,7 @@ ghost use Rattle.tt_family.specs.Contents.{family_of};
 ghost use Rattle.tt_family.specs.Fillings.{HasOneGoodFilling, place_of_point};
 ghost use Rattle.tt_family.specs.GoodFamilies.{HasEnd};
 
-use crate::budget::Budget;
+use tt_setting::Budget;
 use crate::builder::Builder;
 use crate::certificate::Certificate;
 use crate::cursor::Cursor;
@@ -25,7 +25,8 @@ use crate::listing::{Listing, added_after};
 use crate::meeting::{Coverage, check_covered, check_successors};
 use crate::states::States;
 use std::alloc::Global;
-use tt_abs::{Failed, Kind, Point, Refusal, Setting, StepFault, step_at};
+use tt_abs::step_at;
+use tt_setting::{Failed, Kind, Point, Refusal, Setting, StepFault};
 use tt_code::Reason;
 
 /// Whether the indexes of these storage cells are below the limit.

@@ -4,7 +4,7 @@
 ghost use Rattle.std.specs.Prelude.{◌≡◌, ◌↔◌, ◌<◌, IfOk, IfSome, IsFalse, IsTrue, None, OnOk, length};
 ghost use Rattle.std.specs.Option.{is_some};
 ghost use Rattle.tt_code.specs.Settings.{Setting as AnySetting};
-ghost use Rattle.tt_abs.specs.Entries.{Ascends};
+ghost use Rattle.tt_setting.specs.Entries.{Ascends};
 ghost use Rattle.tt_abs.specs.States.{start_of};
 ghost use Rattle.tt_family.specs.Contents.{Contents, IsFamily};
 ghost use Rattle.tt_family.specs.Representation.Cursors.{AreToCome, IsAtNext, IsComing, IsComingAfter, IsEntry, IsOnWay, IsShorter, IsWalk, TakesOne};

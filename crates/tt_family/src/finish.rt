@@ -2,7 +2,7 @@
 
 ghost use Rattle.std.specs.Prelude.{◌≡◌, ℕ, ◌+◌, ◌<◌, List, [], ◌∷◌, IfOk, IfErr, length, take};
 ghost use Rattle.tt_code.specs.declared.machine.Frame.{Frame};
-ghost use Rattle.tt_abs.specs.Refusals.{IsOutOfMemory};
+ghost use Rattle.tt_setting.specs.Refusals.{IsOutOfMemory};
 ghost use Rattle.tt_family.specs.Contents.{IsFamily, family_of, points_of};
 ghost use Rattle.tt_family.specs.Representation.FileOrder.{ArePlaces, IsFileOrder, in_order};
 ghost use Rattle.tt_family.specs.Ascending.{AreMoved, IsFinished, SameContents, SameWithout, family_without};
@@ -12,7 +12,7 @@ use crate::certificate::Certificate;
 use crate::slot_index::PointKey;
 use std::alloc::AllocError;
 use std::collections::BTreeSet;
-use tt_abs::StepFault;
+use tt_setting::StepFault;
 
 /// Returns the place of each context in the order.
 fn places_in(old: &Builder, order: &[u32]) -> Result<Vec<u32>, AllocError>

@@ -1,7 +1,7 @@
 //! The landing of a way: the context and the offset to which it leads from a context.
 
 ghost use Rattle.std.specs.Prelude.{◌≡◌, ◌<◌, IfErr, IfOk, None, length};
-ghost use Rattle.tt_abs.specs.Refusals.{IsOfNoBudget};
+ghost use Rattle.tt_setting.specs.Refusals.{IsOfNoBudget};
 ghost use Rattle.tt_family.specs.Checks.{FitOffsetsBefore, HasNextTurn};
 ghost use Rattle.tt_family.specs.Contents.{frames_at};
 ghost use Rattle.tt_family.specs.Landings.{IsLanding, IsMissing, IsPointOf, IsTurnCountable, place_from};
@@ -9,8 +9,9 @@ ghost use Rattle.tt_family.specs.Landings.{IsLanding, IsMissing, IsPointOf, IsTu
 use crate::builder::Builder;
 use crate::certificate::Certificate;
 use crate::slot_index::PointKey;
-use tt_abs::setting::body_offset;
-use tt_abs::{Failed, Move, Refusal, Spot};
+use tt_setting::setting::body_offset;
+use tt_abs::Move;
+use tt_setting::{Failed, Refusal, Spot};
 use tt_code::{Frame, Reason};
 
 /// The landing of a way: the context and the offset to which it leads from a context.

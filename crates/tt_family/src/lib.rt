@@ -2,7 +2,6 @@
 //! the check of it.
 #![tactic(auto)]
 
-pub mod budget;
 pub mod builder;
 pub mod certificate;
 pub mod checker;
@@ -17,7 +16,6 @@ mod slot_index;
 mod state_store;
 pub mod states;
 
-pub use budget::Budget;
 pub use builder::Builder;
 pub use certificate::Certificate;
 pub use checker::{check, check_full, check_listing, ends_well, is_short, one_good_filling};
@@ -26,4 +24,4 @@ pub use landing::{Landing, landing_of};
 pub use listing::{Listing, added_after};
 pub use slot_index::PointKey;
 pub use states::States;
-pub use tt_abs::{Refusal, Refusal as CheckFault, Spot, StepFault};
+pub use tt_setting::{Budget, Refusal, Refusal as CheckFault, Spot, StepFault, budget};

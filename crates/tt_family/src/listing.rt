@@ -2,10 +2,10 @@
 //! that a filling adds.
 
 ghost use Rattle.tt_abs.specs.Lines.{EndsAt};
-ghost use Rattle.tt_abs.specs.Settings.{setting_of};
+ghost use Rattle.tt_setting.specs.Settings.{setting_of};
 ghost use Rattle.tt_family.specs.Fillings.{IsJustAfter, place_of_point};
 
-use tt_abs::{Point, Setting};
+use tt_setting::{Point, Setting};
 
 /// Whether a certificate lists the state of every point, or leaves out those that a filling adds.
 #[derive(Clone, Copy)]

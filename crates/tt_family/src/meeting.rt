@@ -4,13 +4,14 @@ ghost use Rattle.std.specs.Prelude.{◌≡◌, ◌<◌, IfErr, IfOk, IsTrue, Som
 ghost use Rattle.tt_family.specs.Checks.{FitOffsetsBefore, HasNextTurn, NamesGap};
 ghost use Rattle.tt_family.specs.Contents.{family_of};
 ghost use Rattle.tt_family.specs.Puts.{place_of};
-ghost use Rattle.tt_abs.specs.Refusals.{IsOfNoBudget};
+ghost use Rattle.tt_setting.specs.Refusals.{IsOfNoBudget};
 ghost use Rattle.tt_family.specs.Representation.Cursors.{AreMadeMet, IsEntry, IsMadeMet, IsMetBy, IsPastStart, IsUnlisted, IsUnlistedAfter, IsWalk, MayTurn, NamesFirstGapMade, NamesGapMade, calls_of, coverage_of_both, place_of_way as place_of_move, point_of};
 
 use crate::certificate::Certificate;
 use crate::cursor::{Cursor, is_coming, is_coming_after};
 use crate::landing::look_up_successor;
-use tt_abs::{Failed, Move, Moves, Order, Refusal, State, StepFault};
+use tt_abs::{Move, Moves, Order, State};
+use tt_setting::{Failed, Refusal, StepFault};
 use tt_code::Reason;
 
 /// How a state is covered at a place to which it goes, or added there.

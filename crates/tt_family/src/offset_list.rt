@@ -1,8 +1,8 @@
 //! The points of one context that were inserted by ascending offset.
 
 ghost use Rattle.std.specs.Prelude.{◌≡◌, ◌↔◌, ◌<◌, ◌≤◌, length, [], ◌∷◌, ◌++◌, IsTrue, MatchResult, OnOk, OnErr};
-ghost use Rattle.tt_abs.specs.Entries.{Ascends, listed};
-ghost use Rattle.tt_abs.specs.EntryLists.{IsAt, IsGap};
+ghost use Rattle.tt_setting.specs.Entries.{Ascends, listed};
+ghost use Rattle.tt_setting.specs.EntryLists.{IsAt, IsGap};
 ghost use Rattle.tt_family.specs.Representation.SlotLists.{AreBelow};
 
 use std::alloc::{AllocError, Global};
@@ -16,7 +16,7 @@ pub(crate) struct OffsetList {
 
 impl Model for OffsetList {
     ghost use Rattle.std.specs.Prelude.{List, ℕ};
-    ghost use Rattle.tt_abs.specs.Entries.{Ascends};
+    ghost use Rattle.tt_setting.specs.Entries.{Ascends};
 
     ghost Value = { List (ℕ × ℕ) };
 

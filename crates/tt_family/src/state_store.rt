@@ -6,7 +6,7 @@ ghost use Rattle.std.specs.List.{All};
 ghost use Rattle.std.specs.List.Sorted.{IsStrictlySortedBy};
 ghost use Rattle.std.specs.Map.{keys_of};
 ghost use Rattle.tt_abs.specs.declared.state.State.{State as StateValue};
-ghost use Rattle.tt_abs.specs.Refusals.{IsOutOfMemory};
+ghost use Rattle.tt_setting.specs.Refusals.{IsOutOfMemory};
 ghost use Rattle.tt_abs.specs.States.{state_order};
 ghost use Rattle.tt_family.specs.Joins.{HasSameDepth, PutsListed, TellsNew, TellsOtherDepth};
 ghost use Rattle.tt_family.specs.Places.{place_cmp, states_of};
@@ -18,7 +18,8 @@ use crate::slot_index::SlotIndex;
 use crate::states::States;
 use std::alloc::{AllocError, Global};
 use std::marker::Model;
-use tt_abs::{Failed, Order, State, StepFault};
+use tt_abs::{Order, State};
+use tt_setting::{Failed, StepFault};
 
 /// How many states are kept at most.
 const MOST_STATES: u32 = 4_294_967_295;

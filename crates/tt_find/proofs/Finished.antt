@@ -7,7 +7,7 @@ use Rattle.tt_code.specs.Settings.{Setting, Kind, FontProgram, CvtProgram, Glyph
 use Rattle.tt_code.specs.declared.machine.Frame.{Frame}
 use Rattle.tt_code.specs.declared.reason.Reason.{Reason}
 use Rattle.tt_code.specs.declared.reason.Reason.TheVariants.{NeverEnds}
-use Rattle.tt_abs.specs.Failures.{reason_of}
+use Rattle.tt_setting.specs.Refusals.{reason_of}
 use Rattle.tt_abs.specs.declared.state.State.{State}
 use Rattle.tt_abs.specs.Families.{IsGood, joined, moved, started}
 use Rattle.tt_abs.specs.Lines.{Precedes}
@@ -24,8 +24,8 @@ use Rattle.tt_family.specs.Numbers.{at-number_of}
 use Rattle.tt_family.specs.Places.{has_point}
 use Rattle.tt_family.specs.Ascending.{family_without}
 use Rattle.tt_family.proofs.FillingLaws.{ends_kept, ends_listed, some_or_none}
-use Rattle.tt_abs.specs.declared.refusal.Refusal.{Refusal}
-use Rattle.tt_abs.specs.declared.refusal.Refusal.TheVariants.{Refused, Exhausted}
+use Rattle.tt_setting.specs.declared.refusal.Refusal.{Refusal}
+use Rattle.tt_setting.specs.declared.refusal.Refusal.TheVariants.{Refused, Exhausted}
 use Rattle.tt_find.specs.declared.finder.ListedStates.{ListedStates}
 use Rattle.tt_find.specs.declared.finder.ListedStates.TheVariants as listed
 use Rattle.tt_find.specs.declared.solver.Solver.{Solver}

@@ -8,7 +8,7 @@ use Rattle.tt_abs.specs.declared.moves.Move.{Move}
 use Rattle.tt_abs.specs.declared.moves.Moves.{Moves}
 use Rattle.tt_abs.specs.declared.state.State.{State}
 use Rattle.tt_abs.proofs.FamilyLaws.{derived_is}
-use Rattle.tt_abs.specs.Failures.{reason_of}
+use Rattle.tt_setting.specs.Refusals.{reason_of}
 use Rattle.tt_abs.specs.Lines.{Precedes}
 use Rattle.tt_abs.specs.Moves.{frames_after, offset_after, ways_of}
 use Rattle.tt_abs.specs.StateFlow.{Place, flow_of, height_of}
@@ -16,11 +16,11 @@ use Rattle.tt_abs.specs.States.{state_order}
 use Rattle.tt_family.specs.Contents.{AddsContext, Contents, HasContext, IsFamily, IsFullWithout, frames_at}
 use Rattle.tt_family.specs.Places.{states_of}
 use Rattle.tt_family.specs.Puts.{place_of}
-use Rattle.tt_abs.specs.Spots.{spot_of}
-use Rattle.tt_abs.specs.Refusals.{refusal_at}
-use Rattle.tt_abs.specs.declared.failed.Failed.{Failed}
-use Rattle.tt_abs.specs.declared.refusal.Refusal.{Refusal}
-use Rattle.tt_abs.specs.declared.step_fault.StepFault.{StepFault}
+use Rattle.tt_setting.specs.Spots.{spot_of}
+use Rattle.tt_setting.specs.Refusals.{refusal_at}
+use Rattle.tt_setting.specs.declared.failed.Failed.{Failed}
+use Rattle.tt_setting.specs.declared.refusal.Refusal.{Refusal}
+use Rattle.tt_setting.specs.declared.step_fault.StepFault.{StepFault}
 use Rattle.tt_find.specs.Found.{IsJustified, NamesPlace}
 use Rattle.tt_family.specs.Fillings.{IsJustAfter}
 use Rattle.tt_find.specs.Representation.Solvers.{ComesFrom, IsCountable, HasLaws, IsLeading, IsLeadingAt, IsLeadingOn, IsLeadingTo, IsOnWay, IsStored, IsWalk, IsWhole, TellsSource, calls_of, here_of, place_of_way, place_over, places_from}
@@ -29,7 +29,7 @@ use Rattle.tt_find.specs.declared.approach.Approach.TheVariants.{JustBefore, Els
 use Rattle.tt_find.specs.declared.solver.Solver.{Solver}
 use Rattle.tt_find.specs.declared.walk.Walk.{Walk}
 use Rattle.tt_find.proofs.Points.{frames_stay}
-use Rattle.tt_abs.proofs.StepLemmas.{failed_reason}
+use Rattle.tt_setting.proofs.RefusalLemmas.{failed_reason}
 use Rattle.tt_find.proofs.Steps.{countable_left, leading_ends, leading_grown, leading_put, leading_swap, refused_names, too_many_left}
 
 drop_next : {A : Type 0} (xs : List A) (i : ℕ) (x : A) → slice_get xs i ≡ Some x → drop i xs ≡ x ∷ drop (suc i) xs

@@ -6,9 +6,9 @@ use Rattle.std.proofs.lemmas.Bool.{cases_Bool, cases_eq, cases_lt}
 use Rattle.std.proofs.lemmas.List.{get_or-set_other, get_or-set_same, get_or_past}
 use Rattle.tt_abs.specs.declared.state.State.{State}
 use Rattle.tt_abs.specs.StateFlow.{Place}
-use Rattle.tt_abs.specs.Spots.{spot_of}
-use Rattle.tt_abs.specs.declared.spot.Spot.{Spot}
-use Rattle.tt_abs.specs.declared.spot.Spot.TheVariants.{Main, Font, Prep}
+use Rattle.tt_setting.specs.Spots.{spot_of}
+use Rattle.tt_setting.specs.declared.spot.Spot.{Spot}
+use Rattle.tt_setting.specs.declared.spot.Spot.TheVariants.{Main, Font, Prep}
 use Rattle.tt_find.specs.Representation.OffsetMarks.{SetsMark, list_of, mark_at, mark_of}
 use Rattle.tt_find.specs.Representation.Solvers.{AreKept}
 use Rattle.tt_find.specs.declared.marks.Mark.{Mark}

@@ -9,16 +9,16 @@ use Rattle.tt_code.specs.Settings.{Setting, is_main_end}
 use Rattle.tt_code.specs.declared.machine.Frame.{Frame}
 use Rattle.tt_code.specs.declared.reason.Reason.{Reason}
 use Rattle.tt_code.specs.declared.reason.Reason.TheVariants.{DepthMismatch, TooManyContexts}
-use Rattle.tt_abs.specs.Failures.{reason_of}
-use Rattle.tt_abs.specs.Moves.{ForReason}
-use Rattle.tt_abs.specs.Refusals.{refusal_at}
-use Rattle.tt_abs.specs.declared.step_fault.StepFault.{StepFault}
-use Rattle.tt_abs.specs.declared.step_fault.StepFault.TheVariants as step
-use Rattle.tt_abs.specs.declared.failed.Failed.{Failed}
+use Rattle.tt_setting.specs.Refusals.{reason_of}
+use Rattle.tt_setting.specs.Refusals.{ForReason}
+use Rattle.tt_setting.specs.Refusals.{refusal_at}
+use Rattle.tt_setting.specs.declared.step_fault.StepFault.{StepFault}
+use Rattle.tt_setting.specs.declared.step_fault.StepFault.TheVariants as step
+use Rattle.tt_setting.specs.declared.failed.Failed.{Failed}
 use Rattle.tt_abs.specs.declared.moves.Moves.{Moves}
 use Rattle.tt_abs.specs.declared.state.State.{State}
 use Rattle.tt_abs.proofs.FamilyLaws.{derived_height, derived_is}
-use Rattle.tt_abs.proofs.StepLemmas.{failed_reason}
+use Rattle.tt_setting.proofs.RefusalLemmas.{failed_reason}
 use Rattle.tt_abs.specs.Lines.{Precedes}
 use Rattle.tt_abs.specs.StateFlow.{IsPlace, Place, flow_of, height_of}
 use Rattle.tt_abs.specs.States.{state_laws, state_order}
@@ -29,11 +29,11 @@ use Rattle.tt_family.specs.Numbers.{at-number_of, number_of-place}
 use Rattle.tt_family.specs.Places.{PutGives, PutsAt, has_point, states_of}
 use Rattle.tt_family.specs.Joins.{TellsOtherDepth}
 use Rattle.tt_family.specs.Puts.{family_at, family_state, number_at, place_of}
-use Rattle.tt_abs.specs.Spots.{spot_of}
-use Rattle.tt_abs.specs.declared.spot.Spot.{Spot}
+use Rattle.tt_setting.specs.Spots.{spot_of}
+use Rattle.tt_setting.specs.declared.spot.Spot.{Spot}
 use Rattle.tt_family.proofs.Puts.{cases_place}
-use Rattle.tt_abs.specs.declared.refusal.Refusal.{Refusal}
-use Rattle.tt_abs.specs.declared.refusal.Refusal.TheVariants.{Refused, Exhausted}
+use Rattle.tt_setting.specs.declared.refusal.Refusal.{Refusal}
+use Rattle.tt_setting.specs.declared.refusal.Refusal.TheVariants.{Refused, Exhausted}
 use Rattle.tt_find.specs.Representation.OffsetMarks.{SetsMark, mark_of}
 use Rattle.tt_find.specs.declared.marks.Mark.TheVariants.{Kept, Passed}
 use Rattle.tt_find.specs.declared.marks.OffsetMarks.{OffsetMarks}

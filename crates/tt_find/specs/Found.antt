@@ -5,7 +5,7 @@ use Rattle.tt_code.specs.Settings.{Setting}
 use Rattle.tt_code.specs.declared.machine.Frame.{Frame}
 use Rattle.tt_code.specs.declared.reason.Reason.{Reason}
 use Rattle.tt_code.specs.declared.reason.Reason.TheVariants.{DepthMismatch, MissingPoint, NeverEnds, ProgramTooLong, TooManyContexts}
-use Rattle.tt_abs.specs.Failures.{reason_of}
+use Rattle.tt_setting.specs.Refusals.{reason_of}
 use Rattle.tt_abs.specs.declared.state.State.{State}
 use Rattle.tt_abs.specs.Contexts.{FramesFit}
 use Rattle.tt_abs.specs.Families.{Derived, IsBelowFamily, IsGood}
@@ -18,9 +18,9 @@ use Rattle.tt_family.specs.Checks.{IsFillingBrokenFirst}
 use Rattle.tt_family.specs.Contents.{Contents, HasContext, family_of, frames_at}
 use Rattle.tt_family.specs.Fillings.{HasGoodFilling, IsFilling}
 use Rattle.tt_family.specs.GoodFamilies.{EndsWell, HasFewContexts, IsGoodFamily, IsShortEnough}
-use Rattle.tt_abs.specs.Spots.{spot_of}
-use Rattle.tt_abs.specs.declared.refusal.Refusal.{Refusal}
-use Rattle.tt_abs.specs.declared.refusal.Refusal.TheVariants.{Refused, Exhausted}
+use Rattle.tt_setting.specs.Spots.{spot_of}
+use Rattle.tt_setting.specs.declared.refusal.Refusal.{Refusal}
+use Rattle.tt_setting.specs.declared.refusal.Refusal.TheVariants.{Refused, Exhausted}
 use Rattle.tt_find.specs.declared.stop.Stop.{Stop}
 use Rattle.tt_find.specs.declared.stop.Stop.TheVariants.{Fault, Restart}
 

@@ -1,15 +1,15 @@
 -- What the finder says of a subject: a setting, with the functions that are known where its program
 -- starts.
 use Rattle.std.specs.Prelude.{◌⊎◌, ◌+◌, ◌*◌, ◌≤◌, ℕ, Option, Result, IfErr, IfOk}
-use Rattle.tt_abs.specs.declared.setting.Setting.{Setting as Subject}
+use Rattle.tt_setting.specs.declared.setting.Setting.{Setting as Subject}
 use Rattle.tt_abs.specs.declared.state.State.{State}
-use Rattle.tt_abs.specs.Settings.{setting_of}
+use Rattle.tt_setting.specs.Settings.{setting_of}
 use Rattle.tt_abs.specs.StateFlow.{Place}
-use Rattle.tt_family.specs.Budgets.{counted_from}
+use Rattle.tt_setting.specs.Budgets.{counted_from}
 use Rattle.tt_family.specs.Checks.{IsExhausted}
-use Rattle.tt_family.specs.declared.budget.Budget.{Budget}
+use Rattle.tt_setting.specs.declared.budget.Budget.{Budget}
 use Rattle.tt_family.specs.Contents.{family_of}
-use Rattle.tt_abs.specs.declared.refusal.Refusal.{Refusal}
+use Rattle.tt_setting.specs.declared.refusal.Refusal.{Refusal}
 use Rattle.tt_find.specs.Found.{AreLeastContexts, HasLeastFilling, IsJustified, IsNeverEnding, LacksEnd, NamesPlace, NeedsAll, NoneIsGood}
 use Rattle.tt_find.specs.declared.finder.Found.{Found}
 

@@ -2,9 +2,9 @@
 //! are kept, or until it goes elsewhere.
 
 ghost use Rattle.std.specs.Prelude.{◌≡◌, ◌<◌, ◌*◌, IfErr, IfOk, IfSome, IsTrue, OnOk, length};
-ghost use Rattle.tt_abs.specs.Refusals.{IsOfNoBudget};
+ghost use Rattle.tt_setting.specs.Refusals.{IsOfNoBudget};
 ghost use Rattle.tt_abs.specs.States.{state_order};
-ghost use Rattle.tt_family.specs.Budgets.{Counts, Spends, counted_from};
+ghost use Rattle.tt_setting.specs.Budgets.{Counts, Spends, counted_from};
 ghost use Rattle.tt_find.specs.Representation.BudgetStops.{IsStopOfNoBudget, StopTellsBudget};
 ghost use Rattle.tt_find.specs.Representation.SolverSubjects.{EndsJustBefore, GoesOnFor, HasLawsFor, IsNextAfter, IsOnWayFor, IsPoppedFor, IsSteppedAt, IsWholeFor, LeadsAlong, LeadsOver, NamesRefusalAt, StopsFor};
 ghost use Rattle.tt_find.specs.Representation.Solvers.{HasRisen, IsStored, IsWalk, KeepsEverywhere, MakesAtMost, StopsApart, TellsSource};
@@ -14,7 +14,8 @@ use crate::solver::Solver;
 use crate::stop::Stop;
 use crate::successor::resolve_successor;
 use crate::walk::Walk;
-use tt_abs::{Moves, Point, Refusal, Setting, Stepped, step_at};
+use tt_abs::{Moves, Stepped, step_at};
+use tt_setting::{Point, Refusal, Setting};
 use tt_family::{Budget, Builder, added_after};
 
 /// Returns where the state at an offset of the walk's context leads; the walk then holds what it

@@ -3,12 +3,12 @@
 
 ghost use Rattle.std.specs.Prelude.{◌≡◌, None, [], ◌∷◌, IfErr, IfOk, IfSome, OnErr, OnOk, is_some, option_map};
 ghost use Rattle.std.specs.Option.{option_copied};
-ghost use Rattle.tt_abs.specs.Entries.{Ascends};
-ghost use Rattle.tt_abs.specs.Refusals.{IsOfNoBudget};
-ghost use Rattle.tt_abs.specs.Settings.{setting_of};
+ghost use Rattle.tt_setting.specs.Entries.{Ascends};
+ghost use Rattle.tt_setting.specs.Refusals.{IsOfNoBudget};
+ghost use Rattle.tt_setting.specs.Settings.{setting_of};
 ghost use Rattle.tt_abs.specs.StateFlow.{FunctionsFit};
-ghost use Rattle.tt_family.specs.Budgets.{IsExceeded, Spends, TellsBudget};
-ghost use Rattle.tt_abs.specs.declared.exhausted.Exhausted.{Exhausted as Ended};
+ghost use Rattle.tt_setting.specs.Budgets.{IsExceeded, Spends, TellsBudget};
+ghost use Rattle.tt_setting.specs.declared.exhausted.Exhausted.{Exhausted as Ended};
 ghost use Rattle.tt_find.specs.FoundSubjects.{AreCounted, HasLeastContexts, HasOnlyNeeded, IsJustifiedFor, IsLeastFor, TellsNoEnd, TellsNoneIsGood};
 ghost use Rattle.tt_find.specs.Representation.BudgetStops.{StopTellsBudget};
 ghost use Rattle.tt_find.specs.Representation.Solvers.{updates_of};
@@ -24,7 +24,7 @@ use std::alloc::Global;
 use std::collections::BTreeSet;
 use std::mem;
 use tt_abs::laws::flow_laws;
-use tt_abs::{Exhausted, Refusal, Setting};
+use tt_setting::{Exhausted, Refusal, Setting};
 use tt_code::Reason;
 use tt_family::{Budget, Builder, Certificate, PointKey, ends_well, is_short};
 

@@ -12,4 +12,4 @@ mod walk;
 mod worklist;
 
 pub use finder::{Explored, Finder, Found, ListedStates, explore, find};
-pub use tt_abs::{Refusal, Spot};
+pub use tt_setting::{Refusal, Spot};

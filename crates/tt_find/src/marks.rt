@@ -4,7 +4,7 @@ ghost use Rattle.std.specs.Prelude.{◌≡◌, ◌≢◌, IsTrue, slice_index_or
 ghost use Rattle.tt_find.specs.Representation.OffsetMarks.{SetsMark, mark_of};
 
 use std::alloc::{AllocError, Global};
-use tt_abs::{Setting, Spot};
+use tt_setting::{Setting, Spot};
 
 /// What is known of an offset of a program.
 #[derive(Clone, Copy)]

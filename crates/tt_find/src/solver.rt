@@ -1,7 +1,7 @@
 //! The family so far, and what is still to be carried on.
 
 ghost use Rattle.std.specs.Prelude.{◌≡◌, ◌≢◌, ◌<◌, IfOk, IfErr, IsTrue, OnOk, Option, Some, length};
-ghost use Rattle.tt_abs.specs.Refusals.{IsOfNoBudget};
+ghost use Rattle.tt_setting.specs.Refusals.{IsOfNoBudget};
 ghost use Rattle.tt_abs.specs.States.{state_order};
 ghost use Rattle.tt_abs.specs.declared.state.State.{State as StateValue};
 ghost use Rattle.tt_family.specs.Contents.{state_at};
@@ -15,7 +15,8 @@ use crate::marks::{Mark, OffsetMarks};
 use crate::worklist::Worklist;
 use std::alloc::{AllocError, Global};
 use std::collections::BTreeSet;
-use tt_abs::{Exhausted, Refusal, Spot, State};
+use tt_abs::State;
+use tt_setting::{Exhausted, Refusal, Spot};
 use tt_family::{Builder, Joined, PointKey};
 
 /// The family so far. Its states are kept at the points where ways meet; those in between are made

@@ -1,7 +1,7 @@
 //! Why the finder stops.
 
 use std::alloc::AllocError;
-use tt_abs::{Exhausted, Refusal};
+use tt_setting::{Exhausted, Refusal};
 
 /// Why the finder stops before it is done.
 #[derive(Drop)]
@@ -26,7 +26,7 @@ impl From<Refusal> for Stop {
 
 impl From<Exhausted> for Stop {
     ghost use Rattle.std.specs.Prelude.{◌≡◌};
-    ghost use Rattle.tt_abs.specs.declared.refusal.Refusal.{Refusal};
+    ghost use Rattle.tt_setting.specs.declared.refusal.Refusal.{Refusal};
     ghost use Rattle.tt_find.specs.declared.stop.Stop.{Stop};
 
     ghost from_gives = { λ by stop. stop ≡ Stop.Fault (Refusal.Exhausted by) };
@@ -38,8 +38,8 @@ impl From<Exhausted> for Stop {
 
 impl From<AllocError> for Stop {
     ghost use Rattle.std.specs.Prelude.{◌≡◌};
-    ghost use Rattle.tt_abs.specs.declared.exhausted.Exhausted.{Exhausted as By};
-    ghost use Rattle.tt_abs.specs.declared.refusal.Refusal.{Refusal};
+    ghost use Rattle.tt_setting.specs.declared.exhausted.Exhausted.{Exhausted as By};
+    ghost use Rattle.tt_setting.specs.declared.refusal.Refusal.{Refusal};
     ghost use Rattle.tt_find.specs.declared.stop.Stop.{Stop};
 
     ghost from_gives = { λ error stop. stop ≡ Stop.Fault (Refusal.Exhausted By.Memory) };

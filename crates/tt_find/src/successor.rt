@@ -5,8 +5,9 @@ ghost use Rattle.tt_family.specs.Contents.{AddsContext, IsFamily, IsFullWithout}
 ghost use Rattle.tt_family.specs.Landings.{place_from};
 ghost use Rattle.tt_find.specs.Representation.Solvers.{IsCountable};
 
-use tt_abs::setting::body_offset;
-use tt_abs::{Move, StepFault};
+use tt_setting::setting::body_offset;
+use tt_abs::Move;
+use tt_setting::StepFault;
 use tt_family::{Builder, Landing, PointKey, landing_of};
 
 /// Returns the context's number and the offset to which a way leads from a context. The context to

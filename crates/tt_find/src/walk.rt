@@ -1,8 +1,8 @@
 //! The finder's walk: what it keeps from one point to the next.
 
 ghost use Rattle.std.specs.Prelude.{◌≡◌, ◌↔◌, ◌<◌, IfErr, IfOk, IsFalse, IsTrue, None, Some, length};
-ghost use Rattle.tt_abs.specs.Entries.{Ascends};
-ghost use Rattle.tt_abs.specs.Refusals.{IsOfNoBudget};
+ghost use Rattle.tt_setting.specs.Entries.{Ascends};
+ghost use Rattle.tt_setting.specs.Refusals.{IsOfNoBudget};
 ghost use Rattle.tt_abs.specs.States.{start_of, state_order};
 ghost use Rattle.tt_family.specs.Contents.{Contents, IsFamily, state_at};
 ghost use Rattle.tt_family.specs.Joins.{TellsNewAt};
@@ -10,7 +10,8 @@ ghost use Rattle.tt_find.specs.Representation.Solvers.{IsPut, IsWalk, KeepsRest,
 
 use crate::solver::Solver;
 use std::alloc::{AllocError, Global};
-use tt_abs::{Refusal, Spot, State};
+use tt_abs::State;
+use tt_setting::{Refusal, Spot};
 use tt_code::Frame;
 use tt_family::{Builder, Joined, PointKey};
 

@@ -6,8 +6,8 @@ use Rattle.tt_code.specs.States.{IsNumber, is_number}
 use Rattle.tt_code.specs.Changes.{natural, numbers, taken_at, updated, with_stored, all_updated}
 use Rattle.tt_code.specs.declared.kinds.Update.{Update}
 use Rattle.tt_code.specs.declared.kinds.Update.TheVariants as update
-use Rattle.tt_abs.specs.Entries.{listed, with_entry, without_entry}
-use Rattle.tt_abs.specs.Representation.EntryFacts.{listed-without}
+use Rattle.tt_setting.specs.Entries.{listed, with_entry, without_entry}
+use Rattle.tt_setting.specs.EntryLaws.{listed-without}
 use Rattle.std.specs.List.{All}
 use Rattle.std.proofs.lemmas.List.Elements.{All-head, All-tail}
 use Rattle.tt_symbolic_state.specs.declared.cell.Cell.{Cell}

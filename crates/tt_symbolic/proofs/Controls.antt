@@ -11,12 +11,12 @@ use Rattle.tt_code.specs.States.{Machine, Outcome, leaves, is_below, is_true}
 use Rattle.tt_code.specs.Control.{called, controlled, body_named, enters, goes_to, jumps_if, may_define, returns}
 use Rattle.tt_code.specs.declared.machine.Frame.{Frame}
 use Rattle.tt_code.specs.declared.kinds.Control.TheVariants as control
-use Rattle.tt_abs.specs.declared.setting.Setting.{Setting}
-use Rattle.tt_abs.specs.declared.setting.Point.{Point}
-use Rattle.tt_abs.specs.Cells.{CoversFunctions}
-use Rattle.tt_abs.specs.Entries.{listed, with_entry}
-use Rattle.tt_abs.specs.Representation.EntryFacts.{listed-named}
-use Rattle.tt_abs.specs.Settings.{frames_of, setting_of}
+use Rattle.tt_setting.specs.declared.setting.Setting.{Setting}
+use Rattle.tt_setting.specs.declared.setting.Point.{Point}
+use Rattle.tt_setting.specs.Functions.{CoversFunctions}
+use Rattle.tt_setting.specs.Entries.{listed, with_entry}
+use Rattle.tt_setting.specs.EntryLaws.{listed-named}
+use Rattle.tt_setting.specs.Settings.{frames_of, setting_of}
 use Rattle.tt_symbolic_state.specs.declared.cell.Cell.{Cell}
 use Rattle.tt_symbolic_state.specs.Values.{Fits, Valuation, value}
 use Rattle.tt_symbolic_state.specs.declared.state.OpenCall.{OpenCall}

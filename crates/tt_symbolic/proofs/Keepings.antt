@@ -28,9 +28,9 @@ use Rattle.tt_code.specs.declared.kinds.Control.{Control}
 use Rattle.tt_code.specs.declared.kinds.Control.TheVariants as control
 use Rattle.tt_code.specs.declared.kinds.Arithmetic.{Arithmetic}
 use Rattle.tt_code.specs.declared.kinds.Arithmetic.TheVariants.{Add, Sub, Abs, Neg, Lt, LtEq, Gt, GtEq, Eq, Neq, And, Or, Not}
-use Rattle.tt_abs.specs.declared.setting.Setting.{Setting}
-use Rattle.tt_abs.specs.declared.setting.Point.{Point}
-use Rattle.tt_abs.specs.Settings.{frames_of, setting_of}
+use Rattle.tt_setting.specs.declared.setting.Setting.{Setting}
+use Rattle.tt_setting.specs.declared.setting.Point.{Point}
+use Rattle.tt_setting.specs.Settings.{frames_of, setting_of}
 use Rattle.tt_symbolic_state.specs.CvtMachine.{Allows, ChangesControl, ChangesControls, ChangesOnly, Ordinary, Refinement, Refines, SameControls, WritesControl, ReadsControl, refinement_of}
 use Rattle.tt_symbolic_state.specs.CvtMachine as kinds
 use Rattle.tt_symbolic_state.specs.Shows.{values}

@@ -25,7 +25,7 @@ use Rattle.tt_symbolic.specs.Representation.Changing.{ChangesAll}
 use Rattle.tt_symbolic.specs.Representation.Plain.{Cuts, Finishes, IsAny, IsControlAt, IsStoredAt, ListsControl, ListsStored, line_leaves}
 use Rattle.tt_symbolic.specs.Sound.{Pushes, Puts, Works, keeps_controls}
 use Rattle.tt_symbolic_cells.specs.Taking.{Leaves}
-use Rattle.tt_abs.specs.Entries.{with_entry}
+use Rattle.tt_setting.specs.Entries.{with_entry}
 use Rattle.tt_code.specs.Changes.{with_stored}
 use Rattle.tt_symbolic.proofs.AreaFacts.{area_put, split_at, stored_is, stored_other}
 use Rattle.tt_symbolic.proofs.Works.{puts_fresh, with_ranges, same_controls, same_offset, same_ranges, shows_stack}

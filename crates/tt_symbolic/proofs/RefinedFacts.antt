@@ -7,7 +7,7 @@ use Rattle.tt_code.specs.Settings.{Setting}
 use Rattle.tt_code.specs.States.{Machine, Outcome, Anything, IsNumber, is_below, is_number, leaves}
 use Rattle.tt_code.specs.Changes.{natural, plain, with_stored}
 use Rattle.tt_code.specs.Runs.{Choices, left_by}
-use Rattle.tt_abs.specs.Entries.{listed, with_entry}
+use Rattle.tt_setting.specs.Entries.{listed, with_entry}
 use Rattle.tt_symbolic_state.specs.declared.cell.Cell.{Cell}
 use Rattle.tt_symbolic_state.specs.Values.{Fits, Valuation, value}
 use Rattle.tt_symbolic_state.specs.declared.state.State.{State}

@@ -11,10 +11,10 @@ use Rattle.tt_code.specs.Changes.{plain}
 use Rattle.tt_code.specs.Settings.{Setting as MachineSetting, program_of, starts_in_body}
 use Rattle.tt_code.specs.States.{Machine, Outcome, Exactly}
 use Rattle.tt_code.specs.Runs.{Choices, does, fetched, goes_on, outcome, performs, pushed_on, within_depth}
-use Rattle.tt_abs.specs.declared.setting.Setting.{Setting}
-use Rattle.tt_abs.specs.declared.setting.Point.{Point}
-use Rattle.tt_abs.specs.Settings.{frames_of, setting_of}
-use Rattle.tt_abs.specs.Transfers.{instruction_of}
+use Rattle.tt_setting.specs.declared.setting.Setting.{Setting}
+use Rattle.tt_setting.specs.declared.setting.Point.{Point}
+use Rattle.tt_setting.specs.Settings.{frames_of, setting_of}
+use Rattle.tt_setting.specs.Settings.{instruction_of}
 use Rattle.tt_code.specs.declared.machine.Frame.{Frame}
 use Rattle.tt_code.specs.declared.kinds.Push.{Push}
 use Rattle.tt_code.specs.declared.kinds.StackOp.{StackOp}

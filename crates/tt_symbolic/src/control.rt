@@ -4,7 +4,7 @@ ghost use Rattle.std.specs.Prelude.{◌≡◌, ◌+◌, ◌≤◌, ℕ, ◌++◌
 ghost use Rattle.tt_code.specs.Control.{may_define as may_define_functions};
 ghost use Rattle.tt_code.specs.Settings.{body_name as name_of_body, is_target as is_jump_target};
 ghost use Rattle.tt_code.specs.declared.kinds.Control.TheVariants as control;
-ghost use Rattle.tt_abs.specs.Settings.{frames_of, setting_of};
+ghost use Rattle.tt_setting.specs.Settings.{frames_of, setting_of};
 ghost use Rattle.tt_symbolic_state.specs.Values.{Fits, Valuation, value};
 ghost use Rattle.tt_symbolic.specs.Representation.Leading.{Closes, GoesTo, IsAt, IsKnownFunction, JumpsIf, JumpsTo, Leads, Opens, Repeats};
 

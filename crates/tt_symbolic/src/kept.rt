@@ -2,8 +2,8 @@
 
 ghost use Rattle.std.specs.Prelude.{◌≡◌, OnOk, Some, true, false};
 ghost use Rattle.std.specs.List.{All};
-ghost use Rattle.tt_abs.specs.Moves.{point_instruction};
-ghost use Rattle.tt_abs.specs.Settings.{setting_of};
+ghost use Rattle.tt_setting.specs.Settings.{point_instruction};
+ghost use Rattle.tt_setting.specs.Settings.{setting_of};
 ghost use Rattle.tt_symbolic.specs.Representation.Areas.{IsOutside};
 ghost use Rattle.tt_symbolic.specs.Representation.Keeping.{AreAllPairsNoneOf, ArePairsNoneOf, IsNoStore, IsNoneOf, IsPairNoneOf, IsSecondNoneOf, KeepsControls, KeepsStorage, StoresNothing};
 ghost use Rattle.tt_symbolic.specs.Kept.{StepsKeep};

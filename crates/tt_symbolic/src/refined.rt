@@ -2,7 +2,7 @@
 //! MAX, MIN, MUL, DIV, FLOOR and CEILING.
 
 ghost use Rattle.std.specs.Prelude.{◌≡◌, ◌∷◌, IfOk, OnOk, drop, pos};
-ghost use Rattle.tt_abs.specs.Settings.{setting_of};
+ghost use Rattle.tt_setting.specs.Settings.{setting_of};
 ghost use Rattle.tt_symbolic.specs.Representation.Areas.{ForgetsPair, ForgetsPairs};
 ghost use Rattle.tt_symbolic.specs.Representation.Refined.{ChangeWorks, ChangesWork, ExactWorks, ReadWorks, WriteWorks, exact_line, of_one_line, of_two_line};
 ghost use Rattle.tt_symbolic_state.specs.Values.{Fits, Valuation, value};

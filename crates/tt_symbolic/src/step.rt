@@ -2,8 +2,8 @@
 
 ghost use Rattle.std.specs.Prelude.{◌≡◌, OnOk, Some, true, ℕ};
 ghost use Rattle.tt_code.specs.Cut.{code_of};
-ghost use Rattle.tt_abs.specs.Moves.{point_instruction};
-ghost use Rattle.tt_abs.specs.Settings.{setting_of};
+ghost use Rattle.tt_setting.specs.Settings.{point_instruction};
+ghost use Rattle.tt_setting.specs.Settings.{setting_of};
 ghost use Rattle.tt_symbolic_state.specs.CvtMachine.{ChangesControls, Ordinary, refinement_of};
 ghost use Rattle.tt_symbolic.specs.Representation.Leading.{IsAt, IsInnermost};
 ghost use Rattle.tt_symbolic.specs.Sound.{keeps_controls};

@@ -5,7 +5,7 @@ ghost use Rattle.std.specs.Prelude.{◌≡◌, ◌+◌, IfOk, OnOk, drop, Ok, tr
 ghost use Rattle.tt_code.specs.Operands.{count_of, is_zone, pair, pairs, take_one, take_operand, take_operands as take_all, test_uses as test_all, tested, times};
 ghost use Rattle.tt_code.specs.declared.reason.Reason.{Reason as AnyReason};
 ghost use Rattle.tt_code.specs.States.{is_below};
-ghost use Rattle.tt_abs.specs.Settings.{setting_of};
+ghost use Rattle.tt_setting.specs.Settings.{setting_of};
 ghost use Rattle.tt_symbolic_state.specs.Values.{Fits, Valuation, value};
 ghost use Rattle.tt_symbolic_state.specs.Shows.{graphics_of, values};
 ghost use Rattle.tt_symbolic_cells.specs.Taking.{Leaves, Takes, below_bound};

@@ -4,7 +4,7 @@ ghost use Rattle.std.specs.Prelude.{◌≡◌, ℤ, true};
 ghost use Rattle.tt_code.specs.Settings.{contours_in, zone_size};
 ghost use Rattle.tt_code.specs.States.{is_below, pointer as pointer_of, reference as reference_of, with_pointer, with_reference};
 ghost use Rattle.tt_code.specs.Operands.{is_point, is_zone};
-ghost use Rattle.tt_abs.specs.Settings.{setting_of};
+ghost use Rattle.tt_setting.specs.Settings.{setting_of};
 ghost use Rattle.tt_symbolic_state.specs.Values.{Valuation, value};
 ghost use Rattle.tt_symbolic_state.specs.Shows.{graphics_of, zone_number};
 

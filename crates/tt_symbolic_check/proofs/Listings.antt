@@ -3,11 +3,11 @@ use Rattle.std.proofs.Common.{◌≡◌, ℕ, zero, suc, ◌+◌, ◌<◌, List,
 use Rattle.std.specs.List.{All}
 use Rattle.std.proofs.lemmas.Bool.{eqb-true}
 use Rattle.std.proofs.lemmas.List.Elements.{All-head, All-tail, All-more, All-weaker}
-use Rattle.tt_abs.specs.Cells.{CoversFunctions}
-use Rattle.tt_abs.specs.Entries.{Ascends, listed}
-use Rattle.tt_abs.specs.EntryLaws.{listed-here, listed-there}
-use Rattle.tt_abs.proofs.EntryEdits.{all-at}
-use Rattle.tt_abs.specs.Representation.EntryFacts.{listed-named}
+use Rattle.tt_setting.specs.Functions.{CoversFunctions}
+use Rattle.tt_setting.specs.Entries.{Ascends, listed}
+use Rattle.tt_setting.specs.EntryLaws.{listed-here, listed-there}
+use Rattle.tt_setting.proofs.EntryEdits.{all-at}
+use Rattle.tt_setting.specs.EntryLaws.{listed-named}
 use Rattle.tt_symbolic_state.specs.declared.cell.Cell.{Cell}
 use Rattle.tt_symbolic_state.specs.declared.cell.Range.{Range}
 use Rattle.tt_symbolic_check.specs.Covering.{AgreeEntries, Agrees, Extends, IsEntryOf}

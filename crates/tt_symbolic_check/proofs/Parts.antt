@@ -14,7 +14,7 @@ use Rattle.tt_code.specs.Runs.{IsFresh}
 use Rattle.tt_symbolic_state.specs.CvtMachine.{CvtMachine}
 use Rattle.tt_symbolic_check.specs.Starts.{IsAfter, IsStartState, ShowsAfter, StartsAs}
 use Rattle.tt_symbolic_check.specs.declared.start.Start.{Start}
-use Rattle.tt_abs.specs.Cells.{CoversFunctions}
+use Rattle.tt_setting.specs.Functions.{CoversFunctions}
 use Rattle.tt_symbolic_check.specs.Copying.{IsLower, IsUpper}
 use Rattle.tt_symbolic_check.specs.declared.copying.Split.{Split}
 

@@ -10,9 +10,9 @@ use Rattle.tt_code.specs.Refusals.{Tested}
 use Rattle.tt_code.specs.Runs.{Faults, is_at_end, left_by}
 use Rattle.tt_code.specs.States.{Machine, Outcome}
 use Rattle.tt_code.specs.declared.reason.Reason.{Reason}
-use Rattle.tt_abs.specs.declared.setting.Setting.{Setting}
-use Rattle.tt_abs.specs.Settings.{setting_of}
-use Rattle.tt_abs.specs.Cells.{CoversFunctions}
+use Rattle.tt_setting.specs.declared.setting.Setting.{Setting}
+use Rattle.tt_setting.specs.Settings.{setting_of}
+use Rattle.tt_setting.specs.Functions.{CoversFunctions}
 use Rattle.tt_symbolic_state.specs.declared.cell.Cell.{Cell}
 use Rattle.tt_symbolic_state.specs.declared.cell.Range.{Range}
 use Rattle.tt_symbolic_state.specs.declared.state.OpenCall.{OpenCall}

@@ -1,7 +1,7 @@
 -- What a check answers in place of its ends. (Own.)
-use Rattle.tt_abs.specs.declared.refusal.Refusal.{Refusal}
-use Rattle.tt_abs.specs.declared.setting.Setting.{Setting}
-use Rattle.tt_abs.specs.Refusals.{IsOfNoBudget}
+use Rattle.tt_setting.specs.declared.refusal.Refusal.{Refusal}
+use Rattle.tt_setting.specs.declared.setting.Setting.{Setting}
+use Rattle.tt_setting.specs.Refusals.{IsOfNoBudget}
 
 -- The check of the program of this setting gave this answer. The definition is closed: no other file
 -- can look into it. So the contract of `check` is what shows it of a refusal, and a caller that has

@@ -5,8 +5,8 @@ use Rattle.tt_symbolic_state.specs.declared.cell.Cell.{Cell}
 use Rattle.tt_symbolic_state.specs.declared.cell.Range.{Range}
 use Rattle.tt_symbolic_state.specs.Values.{Assigns, Fits, IsWithin, Valuation, value}
 use Rattle.tt_code.specs.declared.machine.Graphics.{Graphics}
-use Rattle.tt_abs.specs.Cells.{CoversFunctions}
-use Rattle.tt_abs.specs.Entries.{listed}
+use Rattle.tt_setting.specs.Functions.{CoversFunctions}
+use Rattle.tt_setting.specs.Entries.{listed}
 use Rattle.tt_symbolic_state.specs.declared.state.Zone.{Zone}
 use Rattle.tt_symbolic_state.specs.Shows.{IsShown}
 use Rattle.tt_symbolic_state.specs.declared.state.OpenCall.{OpenCall}

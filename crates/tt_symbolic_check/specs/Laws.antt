@@ -2,7 +2,7 @@
 use Rattle.std.specs.Prelude.{[], ◌∷◌}
 use Rattle.tt_code.specs.Runs.{NeverFaults, Runs}
 use Rattle.tt_code.specs.Settings.{Setting}
-use Rattle.tt_abs.specs.Soundness.{StartsWith}
+use Rattle.tt_setting.specs.Functions.{StartsWith}
 use Rattle.tt_symbolic_state.specs.CvtMachine.{CvtMachine, CvtRuns}
 use Rattle.tt_symbolic_check.specs.Checked.{IsSafe}
 use Rattle.tt_symbolic_check.specs.Starts.{StartsAs}

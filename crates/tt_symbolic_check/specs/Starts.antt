@@ -1,7 +1,7 @@
 -- The machines with which a program starts.
 use Rattle.std.specs.Prelude.{◌≡◌, ℕ, List, Some, slice_get}
 use Rattle.tt_code.specs.Runs.{IsFresh}
-use Rattle.tt_abs.specs.Cells.{CoversFunctions}
+use Rattle.tt_setting.specs.Functions.{CoversFunctions}
 use Rattle.tt_symbolic_state.specs.CvtMachine.{CvtMachine}
 use Rattle.tt_symbolic_state.specs.Shows.{IsShown, ShowsArea}
 use Rattle.tt_symbolic_state.specs.Values.{Fits, Valuation}

@@ -1,8 +1,8 @@
 //! The check of a program by listed symbolic states.
 
 ghost use Rattle.std.specs.Prelude.{IfErr, IfOk};
-ghost use Rattle.tt_abs.specs.Refusals.{IsOfNoBudget};
-ghost use Rattle.tt_abs.specs.Settings.{setting_of};
+ghost use Rattle.tt_setting.specs.Refusals.{IsOfNoBudget};
+ghost use Rattle.tt_setting.specs.Settings.{setting_of};
 ghost use Rattle.tt_symbolic_check.specs.Answers.{IsAnswerOfCheck};
 ghost use Rattle.tt_symbolic_check.specs.Checked.{AreEnds, IsSafe, KeepsEntries};
 

@@ -4,8 +4,8 @@
 ghost use Rattle.std.specs.Prelude.{◌≡◌, ◌+ℤ◌, ◌*ℤ◌, IfOk, IfSome, Some, slice_get, true};
 ghost use Rattle.tt_symbolic_state.specs.Values.{Assigns, Valuation, value};
 ghost use Rattle.tt_symbolic_check.specs.Covering.{AgreeAll, AgreeCall, AgreeCalls, AgreeEntries, AgreeGraphics, AgreeStates, Agrees, Covers, Extends, IsImageWithin, RangesWithin};
-ghost use Rattle.tt_abs.specs.Cells.{CoversFunctions};
-ghost use Rattle.tt_abs.specs.Entries.{listed};
+ghost use Rattle.tt_setting.specs.Functions.{CoversFunctions};
+ghost use Rattle.tt_setting.specs.Entries.{listed};
 
 use std::alloc::{AllocError, Global};
 use tt_abs::SortedMap;

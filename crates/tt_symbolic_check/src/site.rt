@@ -1,8 +1,8 @@
 //! Where a state is.
 
 ghost use Rattle.std.specs.Prelude.{◌≡◌};
-ghost use Rattle.tt_abs.specs.Refusals.{IsOfNoBudget, refusal_at};
-ghost use Rattle.tt_abs.specs.declared.failed.Failed.TheVariants.{Only};
+ghost use Rattle.tt_setting.specs.Refusals.{IsOfNoBudget, refusal_at};
+ghost use Rattle.tt_setting.specs.declared.failed.Failed.TheVariants.{Only};
 
 use tt_abs::{Refusal, Spot, StepFault};
 use tt_code::Reason;

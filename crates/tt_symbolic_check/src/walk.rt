@@ -1,7 +1,7 @@
 //! The walk: what waits is carried on, a state at a time, until nothing does.
 
 ghost use Rattle.std.specs.Prelude.{◌≡◌, ◌<◌, ℕ, [], ◌∷◌, ◌++◌, IfErr, IfOk, IfSome, None, OnOk, Some, false, length, slice_get, slice_set, true};
-ghost use Rattle.tt_abs.specs.Refusals.{IsOfNoBudget};
+ghost use Rattle.tt_setting.specs.Refusals.{IsOfNoBudget};
 ghost use Rattle.tt_symbolic_check.specs.Walking.{Begins, EndsAs, Finishes, IsCoveredBy, NothingPending, PutsEnd, PutsPending, Reaches, TakesPending, Walks};
 
 use crate::copying::{Split, lower, raise};

@@ -1,13 +1,13 @@
 -- What a check of a font program or a CVT program answers.
 use Rattle.std.proofs.Common.{◌≡◌, ℕ, List, [], Some, slice_get, subst, sym}
 use Rattle.tt_code.specs.declared.reason.Reason.TheVariants.{NeverEnds}
-use Rattle.tt_abs.specs.declared.exhausted.Exhausted.TheVariants.{Memory}
-use Rattle.tt_abs.specs.declared.failed.Failed.TheVariants.{Only}
-use Rattle.tt_abs.specs.declared.refusal.Refusal.{Refusal}
-use Rattle.tt_abs.specs.declared.refusal.Refusal.TheVariants.{Refused, Exhausted}
-use Rattle.tt_abs.specs.declared.setting.Setting.{Setting}
-use Rattle.tt_abs.specs.declared.spot.Spot.TheVariants.{Main}
-use Rattle.tt_abs.specs.Settings.{setting_of}
+use Rattle.tt_setting.specs.declared.exhausted.Exhausted.TheVariants.{Memory}
+use Rattle.tt_setting.specs.declared.failed.Failed.TheVariants.{Only}
+use Rattle.tt_setting.specs.declared.refusal.Refusal.{Refusal}
+use Rattle.tt_setting.specs.declared.refusal.Refusal.TheVariants.{Refused, Exhausted}
+use Rattle.tt_setting.specs.declared.setting.Setting.{Setting}
+use Rattle.tt_setting.specs.declared.spot.Spot.TheVariants.{Main}
+use Rattle.tt_setting.specs.Settings.{setting_of}
 use Rattle.tt_symbolic_check.specs.Answers.{IsAnswerOfCheck}
 use Rattle.tt_symbolic_check.specs.Checked.{IsShownByOne}
 use Rattle.tt_symbolic_state.specs.CvtMachine.{CvtMachine}

@@ -2,7 +2,7 @@
 use Rattle.std.proofs.Common.{◌≡◌, ℕ, zero, suc, List, [], ◌∷◌, ◌++◌, Some, pos, slice_get, length, refl, sym, subst}
 use Rattle.std.specs.List.{All}
 use Rattle.std.proofs.lemmas.List.Elements.{All-head, All-tail}
-use Rattle.tt_abs.specs.Cells.{CoversFunctions}
+use Rattle.tt_setting.specs.Functions.{CoversFunctions}
 use Rattle.tt_symbolic_state.specs.CvtMachine.{CvtMachine}
 use Rattle.tt_symbolic_state.specs.Shows.{IsShown, ShowsArea}
 use Rattle.tt_symbolic_state.specs.Values.{Fits}

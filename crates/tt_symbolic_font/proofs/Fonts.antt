@@ -1,6 +1,6 @@
 -- A font whose programs were checked is safe.
 use Rattle.std.proofs.Common.{◌≡◌, ◌⊎◌, ℕ, ℤ, List, [], Some, refl, sym, ◌∙◌, subst, inl, inr}
-use Rattle.tt_abs.specs.Cells.{CoversFunctions}
+use Rattle.tt_setting.specs.Functions.{CoversFunctions}
 use Rattle.tt_code.specs.Control.{body_named}
 use Rattle.tt_code.specs.Fonts.{Font, cvt_setting, font_setting}
 use Rattle.tt_code.specs.Runs.{IsFresh}

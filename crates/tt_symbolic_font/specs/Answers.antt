@@ -1,13 +1,13 @@
 -- Why a font program or a CVT program isn't accepted. (Own.)
 use Rattle.std.specs.Prelude.{ℕ, List}
 use Rattle.tt_code.specs.declared.reason.Reason.TheVariants.{NeverEnds}
-use Rattle.tt_abs.specs.declared.exhausted.Exhausted.TheVariants.{Memory}
-use Rattle.tt_abs.specs.declared.failed.Failed.TheVariants.{Only}
-use Rattle.tt_abs.specs.declared.refusal.Refusal.{Refusal}
-use Rattle.tt_abs.specs.declared.refusal.Refusal.TheVariants.{Refused, Exhausted}
-use Rattle.tt_abs.specs.declared.setting.Setting.{Setting}
-use Rattle.tt_abs.specs.declared.spot.Spot.TheVariants.{Main}
-use Rattle.tt_abs.specs.Settings.{setting_of}
+use Rattle.tt_setting.specs.declared.exhausted.Exhausted.TheVariants.{Memory}
+use Rattle.tt_setting.specs.declared.failed.Failed.TheVariants.{Only}
+use Rattle.tt_setting.specs.declared.refusal.Refusal.{Refusal}
+use Rattle.tt_setting.specs.declared.refusal.Refusal.TheVariants.{Refused, Exhausted}
+use Rattle.tt_setting.specs.declared.setting.Setting.{Setting}
+use Rattle.tt_setting.specs.declared.spot.Spot.TheVariants.{Main}
+use Rattle.tt_setting.specs.Settings.{setting_of}
 use Rattle.tt_symbolic_check.specs.Answers.{IsAnswerOfCheck}
 use Rattle.tt_symbolic_font.specs.Known.{NeverComesToEnd}
 

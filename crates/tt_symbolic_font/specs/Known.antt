@@ -1,7 +1,7 @@
 -- What is known at the ends of a font program and a CVT program, and with what glyph programs start.
 use Rattle.std.specs.Prelude.{◌≡◌, ℕ, List, Some, slice_get, true}
-use Rattle.tt_abs.specs.Cells.{CoversFunctions}
-use Rattle.tt_abs.specs.Entries.{listed}
+use Rattle.tt_setting.specs.Functions.{CoversFunctions}
+use Rattle.tt_setting.specs.Entries.{listed}
 use Rattle.tt_code.specs.Runs.{IsFresh, is_at_end}
 use Rattle.tt_code.specs.Settings.{Setting}
 use Rattle.tt_symbolic_state.specs.CvtMachine.{CvtMachine, CvtNeverFaults, CvtRuns}

@@ -1,8 +1,8 @@
 //! The font program and the CVT program, and what is known at their ends.
 
 ghost use Rattle.std.specs.Prelude.{◌≡◌, IfErr, IfOk, true};
-ghost use Rattle.tt_abs.specs.Refusals.{IsOfNoBudget};
-ghost use Rattle.tt_abs.specs.Settings.{setting_of};
+ghost use Rattle.tt_setting.specs.Refusals.{IsOfNoBudget};
+ghost use Rattle.tt_setting.specs.Settings.{setting_of};
 ghost use Rattle.tt_symbolic_font.specs.Answers.{IsAnswerBeforeGlyphs};
 ghost use Rattle.tt_symbolic_font.specs.Known.{AreEndsKnowing, AreKnown, IsSafeKnowing, StartsKnowing};
 ghost use Rattle.tt_symbolic_check.specs.Starts.{StartsAs};

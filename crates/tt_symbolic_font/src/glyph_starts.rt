@@ -1,8 +1,8 @@
 //! With what glyph programs start.
 
 ghost use Rattle.std.specs.Prelude.{◌≡◌, ℕ, IfErr, IfOk, IfSome, OnOk, Some, slice_get, true};
-ghost use Rattle.tt_abs.specs.Refusals.{IsOfNoBudget};
-ghost use Rattle.tt_abs.specs.Settings.{setting_of};
+ghost use Rattle.tt_setting.specs.Refusals.{IsOfNoBudget};
+ghost use Rattle.tt_setting.specs.Settings.{setting_of};
 ghost use Rattle.tt_symbolic.specs.Kept.{IsAmong};
 ghost use Rattle.tt_symbolic_check.specs.Answers.{IsAnswerOfCheck};
 ghost use Rattle.tt_symbolic_check.specs.Starts.{StartsAs};

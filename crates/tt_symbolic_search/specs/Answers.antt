@@ -1,7 +1,7 @@
 -- What a search answers in place of listed states. (Own.)
-use Rattle.tt_abs.specs.declared.refusal.Refusal.{Refusal}
-use Rattle.tt_abs.specs.declared.setting.Setting.{Setting}
-use Rattle.tt_abs.specs.Refusals.{IsOfNoBudget}
+use Rattle.tt_setting.specs.declared.refusal.Refusal.{Refusal}
+use Rattle.tt_setting.specs.declared.setting.Setting.{Setting}
+use Rattle.tt_setting.specs.Refusals.{IsOfNoBudget}
 
 -- The search for the program of this setting gave this answer. The definition is closed: no other
 -- file can look into it. So the contract of `Search::find` is what shows it of a refusal, and a

@@ -1,7 +1,7 @@
 //! A run of the search: from the starts of a program until nothing waits, or until a state is
 //! refused.
 
-ghost use Rattle.tt_abs.specs.Refusals.{IsOfNoBudget};
+ghost use Rattle.tt_setting.specs.Refusals.{IsOfNoBudget};
 
 use crate::arrivals::{Arrival, Arrivals};
 use crate::blame::culprits;

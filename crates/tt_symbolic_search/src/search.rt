@@ -1,7 +1,7 @@
 //! The search of a font: what was learnt from its programs so far, and the listed states of the next.
 
 ghost use Rattle.std.specs.Prelude.{IfErr};
-ghost use Rattle.tt_abs.specs.Refusals.{IsOfNoBudget};
+ghost use Rattle.tt_setting.specs.Refusals.{IsOfNoBudget};
 ghost use Rattle.tt_symbolic_search.specs.Answers.{IsAnswerOfSearch};
 
 use crate::blending::Merges;

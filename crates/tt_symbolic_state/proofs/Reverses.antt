@@ -3,7 +3,7 @@ use Rattle.std.proofs.Common.{◌≡◌, ℕ, ◌-◌, ◌<◌, List, length, ta
 use Rattle.std.proofs.lemmas.Bool.{cases_lt}
 use Rattle.std.proofs.lemmas.List.{length-reverse, drop_all, get_or-reverse, reverse-reverse}
 use Rattle.std.specs.List.{All}
-use Rattle.tt_abs.proofs.Reversed.{reverse-take}
+use Rattle.tt_setting.proofs.Reversed.{reverse-take}
 
 pub cut_is : {A : Type 0} (cells stack : List A) (count k : ℕ) → reverse cells ≡ stack → k ≡ length cells - count → reverse (take k cells) ≡ drop count stack
 cut_is cells stack count k same e = elim (cases_lt (length cells) count) [ inl all ↦ past all | inr some ↦ reverse-take cells k count (omega arith) ∙ ap (drop count) same ]

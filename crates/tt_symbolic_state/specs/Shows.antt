@@ -5,8 +5,8 @@ use Rattle.tt_code.specs.Settings.{ZoneNumber, Zero, One}
 use Rattle.tt_code.specs.States.{Machine, IsNumber}
 use Rattle.tt_code.specs.declared.machine.Frame.{Frame}
 use Rattle.tt_code.specs.declared.machine.Graphics.{Graphics}
-use Rattle.tt_abs.specs.Cells.{CoversFunctions}
-use Rattle.tt_abs.specs.Entries.{listed}
+use Rattle.tt_setting.specs.Functions.{CoversFunctions}
+use Rattle.tt_setting.specs.Entries.{listed}
 use Rattle.tt_symbolic_state.specs.declared.cell.Cell.{Cell}
 use Rattle.tt_symbolic_state.specs.declared.cell.Range.{Range}
 use Rattle.tt_symbolic_state.specs.Values.{Fits, IsWithin, Valuation, value}

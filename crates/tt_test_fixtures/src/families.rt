@@ -1,7 +1,7 @@
 //! What the tests share: states, and builders into which contexts and states are put.
 
 ghost use Rattle.std.specs.Prelude.{IfOk};
-ghost use Rattle.tt_abs.specs.Entries.{Ascends};
+ghost use Rattle.tt_setting.specs.Entries.{Ascends};
 ghost use Rattle.tt_abs.specs.States.{state_order};
 
 use std::alloc::{AllocError, Global};

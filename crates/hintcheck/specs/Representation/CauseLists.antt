@@ -10,8 +10,8 @@ use Rattle.hintcheck.specs.declared.causes.Cause.{Cause}
 use Rattle.hintcheck.specs.declared.causes.CauseKey.{CauseKey}
 use Rattle.hintcheck.specs.declared.causes.CauseKey.TheVariants as key
 use Rattle.hintcheck.specs.contracts.causes.CauseKeyPartialEq.TheImpl as key_equality
-use Rattle.tt_cert.specs.declared.name.Name.{Name}
-use Rattle.tt_cert.specs.declared.name.Name.TheVariants as name
+use Rattle.tt_setting.specs.declared.name.Name.{Name}
+use Rattle.tt_setting.specs.declared.name.Name.TheVariants as name
 use Rattle.hintcheck_report.specs.declared.refused.Refused.{Refused}
 
 -- the key of a place and of the number of a reason

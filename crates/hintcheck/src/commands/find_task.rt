@@ -6,7 +6,7 @@ ghost use Rattle.hintcheck_fonts.specs.BudgetAnswers.{IsOutsideFont};
 ghost use Rattle.hintcheck_fonts.specs.CertificateFaults.{CountsFind, WritesNothing};
 ghost use Rattle.hintcheck_fonts.specs.CertificateTexts.{IsPassingCertificate, WritesText};
 ghost use Rattle.hintcheck_report.specs.declared.answer_fault.AnswerFault.{AnswerFault};
-ghost use Rattle.tt_abs.specs.declared.exhausted.Exhausted.{Exhausted as By};
+ghost use Rattle.tt_setting.specs.declared.exhausted.Exhausted.{Exhausted as By};
 ghost use Rattle.hintcheck.specs.Commands.{IsNoWriteFault};
 ghost use Rattle.hintcheck.specs.CommandFaults.{IsFaultOfCertifying, IsFaultOfFinding, IsWithin};
 ghost use Rattle.hintcheck_fonts.specs.FontPrograms.{IsFontInRange, IsVerdict};

@@ -1,6 +1,6 @@
 -- The limits of a font that can be raised.
 use Rattle.std.specs.Prelude.{ℕ}
-use Rattle.tt_abs.specs.declared.setting.Setting.{Setting as Subject}
+use Rattle.tt_setting.specs.declared.setting.Setting.{Setting as Subject}
 use Rattle.hintcheck_report.specs.Bounds.{cvt_count_with, limits_with}
 use Rattle.hintcheck_report.specs.declared.bound.Bound.{Bound}
 

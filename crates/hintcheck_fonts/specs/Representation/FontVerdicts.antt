@@ -2,7 +2,7 @@
 use Rattle.std.specs.Prelude.{ℕ, List}
 use Rattle.tt_code.specs.Cut.{Instruction}
 use Rattle.tt_code.specs.Settings.{Kind, FontProgram, CvtProgram, GlyphProgram}
-use Rattle.tt_abs.specs.Entries.{Ascends}
+use Rattle.tt_setting.specs.Entries.{Ascends}
 use Rattle.tt_abs.specs.StateFlow.{FunctionsFit}
 use Rattle.tt_font.specs.Reading.{FontData}
 use Rattle.hintcheck_fonts.specs.FontPrograms.{IsVerdict, judgement_on}

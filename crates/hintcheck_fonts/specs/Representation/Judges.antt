@@ -3,7 +3,7 @@ use Rattle.std.specs.Prelude.{◌≡◌, ◌⊎◌, ℕ, ◌<◌, ◌^◌, List,
 use Rattle.tt_code.specs.Cut.{Instruction}
 use Rattle.tt_code.specs.Settings.{GlyphProgram}
 use Rattle.tt_code.specs.declared.limits.Limits.{Limits}
-use Rattle.tt_abs.specs.Entries.{listed}
+use Rattle.tt_setting.specs.Entries.{listed}
 use Rattle.tt_cert.specs.declared.form.Form.{Form}
 use Rattle.tt_family.specs.Contents.{Contents, family_of}
 use Rattle.tt_family.specs.Fillings.{HasGoodFilling}

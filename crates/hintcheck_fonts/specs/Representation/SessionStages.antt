@@ -5,7 +5,7 @@ use Rattle.tt_cert.specs.Answers.{input_at}
 use Rattle.tt_cert.specs.Reading.{header_at}
 use Rattle.tt_cert.specs.declared.form.Form.{Form}
 use Rattle.tt_cert.specs.declared.form.Form.TheVariants.{Four}
-use Rattle.tt_cert.specs.declared.name.Name.{Name}
+use Rattle.tt_setting.specs.declared.name.Name.{Name}
 use Rattle.tt_font.specs.Reading.{FontData, GlyphData}
 use Rattle.hintcheck_fonts.specs.CertificateTexts.{IsEndedText, IsGlyphText, IsReadableListing}
 use Rattle.hintcheck_fonts.specs.CheckedFonts.{Finds, IsGoodAtEnd, IsTold}

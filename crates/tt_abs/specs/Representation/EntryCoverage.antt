@@ -4,10 +4,13 @@ use Rattle.std.specs.Prelude.{◌≡◌, ℕ, ℤ, pos, ◌↔◌, List, Option,
 use Rattle.std.specs.Option.{unwrap_or}
 use Rattle.std.proofs.Common.{refl, sym, ◌∙◌, ap, subst, rules}
 use Rattle.tt_code.specs.States.{IsNumber}
-use Rattle.tt_abs.specs.Cells.{Covers, CoversFunctions, CoversStorage}
-use Rattle.tt_abs.specs.Entries.{listed, known_or_not, storage_of}
-use Rattle.tt_abs.specs.EntryLists.{EntriesBelow, EntriesInRange}
-use Rattle.tt_abs.specs.Representation.EntryFacts.{listed-all, listed-named}
+use Rattle.tt_abs.specs.Cells.{Covers, CoversStorage}
+use Rattle.tt_setting.specs.Functions.{CoversFunctions}
+use Rattle.tt_setting.specs.Entries.{listed}
+use Rattle.tt_abs.specs.StorageCells.{known_or_not, storage_of}
+use Rattle.tt_abs.specs.EntryOrders.{EntriesBelow, EntriesInRange}
+use Rattle.tt_abs.specs.Representation.EntryFacts.{listed-all}
+use Rattle.tt_setting.specs.EntryLaws.{listed-named}
 
 -- Functions: the machine's are in any order.
 

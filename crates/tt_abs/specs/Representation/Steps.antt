@@ -16,19 +16,21 @@ use Rattle.tt_code.specs.declared.kinds.Update.{Update}
 use Rattle.tt_code.specs.declared.reason.Reason.{Reason}
 use Rattle.tt_abs.specs.declared.cells.Cell.{Cell}
 use Rattle.tt_abs.specs.declared.moves.Moves.{Moves}
-use Rattle.tt_abs.specs.declared.step_fault.StepFault.{StepFault}
-use Rattle.tt_abs.specs.declared.setting.Setting.{Setting}
-use Rattle.tt_abs.specs.declared.setting.Point.{Point}
+use Rattle.tt_setting.specs.declared.step_fault.StepFault.{StepFault}
+use Rattle.tt_setting.specs.declared.setting.Setting.{Setting}
+use Rattle.tt_setting.specs.declared.setting.Point.{Point}
 use Rattle.tt_abs.specs.declared.state.State.{State}
-use Rattle.tt_abs.specs.declared.failed.Failed.{Failed}
-use Rattle.tt_abs.specs.declared.failed.Role.TheVariants as role
+use Rattle.tt_setting.specs.declared.failed.Failed.{Failed}
+use Rattle.tt_setting.specs.declared.failed.Role.TheVariants as role
 use Rattle.tt_abs.specs.Cells.{Abstract}
 use Rattle.tt_abs.specs.declared.control.Callee.{Callee}
 use Rattle.tt_abs.specs.declared.control.Distance.{Distance}
-use Rattle.tt_abs.specs.Failures.{IsOnTop, IsRoleIn, IsRoleInLine, Roles, TellsWith, reason_of}
-use Rattle.tt_abs.specs.Entries.{storage_of}
-use Rattle.tt_abs.specs.Moves.{ForReason, LeadsBy, TellsOf, nexts_of}
-use Rattle.tt_abs.specs.Settings.{frames_of, setting_of}
+use Rattle.tt_abs.specs.Failures.{IsOnTop, IsRoleIn, IsRoleInLine, Roles, TellsWith}
+use Rattle.tt_setting.specs.Refusals.{reason_of}
+use Rattle.tt_abs.specs.StorageCells.{storage_of}
+use Rattle.tt_setting.specs.Refusals.{ForReason}
+use Rattle.tt_abs.specs.Moves.{LeadsBy, TellsOf, nexts_of}
+use Rattle.tt_setting.specs.Settings.{frames_of, setting_of}
 use Rattle.tt_abs.specs.States.{abstract_of}
 use Rattle.tt_abs.specs.Representation.Taken.{IsNoRole, IsRole}
 use Rattle.tt_abs.specs.Transfers.{Next, called_cell, cell_pushed, cells, cells_pushed, does_cells, enters_cells, if_ways, jump_target, jumps_by, jumps_if_cells, known, loops_cells, plain_cells, shuffled_cells}

@@ -13,14 +13,16 @@ use Rattle.tt_code.specs.declared.kinds.Within.{Within}
 use Rattle.tt_code.specs.States.{is_below}
 use Rattle.tt_abs.specs.declared.cells.Cell.{Cell}
 use Rattle.tt_abs.specs.declared.cells.Cell.TheVariants.{Known}
-use Rattle.tt_abs.specs.declared.cells.ZoneCell.{ZoneCell}
-use Rattle.tt_abs.specs.declared.setting.Setting.{Setting}
-use Rattle.tt_abs.specs.declared.failed.Failed.{Failed}
-use Rattle.tt_abs.specs.declared.failed.Role.{Role}
+use Rattle.tt_setting.specs.declared.zone.ZoneCell.{ZoneCell}
+use Rattle.tt_setting.specs.declared.setting.Setting.{Setting}
+use Rattle.tt_setting.specs.declared.failed.Failed.{Failed}
+use Rattle.tt_setting.specs.declared.failed.Role.{Role}
 use Rattle.tt_abs.specs.Cells.{Abstract, Cells}
-use Rattle.tt_abs.specs.Failures.{Roles, TellsWith, reason_of, role_in_operand}
-use Rattle.tt_abs.specs.Settings.{setting_of}
-use Rattle.tt_abs.specs.Transfers.{is_below_in, is_point_in, known_count, take_cell, test_cell_uses, tested_cell}
+use Rattle.tt_abs.specs.Failures.{Roles, TellsWith, role_in_operand}
+use Rattle.tt_setting.specs.Refusals.{reason_of}
+use Rattle.tt_setting.specs.Settings.{setting_of}
+use Rattle.tt_setting.specs.Settings.{is_below_in}
+use Rattle.tt_abs.specs.Transfers.{is_point_in, known_count, take_cell, test_cell_uses, tested_cell}
 
 -- the operands are taken, and what lies under the first n cells is left
 abbrev pub TakesTo : List Cell → ℕ → Tested (Taking Cell) → Type 0

@@ -2,7 +2,7 @@
 -- appended.
 use Rattle.std.specs.Prelude.{◌≡◌, ℕ, true, List, [], ◌∷◌, ◌++◌, Option, is_some, Result, Ok, Err, IfErr, OnOk}
 use Rattle.tt_family.specs.Contents.{Contents, IsFamily}
-use Rattle.tt_cert.specs.declared.fault.CertFault.{CertFault}
+use Rattle.tt_setting.specs.declared.cert_fault.CertFault.{CertFault}
 use Rattle.tt_cert.specs.Answers.{Fails, Gives, StopsAtEnd, input_at}
 use Rattle.tt_cert.specs.declared.form.Form.{Form}
 use Rattle.tt_cert.specs.Readers.{Answer, Input, list_at}

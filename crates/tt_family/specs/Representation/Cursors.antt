@@ -11,8 +11,8 @@ use Rattle.tt_abs.specs.declared.state.State.{State}
 use Rattle.tt_abs.specs.Families.{CoversAt}
 use Rattle.tt_abs.specs.Lines.{Precedes}
 use Rattle.tt_abs.specs.StateFlow.{Place, GivesState, RefusesState}
-use Rattle.tt_abs.specs.Settings.{setting_of}
-use Rattle.tt_abs.specs.declared.setting.Setting.{Setting as Subject}
+use Rattle.tt_setting.specs.Settings.{setting_of}
+use Rattle.tt_setting.specs.declared.setting.Setting.{Setting as Subject}
 use Rattle.tt_abs.specs.Moves.{frames_after, nexts_of, offset_after, ways_of}
 use Rattle.tt_abs.specs.States.{abstract_of, start_of, state_order}
 use Rattle.tt_abs.specs.declared.moves.Move.{Move}
@@ -25,7 +25,7 @@ use Rattle.tt_family.specs.GoodFamilies.{EndsWell, IsShortEnough}
 use Rattle.tt_family.specs.Places.{IsLess, place_cmp, states_of}
 use Rattle.tt_family.specs.Puts.{place_of}
 use Rattle.tt_family.specs.Checks.{AreCovered, AreMet, BreaksAt, HasNextTurn, IsBrokenBy, IsFilledBy, IsFirstBreakOnTheWay, IsFirstGap, IsSoundAt, Names, NamesGap, Nowhere, point_key_of, place_of_next}
-use Rattle.tt_abs.specs.declared.refusal.Refusal.{Refusal}
+use Rattle.tt_setting.specs.declared.refusal.Refusal.{Refusal}
 use Rattle.tt_family.specs.declared.listing.Listing.{Listing}
 use Rattle.tt_family.specs.declared.listing.Listing.TheVariants.{Whole, Sparse}
 use Rattle.tt_family.specs.declared.meeting.Coverage.{Coverage}

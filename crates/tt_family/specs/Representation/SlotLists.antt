@@ -5,7 +5,7 @@ use Rattle.std.specs.List.{AllByRecursion}
 use Rattle.std.specs.List.Sorted.{IsStrictlySortedBy}
 use Rattle.std.specs.BTreeMap.{insert_entry}
 use Rattle.std.specs.Map.{keys_of}
-use Rattle.tt_abs.specs.Entries.{Ascends, listed}
+use Rattle.tt_setting.specs.Entries.{Ascends, listed}
 use Rattle.tt_family.specs.Places.{place_cmp, states_of}
 
 -- a slot with its place, which is a context and an offset

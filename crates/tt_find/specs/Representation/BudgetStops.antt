@@ -1,8 +1,8 @@
 -- What a stop of the finder tells of the budget.
 use Rattle.std.specs.Prelude.{Result, Ok, Err}
-use Rattle.tt_abs.specs.Refusals.{IsOfNoBudget}
-use Rattle.tt_family.specs.Budgets.{AreAlike, RefusalTells}
-use Rattle.tt_family.specs.declared.budget.Budget.{Budget}
+use Rattle.tt_setting.specs.Refusals.{IsOfNoBudget}
+use Rattle.tt_setting.specs.Budgets.{AreAlike, RefusalTells}
+use Rattle.tt_setting.specs.declared.budget.Budget.{Budget}
 use Rattle.tt_find.specs.declared.stop.Stop.{Stop}
 use Rattle.tt_find.specs.declared.stop.Stop.TheVariants.{Fault, Restart}
 

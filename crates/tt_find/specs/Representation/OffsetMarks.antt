@@ -1,9 +1,9 @@
 -- At which offsets of the programs states are kept.
 use Rattle.std.specs.Prelude.{◌≡◌, ℕ, cond, List, slice_index_or}
 use Rattle.tt_abs.specs.StateFlow.{Place}
-use Rattle.tt_abs.specs.Spots.{spot_of}
-use Rattle.tt_abs.specs.declared.spot.Spot.{Spot}
-use Rattle.tt_abs.specs.declared.spot.Spot.TheVariants.{Main, Font, Prep}
+use Rattle.tt_setting.specs.Spots.{spot_of}
+use Rattle.tt_setting.specs.declared.spot.Spot.{Spot}
+use Rattle.tt_setting.specs.declared.spot.Spot.TheVariants.{Main, Font, Prep}
 use Rattle.tt_find.specs.declared.marks.Mark.{Mark}
 use Rattle.tt_find.specs.declared.marks.Mark.TheVariants.{Kept}
 use Rattle.tt_find.specs.declared.marks.OffsetMarks.{OffsetMarks}

@@ -3,12 +3,12 @@
 use Rattle.std.specs.Prelude.{ℕ, Bool, Option, [], ◌∷◌}
 use Rattle.tt_abs.specs.declared.instruction.Stepped.{Stepped}
 use Rattle.tt_abs.specs.declared.moves.Moves.{Moves}
-use Rattle.tt_abs.specs.declared.setting.Setting.{Setting as Subject}
+use Rattle.tt_setting.specs.declared.setting.Setting.{Setting as Subject}
 use Rattle.tt_abs.specs.Lines.{Precedes}
-use Rattle.tt_abs.specs.Settings.{setting_of}
+use Rattle.tt_setting.specs.Settings.{setting_of}
 use Rattle.tt_family.specs.Contents.{Contents}
 use Rattle.tt_family.specs.Fillings.{IsJustAfter}
-use Rattle.tt_abs.specs.declared.refusal.Refusal.{Refusal}
+use Rattle.tt_setting.specs.declared.refusal.Refusal.{Refusal}
 use Rattle.tt_find.specs.Found.{IsJustified, NamesPlace, NamesStop}
 use Rattle.tt_find.specs.Representation.Solvers.{GoesOn, HasLaws, IsCarried, IsFound, IsLeadingAt, IsOnWay, IsPopped, IsRefusedAt, IsWhole, calls_of, here_of, places_from}
 use Rattle.tt_find.specs.declared.solver.Solver.{Solver}

@@ -15,7 +15,8 @@ use Rattle.tt_abs.specs.Flows.{Flow, FlowLaws}
 use Rattle.tt_abs.specs.Lines.{EndsAt, Precedes}
 use Rattle.tt_abs.specs.Moves.{frames_after, nexts_of, offset_after, ways_of}
 use Rattle.tt_abs.specs.Orders.{Order}
-use Rattle.tt_abs.specs.StateFlow.{AreProgramsShort, GivesState, Place, RefusesState, flow_of, height_of}
+use Rattle.tt_setting.specs.Ranges.{AreProgramsShort}
+use Rattle.tt_abs.specs.StateFlow.{GivesState, Place, RefusesState, flow_of, height_of}
 use Rattle.tt_abs.specs.States.{abstract_of, state_order}
 use Rattle.tt_abs.specs.Transfers.{outcome_on_cells}
 use Rattle.tt_family.specs.Checks.{point_key_of}
@@ -23,10 +24,10 @@ use Rattle.tt_family.specs.Contents.{Contents, IsFamily, family_of, frames_at, p
 use Rattle.tt_family.specs.GoodFamilies.{EndsWell, IsShortEnough}
 use Rattle.tt_family.specs.Places.{PutsAt, has_point, states_of}
 use Rattle.tt_family.specs.Puts.{Reweighs, place_of}
-use Rattle.tt_abs.specs.Spots.{spot_of}
-use Rattle.tt_abs.specs.declared.spot.Spot.{Spot}
+use Rattle.tt_setting.specs.Spots.{spot_of}
+use Rattle.tt_setting.specs.declared.spot.Spot.{Spot}
 use Rattle.tt_family.specs.Fillings.{IsJustAfter}
-use Rattle.tt_abs.specs.declared.refusal.Refusal.{Refusal}
+use Rattle.tt_setting.specs.declared.refusal.Refusal.{Refusal}
 use Rattle.tt_find.specs.Found.{ArePointsOf, IsDerived, IsNeeded, NamesPlace, NamesStop}
 use Rattle.tt_find.specs.Representation.OffsetMarks.{SetsMark, mark_at, mark_of}
 use Rattle.tt_find.specs.declared.marks.Mark.TheVariants.{Free, Kept, Passed}

@@ -6,7 +6,7 @@ use Rattle.tt_code.specs.Changes.{numbers, updated, all_updated}
 use Rattle.tt_code.specs.declared.kinds.Update.{Update}
 use Rattle.tt_symbolic_state.specs.Values.{Fits, Valuation}
 use Rattle.tt_symbolic_state.specs.Shows.{Shows, values}
-use Rattle.tt_abs.specs.Entries.{with_entry}
+use Rattle.tt_setting.specs.Entries.{with_entry}
 use Rattle.tt_symbolic_state.specs.declared.cell.Cell.{Cell}
 use Rattle.tt_symbolic_state.specs.declared.state.State.{State}
 use Rattle.tt_symbolic.specs.Representation.Areas.{Forgets}

@@ -5,9 +5,9 @@ use Rattle.tt_code.specs.Settings.{body_offset, is_target}
 use Rattle.tt_code.specs.States.{Machine, is_true, leaves}
 use Rattle.tt_code.specs.declared.kinds.Control.{Control}
 use Rattle.tt_code.specs.declared.machine.Frame.{Frame}
-use Rattle.tt_abs.specs.declared.setting.Setting.{Setting}
-use Rattle.tt_abs.specs.declared.setting.Point.{Point}
-use Rattle.tt_abs.specs.Settings.{frames_of, setting_of}
+use Rattle.tt_setting.specs.declared.setting.Setting.{Setting}
+use Rattle.tt_setting.specs.declared.setting.Point.{Point}
+use Rattle.tt_setting.specs.Settings.{frames_of, setting_of}
 use Rattle.tt_symbolic_state.specs.declared.state.OpenCall.{OpenCall}
 use Rattle.tt_symbolic_state.specs.declared.state.State.{State}
 use Rattle.tt_symbolic_state.specs.Shows.{Shows, values}

@@ -8,7 +8,7 @@ use Rattle.tt_code.specs.Runs.{Choices, left_by}
 use Rattle.tt_code.specs.declared.kinds.Row.{Row}
 use Rattle.tt_code.specs.declared.kinds.Update.{Update}
 use Rattle.tt_code.specs.declared.kinds.Pushed.{Pushed}
-use Rattle.tt_abs.specs.Entries.{with_entry}
+use Rattle.tt_setting.specs.Entries.{with_entry}
 use Rattle.tt_symbolic_state.specs.declared.cell.Cell.{Cell}
 use Rattle.tt_symbolic_state.specs.declared.cell.Range.{Range}
 use Rattle.tt_symbolic_state.specs.Values.{Fits, Valuation}

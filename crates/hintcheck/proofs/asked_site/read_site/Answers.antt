@@ -1,5 +1,5 @@
 use Rattle.std.proofs.Common.{◌≡◌, ◌∙◌, ◌++◌, ℕ, None, Option, Some, codes, rules, subst}
-use Rattle.tt_abs.specs.declared.spot.Spot.TheVariants as spot
+use Rattle.tt_setting.specs.declared.spot.Spot.TheVariants as spot
 use Rattle.hintcheck.proofs.SiteLemmas.{read_font, read_prep, site_in}
 use Rattle.hintcheck.proofs.asked_site.read_site.Goals as goal
 

@@ -1,4 +1,4 @@
-use Rattle.tt_abs.specs.Settings.{setting_of}
+use Rattle.tt_setting.specs.Settings.{setting_of}
 use Rattle.hintcheck_explain.specs.declared.asked.Explained.{Explained}
 use Rattle.hintcheck_fonts.proofs.ProgramVerdictLemmas.{HasFlow}
 use Rattle.hintcheck.proofs.ExplanationLemmas.{answered, failed_text, fault_of_text}

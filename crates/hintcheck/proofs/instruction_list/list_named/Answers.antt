@@ -6,9 +6,9 @@ use Rattle.tt_font.specs.Reading.{no_glyph}
 use Rattle.hintcheck_fonts.specs.FontPrograms.{font_of, glyph_subject, one_glyph_font}
 use Rattle.hintcheck_fonts.specs.Programs.{IsRefusal, Subject}
 use Rattle.tt_family.specs.Checks.{IsExhausted}
-use Rattle.tt_abs.specs.Failures.{reason_of}
-use Rattle.tt_abs.specs.declared.refusal.Refusal.{Refusal}
-use Rattle.tt_abs.specs.declared.refusal.Refusal.TheVariants as fault
+use Rattle.tt_setting.specs.Refusals.{reason_of}
+use Rattle.tt_setting.specs.declared.refusal.Refusal.{Refusal}
+use Rattle.tt_setting.specs.declared.refusal.Refusal.TheVariants as fault
 use Rattle.hintcheck_fonts.specs.Representation.Judges.{IsRefusedFor}
 use Rattle.hintcheck_fonts.proofs.BareProgramLemmas.{uncut_refusal}
 use Rattle.hintcheck_fonts.specs.ProgramVerdicts.{IfRefused}

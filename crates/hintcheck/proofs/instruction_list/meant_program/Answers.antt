@@ -1,5 +1,5 @@
 use Rattle.std.proofs.Common.{◌≡◌, IfSome, option_map, rules, subst, sym}
-use Rattle.tt_cert.specs.declared.name.Name.TheVariants as name
+use Rattle.tt_setting.specs.declared.name.Name.TheVariants as name
 use Rattle.tt_names.specs.Names.{IsFirstNamed}
 use Rattle.tt_names.specs.Post.{post_of}
 use Rattle.hintcheck.specs.Listing.{Calls}

@@ -1,6 +1,6 @@
 use Rattle.std.proofs.Common.{◌≡◌, IfSome, List, None, Option, Some, rules, ℕ}
-use Rattle.tt_cert.specs.Names.{text_of}
-use Rattle.tt_cert.specs.declared.name.Name.{Name}
+use Rattle.tt_setting.specs.Names.{text_of}
+use Rattle.tt_setting.specs.declared.name.Name.{Name}
 use Rattle.hintcheck.specs.Listing.{IsNameOf, cvt_table, font_table, printed}
 use Rattle.hintcheck.proofs.instruction_list.named_by.Goals as goal
 

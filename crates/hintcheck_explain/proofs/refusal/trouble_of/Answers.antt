@@ -1,5 +1,5 @@
 use Rattle.std.proofs.Common.{reverse}
-use Rattle.tt_abs.specs.Settings.{setting_of}
+use Rattle.tt_setting.specs.Settings.{setting_of}
 use Rattle.hintcheck_explain.proofs.CauseLemmas.{told_of_outcome}
 use Rattle.hintcheck_explain.proofs.refusal.trouble_of.Goals as goal
 

@@ -1,5 +1,5 @@
 use Rattle.std.proofs.Common.{length, reverse}
-use Rattle.tt_abs.specs.Settings.{setting_of}
+use Rattle.tt_setting.specs.Settings.{setting_of}
 use Rattle.hintcheck_explain.proofs.CauseLemmas.{refused_told}
 use Rattle.hintcheck_explain.proofs.stepping.outcome_at.Goals as goal
 

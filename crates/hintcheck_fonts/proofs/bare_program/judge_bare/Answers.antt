@@ -1,6 +1,6 @@
 use Rattle.std.proofs.Common.{[], sym}
 use Rattle.tt_code.specs.Settings.{GlyphProgram}
-use Rattle.tt_cert.specs.declared.name.Name.TheVariants as name
+use Rattle.tt_setting.specs.declared.name.Name.TheVariants as name
 use Rattle.tt_font.specs.Reading.{glyph_data}
 use Rattle.hintcheck_fonts.specs.BarePrograms.{font_around}
 use Rattle.hintcheck_fonts.specs.FontPrograms.{glyph_subject}

@@ -1,5 +1,5 @@
 use Rattle.std.proofs.Common.{◌≡◌}
-use Rattle.tt_family.specs.Budgets.{AreAlike, Spends}
+use Rattle.tt_setting.specs.Budgets.{AreAlike, Spends}
 use Rattle.tt_stream.specs.Reads.{ConsumesBeginning}
 use Rattle.hintcheck_fonts.proofs.ProgramSteps.{calls_left}
 use Rattle.hintcheck_fonts.proofs.SessionRuns.{IsCheckedSoFar}

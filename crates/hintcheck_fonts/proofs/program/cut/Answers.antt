@@ -1,5 +1,5 @@
 use Rattle.std.proofs.Common.{Err, ap}
-use Rattle.tt_abs.specs.declared.spot.Spot.TheVariants as spot
+use Rattle.tt_setting.specs.declared.spot.Spot.TheVariants as spot
 use Rattle.tt_code.specs.declared.reason.Reason.TheVariants as reason
 use Rattle.hintcheck_fonts.specs.ProgramVerdicts.{IsUncut, no_cut, no_structure}
 use Rattle.hintcheck_fonts.proofs.ProgramVerdictLemmas.{reported}

@@ -1,7 +1,7 @@
 use Rattle.std.proofs.Common.{◌∙◌, ap, sym}
 use Rattle.std.specs.Option.{option_copied}
 use Rattle.std.specs.Prelude.{is_some}
-use Rattle.tt_abs.specs.Settings.{setting_of}
+use Rattle.tt_setting.specs.Settings.{setting_of}
 use Rattle.hintcheck_fonts.specs.ProgramVerdicts.{IfRefused}
 use Rattle.hintcheck_fonts.specs.Programs.{HasGoodFamily, IsRefusal}
 use Rattle.hintcheck_fonts.proofs.ProgramVerdictLemmas.{HasFlow, found_here, found_refusal, glyph_without_good, holds_anyway, lent_filled, only_memory, passed_on}

@@ -1,5 +1,5 @@
 use Rattle.std.specs.Prelude.{IfErr, OnOk}
-use Rattle.tt_abs.specs.Settings.{setting_of}
+use Rattle.tt_setting.specs.Settings.{setting_of}
 use Rattle.tt_family.specs.Checks.{IsExhausted, Names}
 use Rattle.tt_cert.specs.declared.form.Form.{Form}
 use Rattle.hintcheck_fonts.specs.Certificates.{IsGoodListing, IsListingBrokenFirst}

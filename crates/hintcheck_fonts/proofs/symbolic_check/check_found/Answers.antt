@@ -1,6 +1,6 @@
 use Rattle.std.proofs.Common.{ℕ, List, [], subst}
 use Rattle.std.proofs.lemmas.Result.{IfErr-weaker, on_ok_weaker}
-use Rattle.tt_abs.specs.Settings.{setting_of}
+use Rattle.tt_setting.specs.Settings.{setting_of}
 use Rattle.hintcheck_fonts.specs.Representation.SymbolicChecks.{IsEnded}
 use Rattle.hintcheck_fonts.proofs.SymbolicAnswers.{answer_in_turn}
 use Rattle.hintcheck_fonts.proofs.symbolic_check.check_found.Goals as goal

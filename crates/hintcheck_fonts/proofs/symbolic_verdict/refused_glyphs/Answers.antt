@@ -1,5 +1,5 @@
 use Rattle.std.proofs.Common.{◌∙◌, ◌+◌, ◌<◌, Bor, subst, sym}
-use Rattle.tt_abs.specs.Entries.{Ascends}
+use Rattle.tt_setting.specs.Entries.{Ascends}
 use Rattle.tt_font.specs.Reading.{FontData}
 use Rattle.tt_symbolic_font.specs.Known.{StartGlyphs}
 use Rattle.tt_symbolic_font.specs.declared.ends.Ends.{Ends}

@@ -1,5 +1,5 @@
 use Rattle.std.proofs.Common.{◌-◌, ◌≡◌, ◌<◌, ◌≤◌}
-use Rattle.tt_family.specs.Budgets.{AreAlike, Spends}
+use Rattle.tt_setting.specs.Budgets.{AreAlike, Spends}
 use Rattle.hintcheck_needs.specs.Needs.{refused_names}
 use Rattle.hintcheck_needs.proofs.Halving.{IsBetween}
 use Rattle.hintcheck_needs.proofs.least.least_enough.Given as goal

@@ -1,7 +1,7 @@
 use Rattle.std.proofs.Common.{◌≡◌, ap, arith, below_more, get_or}
 use Rattle.std.proofs.lemmas.Bool.{eq-eqb, eqb-true}
 use Rattle.std.proofs.lemmas.List.{ext_get_or}
-use Rattle.tt_abs.proofs.CodeLists.{no_difference}
+use Rattle.tt_setting.proofs.SameEntries.{no_difference}
 use Rattle.tt_abs.proofs.cell_codes.are_equal.Goals as goal
 
 pub loop-i-preserved : goal.loop-i-preserved

@@ -1,5 +1,5 @@
 use Rattle.std.proofs.Common.{◌≡◌, ◌++◌, drop, take}
-use Rattle.tt_abs.specs.Entries.{storage_of}
+use Rattle.tt_abs.specs.StorageCells.{storage_of}
 use Rattle.tt_abs.specs.Representation.Stored.{AreIndexedPushes}
 use Rattle.tt_abs.specs.Transfers.{cells_pushed}
 use Rattle.tt_abs.proofs.changes.pushed_cells.Given as goal

@@ -2,10 +2,10 @@ use Rattle.std.proofs.Common.{◌∙◌, sym, rules, Some, None}
 use Rattle.std.specs.Prelude.{FitsSigned}
 use Rattle.std.specs.Int.{w32}
 use Rattle.std.proofs.lemmas.Int.{to_z-of_z}
-use Rattle.tt_abs.specs.Settings.{setting_of}
+use Rattle.tt_setting.specs.Settings.{setting_of}
 use Rattle.tt_abs.proofs.CalledLemmas.{called_is, named_is}
 use Rattle.tt_abs.specs.States.{abstract_of}
-use Rattle.tt_abs.specs.declared.failed.Role.TheVariants as role
+use Rattle.tt_setting.specs.declared.failed.Role.TheVariants as role
 use Rattle.tt_abs.specs.Representation.Steps.{TellsOfCall}
 use Rattle.tt_abs.proofs.Fronts.{told_by}
 use Rattle.tt_abs.proofs.Told.{on_top, unknown_told}

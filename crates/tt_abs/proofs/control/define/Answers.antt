@@ -1,6 +1,6 @@
 use Rattle.tt_code.specs.declared.kinds.Control.TheVariants as control
 use Rattle.tt_abs.specs.Representation.Taken.{IsNoRole, IsRole}
-use Rattle.tt_abs.specs.declared.failed.Role.TheVariants as role
+use Rattle.tt_setting.specs.declared.failed.Role.TheVariants as role
 use Rattle.tt_abs.specs.Failures.{IsRoleOfControl}
 use Rattle.std.proofs.Common.{refl, ◌∙◌, rules, sym}
 use Rattle.std.specs.Prelude.{FitsSigned}

@@ -1,4 +1,4 @@
-use Rattle.tt_abs.specs.declared.failed.Role.TheVariants as role
+use Rattle.tt_setting.specs.declared.failed.Role.TheVariants as role
 use Rattle.tt_abs.specs.Representation.Taken.{IsNoRole, IsRole}
 use Rattle.tt_abs.specs.States.{abstract_of}
 use Rattle.tt_abs.proofs.Told.{as_none, stack_step_told, step_told, too_few_told}

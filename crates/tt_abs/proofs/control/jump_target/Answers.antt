@@ -1,4 +1,4 @@
-use Rattle.tt_abs.specs.declared.failed.Role.TheVariants as role
+use Rattle.tt_setting.specs.declared.failed.Role.TheVariants as role
 use Rattle.tt_abs.specs.Representation.Taken.{IsRole}
 use Rattle.std.proofs.Common.{◌∙◌, ◌∷◌, ap, refl}
 use Rattle.tt_abs.specs.Representation.Steps.{TellsOfJump}

@@ -1,8 +1,8 @@
 use Rattle.tt_code.specs.declared.kinds.Control.TheVariants as control
 use Rattle.tt_abs.specs.Representation.Taken.{IsNoRole, IsRole}
-use Rattle.tt_abs.specs.declared.failed.Role.TheVariants as role
+use Rattle.tt_setting.specs.declared.failed.Role.TheVariants as role
 use Rattle.std.proofs.Common.{length, refl}
-use Rattle.tt_abs.specs.Settings.{frames_of}
+use Rattle.tt_setting.specs.Settings.{frames_of}
 use Rattle.tt_abs.specs.States.{abstract_of}
 use Rattle.tt_abs.specs.Failures.{IsRoleOfControl}
 use Rattle.tt_abs.proofs.Told.{as_none, as_one, on_top, stack_step_told, step_told, too_few_told, unknown_told}

@@ -2,7 +2,7 @@ use Rattle.std.proofs.Common.{sym, ◌∙◌, ap, length, refl, Ok}
 use Rattle.std.proofs.lemmas.Result.{IfErr-weaker}
 use Rattle.tt_code.specs.Table.{Plain, Stack, Computes, Controls, Pushes, effect_of}
 use Rattle.tt_code.specs.Entries.{view}
-use Rattle.tt_abs.specs.Settings.{frames_of, setting_of}
+use Rattle.tt_setting.specs.Settings.{frames_of, setting_of}
 use Rattle.tt_abs.specs.States.{abstract_of}
 use Rattle.tt_abs.specs.Representation.Steps.{IsRoleOfLine, line_of}
 use Rattle.tt_abs.specs.Representation.Taken.{IsNoRole}
@@ -10,7 +10,8 @@ use Rattle.tt_abs.proofs.RolesTold.{code_told}
 use Rattle.tt_abs.specs.Transfers.{pushed_cells, plain_cells, shuffled_cells, computed_cells}
 use Rattle.tt_abs.specs.Failures.{IsRoleOfControl, IsRoleOfShuffle}
 use Rattle.tt_abs.proofs.TableRows.{rows_of_one_kind, rows_tested}
-use Rattle.tt_abs.proofs.StepLemmas.{push_done, acts, acts_not, first_code, for_reason, passed_on}
+use Rattle.tt_abs.proofs.StepLemmas.{push_done, acts, acts_not, first_code, passed_on}
+use Rattle.tt_setting.proofs.RefusalLemmas.{for_reason}
 use Rattle.tt_abs.proofs.instruction.dispatch.Goals.{in-Plain+in_ok-execute_plain-in-Plain, in-Push+in_ok-push_data-in-Push, in-Stack+in_ok-shuffle-in-Stack, in-Arithmetic+in_ok-compute-in-Arithmetic}
 use Rattle.tt_abs.proofs.Told.{for_failed, stack_fault_told}
 use Rattle.tt_abs.proofs.instruction.dispatch.Goals as goal

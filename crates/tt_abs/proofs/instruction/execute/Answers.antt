@@ -1,8 +1,9 @@
 use Rattle.std.proofs.Common.{true, false, ◌≤◌, ◌<◌, length, arith}
-use Rattle.tt_abs.specs.Settings.{frames_of, setting_of}
+use Rattle.tt_setting.specs.Settings.{frames_of, setting_of}
 use Rattle.tt_abs.specs.States.{abstract_of}
 use Rattle.tt_abs.specs.Moves.{nexts_of}
-use Rattle.tt_abs.proofs.StepLemmas.{left_in_range, performs_not, performs_then, moves_within, moves_beyond, for_reason, passed_on}
+use Rattle.tt_abs.proofs.StepLemmas.{left_in_range, performs_not, performs_then, moves_within, moves_beyond, passed_on}
+use Rattle.tt_setting.proofs.RefusalLemmas.{for_reason}
 use Rattle.tt_abs.proofs.RolesTold.{there_told}
 use Rattle.tt_abs.proofs.instruction.execute.Goals as goal
 

@@ -1,4 +1,4 @@
-use Rattle.tt_abs.specs.Settings.{frames_of, setting_of}
+use Rattle.tt_setting.specs.Settings.{frames_of, setting_of}
 use Rattle.tt_abs.specs.States.{abstract_of}
 use Rattle.tt_abs.proofs.StepLemmas.{none_at}
 use Rattle.tt_abs.proofs.instruction.step.Goals as goal

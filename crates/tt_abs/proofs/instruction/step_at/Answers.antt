@@ -1,6 +1,6 @@
 use Rattle.std.proofs.Common.{sym, ◌∙◌, ap, None, Some}
 use Rattle.tt_code.specs.Settings.{body_of, is_body}
-use Rattle.tt_abs.specs.Settings.{frames_of, setting_of}
+use Rattle.tt_setting.specs.Settings.{frames_of, setting_of}
 use Rattle.tt_abs.specs.States.{abstract_of}
 use Rattle.tt_abs.proofs.StepLemmas.{no_start, none_is_body, starts_is}
 use Rattle.tt_abs.proofs.instruction.step_at.Goals as goal

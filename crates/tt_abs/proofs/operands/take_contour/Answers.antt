@@ -1,5 +1,5 @@
 use Rattle.tt_code.specs.declared.kinds.Operand.TheVariants as operands
-use Rattle.tt_abs.specs.declared.failed.Role.TheVariants as role
+use Rattle.tt_setting.specs.declared.failed.Role.TheVariants as role
 use Rattle.std.proofs.Common.{refl, sym, ◌∙◌, rules}
 use Rattle.std.specs.Prelude.{FitsSigned}
 use Rattle.std.specs.Int.{w32}

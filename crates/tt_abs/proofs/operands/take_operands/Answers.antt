@@ -4,7 +4,7 @@ use Rattle.tt_abs.proofs.Told.{operands_as}
 use Rattle.tt_abs.specs.Failures.{IsRoleInLine}
 use Rattle.tt_abs.specs.Representation.Taken.{IsRoleFrom, TellsOfOperands}
 use Rattle.tt_abs.proofs.RolesTold.{in_line, taken_next}
-use Rattle.tt_abs.specs.Settings.{setting_of}
+use Rattle.tt_setting.specs.Settings.{setting_of}
 use Rattle.tt_abs.proofs.operands.take_operands.Goals as goal
 
 pub loop-operand-preserved : goal.loop-operand-preserved

@@ -1,6 +1,6 @@
 use Rattle.std.proofs.Common.{drop, take}
 use Rattle.tt_abs.specs.Transfers.{take_cells}
-use Rattle.tt_abs.specs.Settings.{setting_of}
+use Rattle.tt_setting.specs.Settings.{setting_of}
 use Rattle.tt_abs.specs.Representation.Taken.{GoesOn, TakesTo}
 use Rattle.tt_abs.proofs.operands.take_operands.Given as goal
 

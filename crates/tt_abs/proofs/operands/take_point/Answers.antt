@@ -1,10 +1,10 @@
 use Rattle.tt_code.specs.declared.kinds.Operand.TheVariants as operands
-use Rattle.tt_abs.specs.declared.failed.Role.TheVariants as role
+use Rattle.tt_setting.specs.declared.failed.Role.TheVariants as role
 use Rattle.std.proofs.Common.{refl, sym, ◌∙◌, rules}
 use Rattle.std.specs.Prelude.{FitsSigned}
 use Rattle.std.specs.Int.{w32}
 use Rattle.std.proofs.lemmas.Int.{to_z-of_z}
-use Rattle.tt_abs.specs.Settings.{setting_of}
+use Rattle.tt_setting.specs.Settings.{setting_of}
 use Rattle.tt_abs.proofs.Fronts.{tested_takes}
 use Rattle.tt_abs.specs.Representation.Taken.{IsRoleFrom, TellsOfOperands}
 use Rattle.tt_abs.proofs.Fronts.{told_by}

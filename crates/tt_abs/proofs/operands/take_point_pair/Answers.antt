@@ -2,7 +2,7 @@ use Rattle.std.proofs.lemmas.Result.{IfErr-weaker}
 use Rattle.tt_code.specs.declared.kinds.Operand.TheVariants as operands
 use Rattle.tt_code.specs.declared.reason.Reason.TheVariants as reason
 use Rattle.tt_abs.specs.Transfers.{tested_cell, is_point_in}
-use Rattle.tt_abs.specs.Settings.{setting_of}
+use Rattle.tt_setting.specs.Settings.{setting_of}
 use Rattle.tt_abs.proofs.Fronts.{pair_takes}
 use Rattle.tt_abs.specs.Representation.Taken.{IsRoleFrom, TellsOfOperands, TellsOfStack}
 use Rattle.tt_abs.proofs.Told.{any_operands}

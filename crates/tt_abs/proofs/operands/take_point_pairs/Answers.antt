@@ -1,11 +1,11 @@
 use Rattle.tt_code.specs.declared.kinds.Operand.TheVariants as operands
-use Rattle.tt_abs.specs.declared.failed.Role.TheVariants as role
+use Rattle.tt_setting.specs.declared.failed.Role.TheVariants as role
 use Rattle.std.proofs.Common.{arith, drop, refl}
 use Rattle.tt_code.specs.Operands.{pair}
 use Rattle.tt_code.specs.declared.reason.Reason.TheVariants as reason
-use Rattle.tt_abs.specs.Failures.{reason_of}
+use Rattle.tt_setting.specs.Refusals.{reason_of}
 use Rattle.tt_abs.specs.Transfers.{tested_cell, is_point_in}
-use Rattle.tt_abs.specs.Settings.{setting_of}
+use Rattle.tt_setting.specs.Settings.{setting_of}
 use Rattle.tt_abs.proofs.Fronts.{times_step, times_refused, refused_by, pairs_start}
 use Rattle.tt_abs.specs.Representation.Taken.{IsRoleFrom, TellsOfOperands}
 use Rattle.tt_abs.proofs.Fronts.{told_by}

@@ -4,9 +4,9 @@ use Rattle.tt_abs.proofs.RolesTold.{point_in_loop}
 use Rattle.tt_abs.proofs.Told.{operands_as}
 use Rattle.std.proofs.Common.{arith, drop}
 use Rattle.tt_code.specs.declared.reason.Reason.TheVariants as reason
-use Rattle.tt_abs.specs.Failures.{reason_of}
+use Rattle.tt_setting.specs.Refusals.{reason_of}
 use Rattle.tt_abs.specs.Transfers.{tested_cell, is_point_in}
-use Rattle.tt_abs.specs.Settings.{setting_of}
+use Rattle.tt_setting.specs.Settings.{setting_of}
 use Rattle.tt_abs.proofs.Fronts.{times_step, times_refused, refused_by, times_start, told_by}
 use Rattle.tt_abs.proofs.operands.take_points.Goals as goal
 

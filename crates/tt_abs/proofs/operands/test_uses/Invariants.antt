@@ -1,6 +1,6 @@
 use Rattle.std.proofs.Common.{◌≡◌, drop}
 use Rattle.tt_abs.specs.Transfers.{test_cell_uses}
-use Rattle.tt_abs.specs.Settings.{setting_of}
+use Rattle.tt_setting.specs.Settings.{setting_of}
 use Rattle.tt_abs.proofs.operands.test_uses.Given as goal
 
 abbrev pub invariant-loop-used : goal.invariant-loop-used

@@ -4,7 +4,7 @@ use Rattle.std.proofs.lemmas.Bool.{eqb-true, true≢false}
 use Rattle.std.proofs.lemmas.List.{nil_from_length}
 use Rattle.tt_code.specs.Changes.{all_updated}
 use Rattle.tt_abs.specs.Transfers.{cells, cells_on, cells_pushed}
-use Rattle.tt_abs.specs.Settings.{setting_of}
+use Rattle.tt_setting.specs.Settings.{setting_of}
 use Rattle.tt_abs.specs.States.{abstract_of}
 use Rattle.tt_abs.specs.Representation.Steps.{line_of}
 use Rattle.tt_abs.proofs.PlainSteps.{updates_counted, pushes_counted, plain_done, plain_kept, changes_none}

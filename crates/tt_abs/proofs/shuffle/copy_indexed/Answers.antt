@@ -1,5 +1,5 @@
 use Rattle.std.proofs.Common.{◌∙◌, ap, ◌∷◌}
-use Rattle.tt_abs.specs.declared.failed.Role.TheVariants as role
+use Rattle.tt_setting.specs.declared.failed.Role.TheVariants as role
 use Rattle.tt_abs.proofs.StackSteps.{copies_index}
 use Rattle.tt_abs.specs.Representation.Taken.{IsRole, TellsOfStackAs}
 use Rattle.tt_abs.proofs.Told.{refused_told}

@@ -6,7 +6,7 @@ use Rattle.tt_abs.proofs.StackSteps.{index_missed, index_told}
 use Rattle.std.proofs.Common.{drop}
 use Rattle.tt_abs.specs.Representation.Taken.{IsRole, TellsOfStackAs}
 use Rattle.tt_abs.proofs.Fronts.{told_by}
-use Rattle.tt_abs.specs.declared.failed.Role.TheVariants as role
+use Rattle.tt_setting.specs.declared.failed.Role.TheVariants as role
 use Rattle.tt_abs.proofs.Told.{low_told, too_few_told, unknown_told}
 use Rattle.tt_abs.proofs.shuffle.indexed.Goals as goal
 

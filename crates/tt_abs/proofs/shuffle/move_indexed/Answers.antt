@@ -1,6 +1,6 @@
 use Rattle.std.proofs.Common.{◌∙◌, ap, ◌∷◌}
 use Rattle.std.specs.Prelude.{remove}
-use Rattle.tt_abs.specs.declared.failed.Role.TheVariants as role
+use Rattle.tt_setting.specs.declared.failed.Role.TheVariants as role
 use Rattle.tt_abs.proofs.StackSteps.{moves_index}
 use Rattle.tt_abs.specs.Representation.Taken.{IsRole, TellsOfStackAs}
 use Rattle.tt_abs.proofs.Told.{refused_told}

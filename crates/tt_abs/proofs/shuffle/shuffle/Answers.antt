@@ -1,6 +1,6 @@
 use Rattle.std.proofs.Common.{refl}
 use Rattle.tt_code.specs.declared.kinds.StackOp.TheVariants as op
-use Rattle.tt_abs.specs.declared.failed.Role.TheVariants as role
+use Rattle.tt_setting.specs.declared.failed.Role.TheVariants as role
 use Rattle.tt_abs.specs.Representation.Taken.{IsNoRole, IsRole}
 use Rattle.tt_abs.specs.Failures.{IsRoleOfShuffle}
 use Rattle.tt_abs.proofs.Told.{as_none, as_one, stack_answer_as}

@@ -3,12 +3,13 @@ use Rattle.tt_code.specs.Cut.{size}
 use Rattle.tt_code.specs.Settings.{program_of}
 use Rattle.tt_abs.specs.Transfers.{outcome_on_cells}
 use Rattle.tt_abs.specs.Moves.{nexts_of}
-use Rattle.tt_abs.specs.Settings.{frames_of, setting_of}
+use Rattle.tt_setting.specs.Settings.{frames_of, setting_of}
 use Rattle.tt_abs.specs.States.{abstract_of}
 use Rattle.tt_abs.proofs.Everything.{outcome_gives, outcome_refused}
 use Rattle.tt_abs.proofs.Offsets.{starts_within}
 use Rattle.tt_abs.proofs.StateParts.{stack_to}
-use Rattle.tt_abs.proofs.StepLemmas.{for_reason, passed_on}
+use Rattle.tt_setting.proofs.RefusalLemmas.{for_reason}
+use Rattle.tt_abs.proofs.StepLemmas.{passed_on}
 use Rattle.tt_abs.specs.Failures.{Tells}
 use Rattle.tt_abs.specs.declared.state.State.{State}
 use Rattle.tt_abs.proofs.Told.{for_failed}

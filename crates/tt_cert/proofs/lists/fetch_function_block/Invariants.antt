@@ -1,5 +1,5 @@
 use Rattle.std.proofs.Common.{◌-◌}
-use Rattle.tt_abs.specs.Entries.{Ascends}
+use Rattle.tt_setting.specs.Entries.{Ascends}
 use Rattle.tt_cert.proofs.Blocks.{IsBlock}
 use Rattle.tt_cert.proofs.lists.fetch_function_block.Given as goal
 

@@ -1,4 +1,4 @@
-use Rattle.tt_abs.specs.Entries.{Ascends}
+use Rattle.tt_setting.specs.Entries.{Ascends}
 use Rattle.tt_cert.proofs.Blocks.{IsReadingBlocks}
 use Rattle.tt_cert.proofs.lists.read_function_list.Given as goal
 

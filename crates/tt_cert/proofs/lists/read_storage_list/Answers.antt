@@ -3,7 +3,7 @@ use Rattle.tt_stream.proofs.Beginnings.{consumes_then}
 use Rattle.tt_cert.specs.Reading.{stored_at}
 use Rattle.tt_cert.proofs.Loops.{reads_all, reads_fail, reads_on, reads_stop}
 use Rattle.std.proofs.Common.{sym, subst}
-use Rattle.tt_abs.specs.Entries.{Ascends}
+use Rattle.tt_setting.specs.Entries.{Ascends}
 use Rattle.tt_cert.proofs.Ascends.{Ascends-push}
 use Rattle.tt_cert.proofs.SteadyUnits.{stored_steady}
 use Rattle.tt_cert.proofs.lists.read_storage_list.Goals as goal

@@ -1,5 +1,5 @@
 use Rattle.tt_cert.specs.Reading.{stored_at}
-use Rattle.tt_abs.specs.Entries.{Ascends}
+use Rattle.tt_setting.specs.Entries.{Ascends}
 use Rattle.tt_cert.proofs.Loops.{IsReading}
 use Rattle.tt_cert.proofs.lists.read_storage_list.Given as goal
 

@@ -1,5 +1,5 @@
 use Rattle.std.proofs.Common.{◌≡◌, ℕ, ◌-◌, arith, ap, drop, length, sym, subst, ◌∙◌}
-use Rattle.tt_abs.specs.Entries.{Ascends}
+use Rattle.tt_setting.specs.Entries.{Ascends}
 use Rattle.tt_cert.proofs.Blocks.{suffix_on, taking_breaks, taking_more, taking_none}
 use Rattle.tt_cert.proofs.Ascends.{Ascends-push}
 use Rattle.tt_cert.proofs.lists.take_functions.Goals as goal

@@ -1,5 +1,5 @@
 use Rattle.std.proofs.Common.{◌≡◌, ◌-◌, length, drop}
-use Rattle.tt_abs.specs.Entries.{Ascends}
+use Rattle.tt_setting.specs.Entries.{Ascends}
 use Rattle.tt_cert.specs.Representation.Blocks.{IsTaking}
 use Rattle.tt_cert.proofs.lists.take_functions.Given as goal
 

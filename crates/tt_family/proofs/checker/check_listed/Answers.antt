@@ -2,16 +2,16 @@ use Rattle.std.proofs.Common.{rules, arith, ◌≡◌, [], true, false, refl, sy
 use Rattle.tt_code.specs.Cut.{size}
 use Rattle.tt_code.specs.declared.reason.Reason.{Reason}
 use Rattle.tt_abs.specs.Families.{CoversAt}
-use Rattle.tt_abs.specs.Settings.{setting_of}
+use Rattle.tt_setting.specs.Settings.{setting_of}
 use Rattle.tt_abs.specs.StateFlow.{Place}
 use Rattle.tt_abs.specs.States.{state_order}
-use Rattle.tt_abs.specs.declared.setting.Setting.{Setting}
+use Rattle.tt_setting.specs.declared.setting.Setting.{Setting}
 use Rattle.tt_abs.specs.declared.state.State.{State}
 use Rattle.tt_family.specs.Checks.{IsFirstBreakOnTheWay, IsGap, NamesAt, too_long, no_end}
 use Rattle.tt_family.specs.Contents.{Contents, family_of}
 use Rattle.tt_family.specs.GoodFamilies.{EndsWell}
 use Rattle.tt_family.specs.Representation.Cursors.{MayLeaveOut, to_come}
-use Rattle.tt_abs.specs.declared.refusal.Refusal.{Refusal}
+use Rattle.tt_setting.specs.declared.refusal.Refusal.{Refusal}
 use Rattle.tt_family.specs.declared.listing.Listing.{Listing}
 use Rattle.std.proofs.lemmas.Result.{IfErr-weaker, IfOk-weaker}
 use Rattle.tt_family.proofs.Judged.{not_both, start_broken, way_broken}

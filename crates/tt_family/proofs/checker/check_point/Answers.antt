@@ -4,14 +4,14 @@ use Rattle.tt_code.specs.Settings.{is_main_end}
 use Rattle.tt_code.specs.declared.machine.Frame.{Frame}
 use Rattle.tt_abs.specs.Lines.{Precedes}
 use Rattle.tt_abs.specs.Moves.{nexts_of}
-use Rattle.tt_abs.specs.Settings.{setting_of}
+use Rattle.tt_setting.specs.Settings.{setting_of}
 use Rattle.tt_abs.specs.StateFlow.{Place}
 use Rattle.tt_abs.specs.States.{abstract_of}
 use Rattle.tt_abs.specs.Transfers.{outcome_on_cells}
-use Rattle.tt_abs.specs.declared.step_fault.StepFault.{StepFault}
-use Rattle.tt_abs.specs.declared.failed.Failed.TheVariants.{Only}
+use Rattle.tt_setting.specs.declared.step_fault.StepFault.{StepFault}
+use Rattle.tt_setting.specs.declared.failed.Failed.TheVariants.{Only}
 use Rattle.tt_code.specs.declared.reason.Reason.TheVariants.{Storage}
-use Rattle.tt_abs.proofs.StepLemmas.{for_reason}
+use Rattle.tt_setting.proofs.RefusalLemmas.{for_reason}
 use Rattle.tt_family.specs.Contents.{Contents, family_of, frames_at, refusal_in}
 use Rattle.tt_family.specs.Puts.{place_of}
 use Rattle.tt_family.specs.Representation.Cursors.{MayLeaveOut}

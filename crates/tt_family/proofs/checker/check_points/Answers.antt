@@ -1,6 +1,6 @@
 use Rattle.std.proofs.Common.{arith, refl, ◌≡◌, ◌+◌, ◌≤◌, ℕ, Option, length, sym, ◌∙◌, ap, subst, inl, inr}
 use Rattle.std.specs.Borrow.{Bor}
-use Rattle.tt_abs.specs.Settings.{setting_of}
+use Rattle.tt_setting.specs.Settings.{setting_of}
 use Rattle.tt_abs.specs.declared.state.State.{State}
 use Rattle.tt_family.specs.Puts.{place_of}
 use Rattle.tt_family.specs.Representation.Cursors.{AreToCome, IsAtNext, MayLeaveOut, to_come}

@@ -1,6 +1,6 @@
 use Rattle.std.proofs.Common.{length, ◌+◌, ◌-◌, ◌*◌, ◌≤◌}
-use Rattle.tt_abs.specs.Settings.{setting_of}
-use Rattle.tt_family.specs.Budgets.{AreAlike, Spends, left_of}
+use Rattle.tt_setting.specs.Settings.{setting_of}
+use Rattle.tt_setting.specs.Budgets.{AreAlike, Spends, left_of}
 use Rattle.tt_family.specs.Representation.Cursors.{AreToCome, IsOnWay, IsWalk, to_come}
 use Rattle.tt_family.proofs.Walking.{left_from}
 use Rattle.tt_family.proofs.checker.check_points.Given as goal

@@ -1,4 +1,4 @@
-use Rattle.tt_abs.specs.Settings.{frames_of, setting_of}
+use Rattle.tt_setting.specs.Settings.{frames_of, setting_of}
 use Rattle.tt_family.proofs.Walking.{left_out_by}
 use Rattle.tt_family.proofs.checker.left_out_after.Goals as goal
 

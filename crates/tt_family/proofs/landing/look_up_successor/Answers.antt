@@ -3,9 +3,9 @@ use Rattle.tt_code.specs.declared.reason.Reason.TheVariants.{MissingPoint}
 use Rattle.tt_family.specs.Checks.{saturated_offset}
 use Rattle.tt_family.specs.Contents.{Contents, frames_at}
 use Rattle.tt_family.specs.Landings.{IsLanding, place_from}
-use Rattle.tt_abs.specs.declared.failed.Failed.TheVariants.{Only}
-use Rattle.tt_abs.specs.Spots.{spot_of}
-use Rattle.tt_abs.specs.declared.refusal.Refusal.TheVariants.{Refused}
+use Rattle.tt_setting.specs.declared.failed.Failed.TheVariants.{Only}
+use Rattle.tt_setting.specs.Spots.{spot_of}
+use Rattle.tt_setting.specs.declared.refusal.Refusal.TheVariants.{Refused}
 use Rattle.tt_family.specs.declared.landing.Landing.TheVariants.{Beyond}
 use Rattle.tt_family.proofs.Landings.{no_state_above}
 use Rattle.tt_family.proofs.landing.look_up_successor.Goals as goal

@@ -1,5 +1,5 @@
 use Rattle.std.proofs.Common.{sym, ◌∙◌}
-use Rattle.tt_abs.specs.Settings.{frames_of, setting_of}
+use Rattle.tt_setting.specs.Settings.{frames_of, setting_of}
 use Rattle.tt_family.proofs.Walking.{added_there, nothing_added}
 use Rattle.tt_family.proofs.listing.added_after.Goals as goal
 

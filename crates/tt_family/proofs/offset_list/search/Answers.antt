@@ -1,6 +1,6 @@
 use Rattle.std.proofs.Common.{rules}
 use Rattle.std.proofs.lemmas.Fn.{always_returns_same}
-use Rattle.tt_abs.proofs.EntryEdits.{place-from_search}
+use Rattle.tt_setting.proofs.EntryEdits.{place-from_search}
 use Rattle.tt_family.proofs.offset_list.search.Goals as goal
 
 pub returns-clause-place : goal.returns-clause-place

@@ -1,5 +1,5 @@
 use Rattle.std.proofs.Common.{sym}
-use Rattle.tt_abs.proofs.EntryEdits.{listed-at, listed-gap}
+use Rattle.tt_setting.proofs.EntryEdits.{listed-at, listed-gap}
 use Rattle.tt_family.proofs.offset_list.slot_at.Goals as goal
 
 pub returns-in-Ok : goal.returns-in-Ok

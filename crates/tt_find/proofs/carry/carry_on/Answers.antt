@@ -1,5 +1,5 @@
 use Rattle.std.proofs.Common.{◌∙◌, ℕ, arith, refl, sym, subst}
-use Rattle.tt_abs.specs.Settings.{setting_of}
+use Rattle.tt_setting.specs.Settings.{setting_of}
 use Rattle.tt_family.specs.Puts.{place_of}
 use Rattle.tt_find.specs.Representation.Solvers.{IsOnWay}
 use Rattle.tt_find.proofs.Steps.{way_begins}

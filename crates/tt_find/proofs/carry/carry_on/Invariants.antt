@@ -1,6 +1,6 @@
 use Rattle.std.proofs.Common.{◌≡◌, ◌+◌, ◌-◌, ◌*◌, ◌≤◌}
-use Rattle.tt_abs.specs.Settings.{setting_of}
-use Rattle.tt_family.specs.Budgets.{AreAlike, Spends, left_of}
+use Rattle.tt_setting.specs.Settings.{setting_of}
+use Rattle.tt_setting.specs.Budgets.{AreAlike, Spends, left_of}
 use Rattle.tt_find.specs.Representation.Solvers.{HasRisen, IsOnWay, IsWalk, here_of, updates_of}
 use Rattle.tt_find.proofs.carry.carry_on.Given as goal
 

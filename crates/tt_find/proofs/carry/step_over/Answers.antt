@@ -1,8 +1,8 @@
 use Rattle.std.proofs.Common.{[], refl, subst}
-use Rattle.tt_abs.specs.Settings.{setting_of}
+use Rattle.tt_setting.specs.Settings.{setting_of}
 use Rattle.tt_family.specs.Contents.{family_of}
 use Rattle.tt_family.specs.Puts.{place_of}
-use Rattle.tt_abs.specs.declared.spot.Spot.{Spot}
+use Rattle.tt_setting.specs.declared.spot.Spot.{Spot}
 use Rattle.tt_find.specs.Found.{IsJustified}
 use Rattle.tt_find.specs.Representation.Solvers.{IsApart, IsPassed}
 use Rattle.tt_find.specs.declared.approach.Approach.TheVariants.{JustBefore}

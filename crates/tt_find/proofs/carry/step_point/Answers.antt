@@ -1,6 +1,6 @@
 use Rattle.std.proofs.Common.{ℕ, sym, subst}
 use Rattle.std.specs.Prelude.{Option}
-use Rattle.tt_abs.specs.Settings.{setting_of}
+use Rattle.tt_setting.specs.Settings.{setting_of}
 use Rattle.tt_abs.specs.declared.instruction.Stepped.{Stepped}
 use Rattle.tt_family.specs.Contents.{frames_at}
 use Rattle.tt_family.specs.Puts.{place_of}

@@ -1,7 +1,7 @@
 use Rattle.std.proofs.Common.{◌≡◌, ◌∙◌, ap, false, refl, sym}
 use Rattle.tt_code.specs.Settings.{is_main_end}
-use Rattle.tt_abs.specs.Settings.{setting_of}
-use Rattle.tt_abs.proofs.StepLemmas.{for_reason, refused_within}
+use Rattle.tt_setting.specs.Settings.{setting_of}
+use Rattle.tt_setting.proofs.RefusalLemmas.{for_reason, refused_within}
 use Rattle.tt_family.proofs.Checked.{frames_back, refusal_moved}
 use Rattle.tt_find.specs.Representation.Solvers.{IsRefusedAt, here_of}
 use Rattle.tt_family.specs.Contents.{frames_at}

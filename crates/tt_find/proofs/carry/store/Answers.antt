@@ -1,7 +1,7 @@
 use Rattle.std.proofs.Common.{◌≢◌, refl, subst}
 use Rattle.tt_family.specs.Contents.{family_of}
 use Rattle.tt_family.specs.Puts.{place_of}
-use Rattle.tt_abs.specs.declared.spot.Spot.{Spot}
+use Rattle.tt_setting.specs.declared.spot.Spot.{Spot}
 use Rattle.tt_find.specs.Representation.OffsetMarks.{SetsMark, mark_of}
 use Rattle.tt_find.specs.declared.marks.Mark.TheVariants.{Kept, Passed}
 use Rattle.tt_find.specs.declared.solver.Solver.{Solver}

@@ -2,7 +2,7 @@ use Rattle.std.specs.Prelude.{false, cond, slice_get, suc, zero, ◌≤◌}
 use Rattle.std.specs.Option.{is_some}
 use Rattle.std.proofs.Common.{◌≡◌, ◌∙◌, ◌+◌, ◌++◌, ℕ, Option, Some, None, ap, arith, refl, sym, subst}
 use Rattle.tt_abs.specs.Moves.{ways_of}
-use Rattle.tt_abs.specs.Settings.{setting_of}
+use Rattle.tt_setting.specs.Settings.{setting_of}
 use Rattle.tt_abs.specs.declared.moves.Move.{Move}
 use Rattle.tt_abs.specs.declared.moves.Moves.{Moves}
 use Rattle.tt_abs.specs.declared.moves.Moves.TheVariants.{One, Two}
@@ -13,7 +13,7 @@ use Rattle.tt_find.specs.Representation.Solvers.{HasRisen, IsApart, IsLeadingOn,
 use Rattle.tt_find.specs.declared.solver.Solver.{Solver}
 use Rattle.tt_find.specs.declared.walk.Walk.{Walk}
 use Rattle.tt_find.proofs.Leads.{countable_on, held, just_over, last_over, none_over, not_entered, put, ranged_to, reached_from, too_many_on}
-use Rattle.tt_abs.proofs.StepLemmas.{refused_within}
+use Rattle.tt_setting.proofs.RefusalLemmas.{refused_within}
 use Rattle.tt_find.proofs.Steps.{apart_left, risen_on, stop_map, stored_updates}
 use Rattle.tt_find.proofs.carry.store_successors.Goals as goal
 use Rattle.tt_find.proofs.carry.store_successors.Goals.{then-is_none+then-goes_over, else-is_none+in_default-store}

@@ -1,7 +1,7 @@
 use Rattle.std.specs.Prelude.{cond}
 use Rattle.std.specs.Option.{is_some}
 use Rattle.std.proofs.Common.{◌≡◌, ◌+◌, ◌-◌, ◌≤◌}
-use Rattle.tt_abs.specs.Settings.{setting_of}
+use Rattle.tt_setting.specs.Settings.{setting_of}
 use Rattle.tt_find.specs.Representation.Solvers.{HasRisen, IsLeadingOn, updates_of}
 use Rattle.tt_find.proofs.carry.store_successors.Given as goal
 

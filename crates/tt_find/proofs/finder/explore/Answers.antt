@@ -1,5 +1,5 @@
 use Rattle.std.proofs.Common.{subst}
-use Rattle.tt_abs.specs.Settings.{setting_of}
+use Rattle.tt_setting.specs.Settings.{setting_of}
 use Rattle.tt_family.specs.Contents.{Contents, family_of}
 use Rattle.tt_family.specs.Ascending.{SameContents}
 use Rattle.tt_find.proofs.Finished.{contexts_left, found_left, keeps_same, lists_same, none_good_from}

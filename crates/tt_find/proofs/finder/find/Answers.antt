@@ -1,6 +1,6 @@
 use Rattle.std.proofs.Common.{◌∙◌, inl, Option, IfSome, refl, subst, sym}
 use Rattle.tt_find.specs.declared.finder.Found.{Found}
-use Rattle.tt_abs.specs.Refusals.{unlimited_keeps}
+use Rattle.tt_setting.specs.Refusals.{unlimited_keeps}
 use Rattle.tt_find.specs.FoundSubjects.{HasOnlyNeeded, TellsNoneIsGood}
 use Rattle.tt_find.proofs.finder.find.Goals as goal
 

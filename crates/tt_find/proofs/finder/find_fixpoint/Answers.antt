@@ -1,10 +1,10 @@
 use Rattle.std.proofs.Common.{rules, ◌≡◌, ◌∙◌, [], ap, false}
 use Rattle.tt_code.specs.declared.reason.Reason.TheVariants.{NeverEnds, ProgramTooLong}
-use Rattle.tt_abs.specs.declared.failed.Failed.TheVariants.{Only}
-use Rattle.tt_abs.specs.Settings.{setting_of}
-use Rattle.tt_abs.specs.declared.spot.Spot.TheVariants.{Main}
+use Rattle.tt_setting.specs.declared.failed.Failed.TheVariants.{Only}
+use Rattle.tt_setting.specs.Settings.{setting_of}
+use Rattle.tt_setting.specs.declared.spot.Spot.TheVariants.{Main}
 use Rattle.tt_family.proofs.Judged.{not_both}
-use Rattle.tt_abs.specs.declared.refusal.Refusal.TheVariants.{Refused}
+use Rattle.tt_setting.specs.declared.refusal.Refusal.TheVariants.{Refused}
 use Rattle.tt_find.specs.Found.{IsJustified, never_ends, too_long}
 use Rattle.tt_find.proofs.Finished.{lacks_end}
 use Rattle.tt_find.proofs.Steps.{names_at}

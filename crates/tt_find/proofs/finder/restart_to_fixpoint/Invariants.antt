@@ -1,4 +1,4 @@
-use Rattle.tt_family.specs.Budgets.{AreAlike, Spends}
+use Rattle.tt_setting.specs.Budgets.{AreAlike, Spends}
 use Rattle.tt_find.proofs.finder.restart_to_fixpoint.Given as goal
 
 abbrev pub invariant-loop : goal.invariant-loop

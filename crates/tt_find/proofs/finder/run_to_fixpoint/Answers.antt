@@ -1,5 +1,5 @@
 use Rattle.std.proofs.Common.{◌≡◌, ◌+◌, ap, arith, length, refl}
-use Rattle.tt_abs.specs.Settings.{setting_of}
+use Rattle.tt_setting.specs.Settings.{setting_of}
 use Rattle.tt_abs.specs.StateFlow.{height_of}
 use Rattle.tt_abs.specs.States.{state_laws, state_order}
 use Rattle.tt_find.proofs.Budget.{measure_falls, updates_fit}

@@ -1,7 +1,7 @@
 use Rattle.std.proofs.Common.{◌≡◌, ◌+◌, ◌*◌, ◌-◌, ◌≤◌, length}
-use Rattle.tt_abs.specs.Settings.{setting_of}
+use Rattle.tt_setting.specs.Settings.{setting_of}
 use Rattle.tt_abs.specs.StateFlow.{height_of}
-use Rattle.tt_family.specs.Budgets.{AreAlike, Spends, left_of}
+use Rattle.tt_setting.specs.Budgets.{AreAlike, Spends, left_of}
 use Rattle.tt_find.specs.Representation.Solvers.{IsWalk, IsWhole, updates_of}
 use Rattle.tt_find.proofs.finder.run_to_fixpoint.Given as goal
 

@@ -5,7 +5,7 @@ use Rattle.std.proofs.lemmas.Int.{to_z-of_z}
 use Rattle.tt_code.specs.Cut.{Instruction}
 use Rattle.tt_code.specs.Structure.{after_fdef}
 use Rattle.tt_code.specs.Settings.{body_name}
-use Rattle.tt_abs.specs.Settings.{setting_of}
+use Rattle.tt_setting.specs.Settings.{setting_of}
 use Rattle.tt_symbolic.proofs.AreaFacts.{fits_there}
 use Rattle.tt_symbolic.proofs.Controls.{defines}
 use Rattle.tt_symbolic.proofs.control.define.Goals as goal

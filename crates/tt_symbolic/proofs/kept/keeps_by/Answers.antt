@@ -1,5 +1,5 @@
 use Rattle.std.proofs.Common.{rules}
-use Rattle.tt_abs.specs.Settings.{setting_of, frames_of}
+use Rattle.tt_setting.specs.Settings.{setting_of, frames_of}
 use Rattle.tt_symbolic.proofs.Steppings.{starting}
 use Rattle.tt_symbolic.proofs.Keepings.{steps_keep}
 use Rattle.tt_symbolic.proofs.kept.keeps_by.Goals as goal

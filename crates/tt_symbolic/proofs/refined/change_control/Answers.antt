@@ -2,7 +2,7 @@ use Rattle.std.proofs.Common.{rules, refl}
 use Rattle.std.specs.Prelude.{FitsSigned}
 use Rattle.std.specs.Int.{w64}
 use Rattle.std.proofs.lemmas.Int.{to_z-of_z}
-use Rattle.tt_abs.specs.Settings.{setting_of}
+use Rattle.tt_setting.specs.Settings.{setting_of}
 use Rattle.tt_symbolic.proofs.AreaFacts.{fits_there}
 use Rattle.tt_symbolic.proofs.RefinedFacts.{change_works}
 use Rattle.tt_symbolic.proofs.refined.change_control.Goals as goal

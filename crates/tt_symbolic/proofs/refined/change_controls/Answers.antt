@@ -1,4 +1,4 @@
-use Rattle.tt_abs.specs.Settings.{setting_of}
+use Rattle.tt_setting.specs.Settings.{setting_of}
 use Rattle.tt_code.specs.Changes.{plain}
 use Rattle.tt_symbolic.specs.Representation.Plain.{line_of}
 use Rattle.tt_symbolic.proofs.Results.{on_ok}

@@ -1,5 +1,5 @@
 use Rattle.std.proofs.Common.{subst, List}
-use Rattle.tt_abs.specs.Settings.{setting_of}
+use Rattle.tt_setting.specs.Settings.{setting_of}
 use Rattle.tt_symbolic_state.specs.declared.cell.Range.{Range}
 use Rattle.tt_symbolic_cells.specs.Answers.{AnswersExact}
 use Rattle.tt_symbolic.proofs.Results.{on_ok}

@@ -1,4 +1,4 @@
-use Rattle.tt_abs.specs.Settings.{setting_of}
+use Rattle.tt_setting.specs.Settings.{setting_of}
 use Rattle.tt_symbolic.proofs.Results.{on_ok}
 use Rattle.tt_symbolic.proofs.AreaFacts.{fits_there}
 use Rattle.tt_symbolic.proofs.RefinedFacts.{read_at, read_any}

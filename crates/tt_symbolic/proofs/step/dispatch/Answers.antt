@@ -1,7 +1,7 @@
 use Rattle.std.proofs.Common.{sym, ap, ◌∙◌}
 use Rattle.tt_code.specs.Entries.{view}
 use Rattle.tt_code.specs.Table.{effect_of}
-use Rattle.tt_abs.specs.Settings.{setting_of}
+use Rattle.tt_setting.specs.Settings.{setting_of}
 use Rattle.tt_symbolic.proofs.Results.{on_ok}
 use Rattle.tt_symbolic.proofs.Steppings.{first_code, control_sound, control_ordinary}
 use Rattle.tt_symbolic.proofs.step.dispatch.Goals as goal

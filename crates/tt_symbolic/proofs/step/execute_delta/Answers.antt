@@ -1,7 +1,7 @@
 use Rattle.std.proofs.Common.{sym, ap, ◌∙◌}
 use Rattle.tt_code.specs.Entries.{view}
 use Rattle.tt_code.specs.Table.{effect_of}
-use Rattle.tt_abs.specs.Settings.{setting_of}
+use Rattle.tt_setting.specs.Settings.{setting_of}
 use Rattle.tt_symbolic_state.specs.CvtMachine.{refinement_of}
 use Rattle.tt_symbolic.specs.Representation.Plain.{line_of}
 use Rattle.tt_symbolic.proofs.Results.{on_ok}

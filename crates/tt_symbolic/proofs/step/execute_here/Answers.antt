@@ -1,6 +1,6 @@
 use Rattle.std.proofs.Common.{ap, ◌∙◌, ◌≡◌}
 use Rattle.tt_code.specs.Table.{effect_of}
-use Rattle.tt_abs.specs.Settings.{setting_of}
+use Rattle.tt_setting.specs.Settings.{setting_of}
 use Rattle.tt_symbolic_state.specs.CvtMachine.{refinement_of, ChangesControl, ReadsControl, WritesControl}
 use Rattle.tt_symbolic.specs.Representation.Refined.{of_one_line, of_two_line, read_line, refinement_for, write_line}
 use Rattle.tt_symbolic_cells.specs.declared.exact.Exact.TheVariants as exact

@@ -1,5 +1,5 @@
 use Rattle.std.proofs.Common.{refl, length, ◌+◌, ap, ◌∙◌, ℕ}
-use Rattle.tt_abs.specs.Settings.{setting_of}
+use Rattle.tt_setting.specs.Settings.{setting_of}
 use Rattle.tt_symbolic.proofs.Steppings.{here_sound}
 use Rattle.tt_symbolic.proofs.step.execute_on.Goals as goal
 

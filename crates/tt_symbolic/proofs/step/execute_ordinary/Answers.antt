@@ -1,7 +1,7 @@
 use Rattle.std.proofs.Common.{subst, refl, sym, ap, ◌∙◌, List}
 use Rattle.tt_code.specs.Entries.{view}
 use Rattle.tt_code.specs.Table.{effect_of}
-use Rattle.tt_abs.specs.Settings.{setting_of}
+use Rattle.tt_setting.specs.Settings.{setting_of}
 use Rattle.tt_code.specs.Computing.{shuffled}
 use Rattle.tt_symbolic_state.specs.declared.cell.Range.{Range}
 use Rattle.tt_symbolic_cells.specs.Stacking.{Restacks}

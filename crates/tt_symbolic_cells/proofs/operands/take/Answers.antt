@@ -1,7 +1,7 @@
 use Rattle.std.proofs.Common.{ℕ, subst}
 use Rattle.tt_code.specs.Operands.{take_operand}
 use Rattle.tt_code.specs.declared.reason.Reason.TheVariants as reason
-use Rattle.tt_abs.specs.Settings.{setting_of}
+use Rattle.tt_setting.specs.Settings.{setting_of}
 use Rattle.tt_symbolic_state.specs.Values.{Fits, Valuation}
 use Rattle.tt_symbolic_state.specs.Shows.{graphics_of, values}
 use Rattle.tt_symbolic_cells.specs.Taking.{Takes, below_bound}

@@ -1,5 +1,5 @@
 use Rattle.std.proofs.Common.{drop}
-use Rattle.tt_abs.specs.Settings.{setting_of}
+use Rattle.tt_setting.specs.Settings.{setting_of}
 use Rattle.tt_symbolic_state.specs.Shows.{graphics_of, values}
 use Rattle.tt_symbolic_cells.proofs.Takings.{row_step}
 use Rattle.tt_symbolic_cells.proofs.operands.take_operands.Goals as goal

@@ -6,7 +6,7 @@ use Rattle.std.specs.Int.{w32}
 use Rattle.std.proofs.Common.{rules}
 use Rattle.std.proofs.lemmas.Int.{to_z-of_z}
 use Rattle.tt_code.specs.Operands.{is_zone}
-use Rattle.tt_abs.specs.Settings.{setting_of}
+use Rattle.tt_setting.specs.Settings.{setting_of}
 use Rattle.tt_symbolic_cells.proofs.Takings.{tested_takes, under_is}
 use Rattle.tt_symbolic_cells.proofs.operands.take_zone.Goals as goal
 

@@ -1,6 +1,6 @@
 use Rattle.std.proofs.Common.{drop, ◌≡◌}
 use Rattle.tt_code.specs.Operands.{test_uses}
-use Rattle.tt_abs.specs.Settings.{setting_of}
+use Rattle.tt_setting.specs.Settings.{setting_of}
 use Rattle.tt_symbolic_state.specs.Values.{Fits, Valuation}
 use Rattle.tt_symbolic_state.specs.Shows.{graphics_of}
 use Rattle.tt_symbolic_cells.proofs.operands.test_uses.Given as goal

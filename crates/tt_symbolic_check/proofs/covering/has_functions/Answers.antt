@@ -2,7 +2,7 @@ use Rattle.std.proofs.Common.{◌∙◌, ap, ℕ, sym, subst, ◌≡◌, Some}
 use Rattle.std.proofs.lemmas.List.Elements.{All-more}
 use Rattle.std.specs.List.{All}
 use Rattle.std.proofs.lemmas.List.{take_all}
-use Rattle.tt_abs.specs.Entries.{listed}
+use Rattle.tt_setting.specs.Entries.{listed}
 use Rattle.tt_symbolic_check.proofs.Listings.{functions_within}
 use Rattle.tt_symbolic_check.proofs.covering.has_functions.Goals as goal
 

@@ -1,6 +1,6 @@
 use Rattle.std.proofs.Common.{take, ℕ, ◌≡◌, Some}
 use Rattle.std.specs.List.{All}
-use Rattle.tt_abs.specs.Entries.{listed}
+use Rattle.tt_setting.specs.Entries.{listed}
 use Rattle.tt_symbolic_check.proofs.covering.has_functions.Given as goal
 
 abbrev pub invariant-loop-i : goal.invariant-loop-i

@@ -1,6 +1,6 @@
 use Rattle.std.proofs.Common.{subst}
 use Rattle.std.specs.Box.{with_value}
-use Rattle.tt_abs.specs.Settings.{setting_of}
+use Rattle.tt_setting.specs.Settings.{setting_of}
 use Rattle.tt_symbolic_state.specs.declared.state.State.{State}
 use Rattle.tt_symbolic.specs.Kept.{StepsKeep}
 use Rattle.tt_symbolic.specs.Steps.{StepsTo}

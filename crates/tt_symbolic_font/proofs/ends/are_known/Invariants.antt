@@ -1,6 +1,6 @@
 use Rattle.std.proofs.Common.{take}
 use Rattle.std.specs.List.{All}
-use Rattle.tt_abs.specs.Cells.{CoversFunctions}
+use Rattle.tt_setting.specs.Functions.{CoversFunctions}
 use Rattle.tt_symbolic_state.specs.declared.state.State.{State}
 use Rattle.tt_symbolic_font.proofs.ends.are_known.Given as goal
 

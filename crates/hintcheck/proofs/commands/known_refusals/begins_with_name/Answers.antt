@@ -1,7 +1,7 @@
 use Rattle.std.proofs.Common.{ap, arith, sym, ◌∙◌}
 use Rattle.std.specs.Prelude.{is_some}
 use Rattle.std.proofs.lemmas.Str.Pattern.{split_parts}
-use Rattle.tt_cert.specs.Names.{text_of}
+use Rattle.tt_setting.specs.Names.{text_of}
 use Rattle.hintcheck.proofs.KnownLines.{cut_at_space, has_name, name_graphic}
 use Rattle.hintcheck.proofs.commands.known_refusals.begins_with_name.Goals as goal
 

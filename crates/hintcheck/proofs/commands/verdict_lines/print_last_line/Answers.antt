@@ -1,7 +1,7 @@
 use Rattle.std.proofs.Common.{◌++◌, List, ℕ, codes, subst}
 use Rattle.std.specs.Io.KnownBytes.{Appends}
 use Rattle.std.proofs.lemmas.Result.{on_ok_weaker}
-use Rattle.tt_cert.specs.declared.name.Name.TheVariants.{Cvt, Font}
+use Rattle.tt_setting.specs.declared.name.Name.TheVariants.{Cvt, Font}
 use Rattle.hintcheck.proofs.PrintedLemmas.{refused_end}
 use Rattle.hintcheck.proofs.commands.verdict_lines.print_last_line.Goals as goal
 

@@ -3,7 +3,7 @@ use Rattle.std.specs.Prelude.{reverse}
 use Rattle.std.proofs.lemmas.List.{length-reverse, reverse-reverse}
 use Rattle.tt_abs.specs.declared.cells.Cell.TheVariants.{Unknown}
 use Rattle.tt_abs.specs.Stacks.{cell_at}
-use Rattle.tt_abs.proofs.Reversed.{under_is}
+use Rattle.tt_abs.proofs.Firsts.{under_is}
 use Rattle.tt_abs.proofs.stack.Stack.under.Goals as goal
 
 pub returns-then-taken-depth-clause-cell : goal.returns-then-taken-depth-clause-cell

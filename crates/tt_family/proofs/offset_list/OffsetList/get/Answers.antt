@@ -1,6 +1,6 @@
 use Rattle.std.specs.Prelude.{◌-◌, length, slice_get}
 use Rattle.std.proofs.Common.{sym, ◌∙◌, ap}
-use Rattle.tt_abs.specs.Entries.{listed}
+use Rattle.tt_setting.specs.Entries.{listed}
 use Rattle.tt_family.specs.Representation.SlotLists.{Offsets}
 use Rattle.tt_family.proofs.ListEnds.{listed_last}
 use Rattle.tt_family.proofs.offset_list.OffsetList.get.Goals as goal

@@ -1,5 +1,5 @@
 use Rattle.std.proofs.Common.{sym, subst}
-use Rattle.tt_abs.specs.Entries.{Ascends}
+use Rattle.tt_setting.specs.Entries.{Ascends}
 use Rattle.tt_family.specs.Representation.SlotLists.{Offsets, AreBelow}
 use Rattle.tt_family.proofs.ListEnds.{ascends_pushed}
 use Rattle.tt_family.proofs.offset_list.OffsetList.push.Goals as goal

@@ -1,7 +1,7 @@
 use Rattle.std.specs.Prelude.{◌≡◌, ℕ, List, slice_index_or, nat_lt, true, length}
 use Rattle.std.proofs.Common.{arith, sym, ◌∙◌, ap, subst}
 use Rattle.std.proofs.lemmas.Bool.{ltb-false, ltb-true}
-use Rattle.tt_abs.specs.Entries.{listed}
+use Rattle.tt_setting.specs.Entries.{listed}
 use Rattle.tt_family.specs.Places.{states_of}
 use Rattle.tt_family.specs.Representation.SlotLists.{Offsets, AreBelow, list_of}
 use Rattle.tt_family.proofs.SlotLists.{list_read, found_beyond, found_below, found_in_list, found_beside}

@@ -1,5 +1,5 @@
 use Rattle.std.proofs.Common.{refl, sym, ap, ◌∙◌, arith, slice_set}
-use Rattle.tt_abs.specs.declared.failed.Failed.TheVariants.{OtherDepth}
+use Rattle.tt_setting.specs.declared.failed.Failed.TheVariants.{OtherDepth}
 use Rattle.tt_family.proofs.StateSlots.{slot_there, state_found, none_found, length-states_in, one_depth, PutsAt-set, Reweighs-set}
 use Rattle.tt_family.proofs.state_store.StateStore.join.Goals as goal
 

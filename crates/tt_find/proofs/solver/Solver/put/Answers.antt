@@ -3,7 +3,7 @@ use Rattle.tt_abs.specs.States.{state_order}
 use Rattle.tt_family.specs.Joins.{is_change}
 use Rattle.tt_family.specs.Contents.{Contents, refusal_in}
 use Rattle.tt_find.proofs.Placed.{put_new}
-use Rattle.tt_abs.proofs.StepLemmas.{refused_within}
+use Rattle.tt_setting.proofs.RefusalLemmas.{refused_within}
 use Rattle.tt_find.proofs.Steps.{apart_names}
 use Rattle.tt_find.proofs.Waits.{length-insert_key, waiting_inserted}
 use Rattle.tt_find.proofs.solver.Solver.put.Goals as goal

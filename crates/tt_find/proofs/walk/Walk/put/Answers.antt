@@ -3,7 +3,7 @@ use Rattle.std.specs.Prelude.{Some}
 use Rattle.tt_code.specs.declared.machine.Frame.{Frame}
 use Rattle.tt_abs.specs.States.{state_order}
 use Rattle.tt_family.specs.Contents.{frames_at}
-use Rattle.tt_abs.specs.Spots.{spot_of}
+use Rattle.tt_setting.specs.Spots.{spot_of}
 use Rattle.tt_find.proofs.Placed.{put_elsewhere}
 use Rattle.tt_find.proofs.walk.Walk.put.Goals as goal
 

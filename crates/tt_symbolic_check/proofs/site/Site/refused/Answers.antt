@@ -1,4 +1,4 @@
-use Rattle.tt_abs.proofs.StepLemmas.{refused_within}
+use Rattle.tt_setting.proofs.RefusalLemmas.{refused_within}
 use Rattle.tt_symbolic_check.proofs.site.Site.refused.Goals as goal
 
 pub returns-clause-within : goal.returns-clause-within

@@ -2,7 +2,7 @@ use Rattle.std.proofs.Common.{ℕ, List, rules, subst}
 use Rattle.std.specs.List.{All}
 use Rattle.std.proofs.lemmas.List.{take_all}
 use Rattle.std.proofs.lemmas.List.Elements.{All-more, All-weaker}
-use Rattle.tt_abs.specs.Cells.{CoversFunctions}
+use Rattle.tt_setting.specs.Functions.{CoversFunctions}
 use Rattle.tt_symbolic_font.specs.Known.{IsWithin}
 use Rattle.tt_symbolic_font.proofs.Checked.{made}
 use Rattle.tt_symbolic_font.proofs.Following.{within_more, within_is}

@@ -1,5 +1,5 @@
 use Rattle.std.proofs.Common.{arith, ◌<◌, ◌∙◌, ◌≡◌, ◌-◌, length, ap, reverse}
-use Rattle.tt_abs.proofs.Reversed.{removed_is}
+use Rattle.tt_setting.proofs.Reversed.{removed_is}
 use Rattle.std.proofs.lemmas.List.{length-reverse}
 use Rattle.tt_symbolic_state.proofs.stack.Stack.remove.Goals as goal
 

@@ -1,6 +1,0 @@
-use Rattle.std.proofs.Common.{◌≡◌, drop}
-use Rattle.tt_abs.specs.EntryLists.{missing_entries}
-use Rattle.tt_abs.proofs.sorted_map.passes_all.Given as goal
-
-abbrev pub invariant-loop-entry : goal.invariant-loop-entry
-invariant-loop-entry g l = missing_entries g.T.PartialEq.eq (drop l.entry-index l.mine) l.missing ≡ missing_entries g.T.PartialEq.eq l.mine l.theirs

@@ -1,0 +1,10 @@
+pub mod Names
+pub mod Settings
+pub mod Spots
+pub mod Functions
+pub mod Ranges
+pub mod Refusals
+pub mod Entries
+pub mod EntryLists
+pub mod EntryLaws
+pub mod Budgets
