@@ -3,16 +3,12 @@
 use crate::asked::place_of;
 use crate::explored_program::{ExploredProgram, instruction_at};
 use crate::instruction_text::name_of;
-use crate::making::{making_by_strict, making_by_symbolic};
+use crate::making::{making_by_strict, making_by_symbolic, reads_memory};
 use crate::origin::{Brought, CellOrigin};
 use std::fmt;
 use tt_abs::{Kind, Setting};
 use tt_cert::Name;
-use tt_symbolic_check::Site;
-use tt_symbolic_search::SymbolOrigin;
-
-/// The codes of RS and RCVT.
-const READS: [u8; 2] = [0x43, 0x45];
+use tt_symbolic_check::{Site, SymbolOrigin};
 
 /// A number that ways bring which meet.
 #[derive(Clone, Copy)]
@@ -90,7 +86,7 @@ impl SymbolOriginText<'_> {
             None => 0,
         };
         write!(f, "{} at {} ", name_of(code), place_of(self.program, at))?;
-        if !READS.contains(&code) {
+        if !reads_memory(code) {
             return f.write_str(making_by_symbolic(code));
         }
         f.write_str("reads it, and what is there isn't known: it isn't written before")?;

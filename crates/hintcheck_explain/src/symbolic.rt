@@ -21,8 +21,7 @@ use tt_abs::{Setting, Spot};
 use tt_cert::Name;
 use tt_code::Reason;
 use tt_stream::{PrintFailed, Sink};
-use tt_symbolic_check::Site;
-use tt_symbolic_search::{Insight, KnownState};
+use tt_symbolic_check::{Insight, KnownState, Site};
 
 /// A program that is explained: its name, what it is checked against, and what the search tells of
 /// it.

@@ -1,8 +1,8 @@
 -- What leaves kept entries as they are.
-use Rattle.std.proofs.Common.{◌≡◌, ℕ, zero, suc, ◌+◌, ◌<◌, ℤ, pos, negsuc, List, [], ◌∷◌, Ok, Err, Some, Bool, true, false, nat_le, ◌≤ℤ◌, ◌+ℤ◌, if◌then◌else◌, refl, sym, ◌∙◌, ap, subst, arith, length, drop, take, get_or, add-one, inl, inr}
+use Rattle.std.proofs.Common.{◌≡◌, ℕ, zero, suc, ◌+◌, ◌<◌, ℤ, pos, negsuc, List, [], ◌∷◌, Ok, Err, Some, Bool, true, false, nat_eq, nat_le, ◌≤ℤ◌, ◌+ℤ◌, if◌then◌else◌, refl, sym, ◌∙◌, ap, subst, arith, length, drop, take, get_or, add-one, inl, inr}
 use Rattle.std.specs.List.{All}
 use Rattle.std.proofs.lemmas.List.Elements.{All-head, All-more, All-tail}
-use Rattle.std.proofs.lemmas.Bool.{cases_lt}
+use Rattle.std.proofs.lemmas.Bool.{cases_lt, eqb-true}
 use Rattle.std.proofs.lemmas.Option.{slice_get_within, get_or_from_slice_get}
 use Rattle.tt_code.specs.Refusals.{Tested, ◌>>=◌, holds_or, some_or}
 use Rattle.tt_code.specs.Structure.{after_fdef}
@@ -31,8 +31,12 @@ use Rattle.tt_code.specs.declared.kinds.Arithmetic.TheVariants.{Add, Sub, Abs, N
 use Rattle.tt_setting.specs.declared.setting.Setting.{Setting}
 use Rattle.tt_setting.specs.declared.setting.Point.{Point}
 use Rattle.tt_setting.specs.Settings.{frames_of, setting_of}
-use Rattle.tt_symbolic_state.specs.CvtMachine.{Allows, ChangesControl, ChangesControls, ChangesOnly, Ordinary, Refinement, Refines, SameControls, WritesControl, ReadsControl, refinement_of}
-use Rattle.tt_symbolic_state.specs.CvtMachine as kinds
+use Rattle.tt_code.specs.declared.kinds.Refinement.{Refinement}
+use Rattle.tt_code.specs.declared.kinds.Refinement.TheVariants.{ChangesControl, ChangesControls, Ordinary, WritesControl, ReadsControl}
+use Rattle.tt_code.specs.Table.{refinement_of, written_by, written_of}
+use Rattle.tt_code.specs.declared.kinds.Written.TheVariants as written
+use Rattle.tt_symbolic_state.specs.CvtMachine.{Allows, ChangesOnly, Refines, SameControls}
+use Rattle.tt_code.specs.declared.kinds.Refinement.TheVariants as kinds
 use Rattle.tt_symbolic_state.specs.Shows.{values}
 use Rattle.tt_symbolic_state.specs.Values.{Fits, Valuation, value}
 use Rattle.tt_symbolic_state.specs.declared.cell.Cell.{Cell}
@@ -165,11 +169,31 @@ store_holds entries s m z i rest e none = go (is_below i s.limits.storage) refl
     }
     go false f = let is : plain s m store_line ≡ Err reason.Storage = rw (e, f) refl in subst (Holds (Kept' entries m.registers.storage)) (sym is) (holds_err (Kept' entries m.registers.storage) reason.Storage)
 
-pub keeps_store : (entries : List ℕ) (code : ℕ) (a : State) → code ≡ 0x42 → IsSecondNoneOf entries a → KeepsStorage entries code a
+keeps_store : (entries : List ℕ) (code : ℕ) (a : State) → code ≡ 0x42 → IsSecondNoneOf entries a → KeepsStorage entries code a
 keeps_store entries code a is h s v m rest next o fits stack q =
     let st : m.stack ≡ value v h.top ∷ value v h.second ∷ values v h.below = stack ∙ ap (values v) h.stack in
     let e : effect_of code ≡ Plain store_line = ap effect_of is ∙ store_effect in
     (holds_on (Kept' entries m.registers.storage) next (plain s m store_line) (store_holds entries s m (value v h.top) (value v h.second) (values v h.below) st (λ k among w. h.none.none v fits k among w))).holds o (ap (λ (x : Meaning). does s m x rest next) (sym e) ∙ q)
+
+never_stored : (kind : Refinement) → written_by kind ≡ written.StorageCell → ⊥
+never_stored kinds.ReadsControl e = absurd (cc)
+never_stored kinds.WritesControl e = absurd (cc)
+never_stored kinds.ChangesControl e = absurd (cc)
+never_stored kinds.ChangesControls e = absurd (cc)
+never_stored kinds.Greatest e = absurd (cc)
+never_stored kinds.Least e = absurd (cc)
+never_stored kinds.Product e = absurd (cc)
+never_stored kinds.Quotient e = absurd (cc)
+never_stored kinds.Floor e = absurd (cc)
+never_stored kinds.Ceiling e = absurd (cc)
+never_stored kinds.Ordinary e = absurd (cc)
+
+pub keeps_stored : (entries : List ℕ) (code : ℕ) (a : State) → written_of code ≡ written.StorageCell → IsSecondNoneOf entries a → KeepsStorage entries code a
+keeps_stored entries code a e h = keeps_store entries code a (go (nat_eq code 0x42) refl e) h
+  where
+    go : (b : Bool) → nat_eq code 0x42 ≡ b → (if b then written.StorageCell else written_by (refinement_of code)) ≡ written.StorageCell → code ≡ 0x42
+    go true t f = eqb-true code 0x42 t
+    go false t f = absurd (never_stored (refinement_of code) f)
 
 pub keeps_plain : (entries : List ℕ) (code : ℕ) (a : State) (line : Lists) → effect_of code ≡ Plain line → StoresNothing line.updates → KeepsStorage entries code a
 keeps_plain entries code a line e none s v m rest next o fits stack q =

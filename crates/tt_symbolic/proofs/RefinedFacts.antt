@@ -11,7 +11,9 @@ use Rattle.tt_setting.specs.Entries.{listed, with_entry}
 use Rattle.tt_symbolic_state.specs.declared.cell.Cell.{Cell}
 use Rattle.tt_symbolic_state.specs.Values.{Fits, Valuation, value}
 use Rattle.tt_symbolic_state.specs.declared.state.State.{State}
-use Rattle.tt_symbolic_state.specs.CvtMachine.{ChangesControl, ChangesControls, ChangesOnly, IsPaired, ReadsControl, Refinement, Refines, SameControls, WritesControl}
+use Rattle.tt_code.specs.declared.kinds.Refinement.{Refinement}
+use Rattle.tt_code.specs.declared.kinds.Refinement.TheVariants.{ChangesControl, ChangesControls, ReadsControl, WritesControl}
+use Rattle.tt_symbolic_state.specs.CvtMachine.{ChangesOnly, IsPaired, Refines, SameControls}
 use Rattle.tt_symbolic_state.specs.Shows.{Shows, ShowsArea, values}
 use Rattle.tt_symbolic_cells.specs.declared.answer.Answer.{Answer}
 use Rattle.tt_symbolic_cells.specs.declared.exact.Exact.{Exact}

@@ -21,7 +21,12 @@ use Rattle.tt_code.specs.declared.kinds.StackOp.{StackOp}
 use Rattle.tt_code.specs.declared.kinds.Control.{Control}
 use Rattle.tt_symbolic_state.specs.Values.{Valuation, value}
 use Rattle.tt_symbolic_state.specs.declared.state.State.{State}
-use Rattle.tt_symbolic_state.specs.CvtMachine.{Allows, ChangesControls, Ordinary, Refines, Refinement, refinement_of}
+use Rattle.tt_code.specs.declared.kinds.Refinement.{Refinement}
+use Rattle.tt_code.specs.declared.kinds.Refinement.TheVariants as kinds
+use Rattle.tt_code.specs.declared.kinds.Refinement.TheVariants.{ChangesControls, Ordinary}
+use Rattle.tt_code.specs.declared.kinds.Operand.TheVariants as operand
+use Rattle.tt_code.specs.Table.{refinement_of}
+use Rattle.tt_symbolic_state.specs.CvtMachine.{Allows, Refines}
 use Rattle.tt_symbolic_state.specs.Shows.{Shows, values}
 use Rattle.tt_symbolic_cells.specs.Stacking.{Restacks}
 use Rattle.tt_symbolic.specs.Sound.{Allowing, Sound, Works, keeps_controls}
@@ -86,7 +91,7 @@ here_allowed s A B code rest old new f h = record { what = h.what; does_it = h.d
 pub ordinary_here : (s : MachineSetting) (code : ℕ) (rest : List ℕ) (old new : State) → refinement_of code ≡ Ordinary → DoesHere s keeps_controls code rest old new → DoesHere s (refined_by code) code rest old new
 ordinary_here s code rest old new e h = here_allowed s keeps_controls (refined_by code) code rest old new (λ m k choices k' r. subst (λ (x : Refinement). Refines x m.stack k choices k') e r) h
 
-pub refined_here : (s : MachineSetting) (kind : Refinement) (line : Lists) (code : ℕ) (rest : List ℕ) (old new : State) → refinement_of code ≡ kind → effect_of code ≡ Plain line → Works (λ m. plain s m line) (refined kind) old new → DoesHere s (refined_by code) code rest old new
+refined_here : (s : MachineSetting) (kind : Refinement) (line : Lists) (code : ℕ) (rest : List ℕ) (old new : State) → refinement_of code ≡ kind → effect_of code ≡ Plain line → Works (λ m. plain s m line) (refined kind) old new → DoesHere s (refined_by code) code rest old new
 refined_here s kind line code rest old new e f w = here_allowed s (refined kind) (refined_by code) code rest old new (λ m k choices k' r. subst (λ (x : Refinement). Refines x m.stack k choices k') e r) (plain_here s (refined kind) line code rest old new f w)
 
 -- the same at a place
@@ -162,48 +167,93 @@ steps setting point (code ∷ rest) old new at starts is h c e deep = record {
 
 -- The codes.
 
-pub read_effect : effect_of 0x45 ≡ Plain read_line
+-- the line of DELTAC
+abbrev pairs_line : Lists
+pairs_line = record {
+  operands = operand.CvtPairs ∷ [];
+  uses = [];
+  updates = [];
+  pushes = [];
+}
+
+read_effect : effect_of 0x45 ≡ Plain read_line
 unfolding effect_of
 read_effect = refl
 
-pub write_effect : effect_of 0x44 ≡ Plain write_line
+write_effect : effect_of 0x44 ≡ Plain write_line
 unfolding effect_of
 write_effect = refl
 
-pub exact_effects : (effect_of 0x8b ≡ Plain of_two_line) × (effect_of 0x8c ≡ Plain of_two_line) × (effect_of 0x63 ≡ Plain of_two_line) × (effect_of 0x62 ≡ Plain of_two_line) × (effect_of 0x66 ≡ Plain of_one_line) × (effect_of 0x67 ≡ Plain of_one_line)
+change_effect : effect_of 0x70 ≡ Plain write_line
+unfolding effect_of
+change_effect = refl
+
+pairs_effects : (effect_of 0x73 ≡ Plain pairs_line) × (effect_of 0x74 ≡ Plain pairs_line) × (effect_of 0x75 ≡ Plain pairs_line)
+unfolding effect_of
+pairs_effects = (refl, refl, refl)
+
+exact_effects : (effect_of 0x8b ≡ Plain of_two_line) × (effect_of 0x8c ≡ Plain of_two_line) × (effect_of 0x63 ≡ Plain of_two_line) × (effect_of 0x62 ≡ Plain of_two_line) × (effect_of 0x66 ≡ Plain of_one_line) × (effect_of 0x67 ≡ Plain of_one_line)
 unfolding effect_of
 exact_effects = (refl, refl, refl, refl, refl, refl)
 
-not_eq : (code n : ℕ) → (code ≡ n → ⊥) → nat_eq code n ≡ false
-not_eq code n h = go (nat_eq code n) refl
+-- the line of a kind of instruction
+abbrev line_for : Refinement → Option Lists
+line_for kinds.ReadsControl = Some read_line
+line_for kinds.WritesControl = Some write_line
+line_for kinds.ChangesControl = Some write_line
+line_for kinds.ChangesControls = Some pairs_line
+line_for kinds.Greatest = Some of_two_line
+line_for kinds.Least = Some of_two_line
+line_for kinds.Product = Some of_two_line
+line_for kinds.Quotient = Some of_two_line
+line_for kinds.Floor = Some of_one_line
+line_for kinds.Ceiling = Some of_one_line
+line_for kinds.Ordinary = None
+
+-- the code is one of this line, if there is one
+abbrev IsOfLine : ℕ → Option Lists → Type 0
+IsOfLine code (Some line) = effect_of code ≡ Plain line
+IsOfLine code None = Unit {0}
+
+-- the first one of a list of codes
+chosen : (code n : ℕ) (kind rest : Refinement) → IsOfLine n (line_for kind) → IsOfLine code (line_for rest) → IsOfLine code (line_for (if nat_eq code n then kind else rest))
+chosen code n kind rest here other = go (nat_eq code n) refl
   where
-    go : (b : Bool) → nat_eq code n ≡ b → b ≡ false
-    go true e = absurd (h (eqb-true code n e))
-    go false e = refl
+    go : (b : Bool) → nat_eq code n ≡ b → IsOfLine code (line_for (if b then kind else rest))
+    go true e = subst (λ (c : ℕ). IsOfLine c (line_for kind)) (sym (eqb-true code n e)) here
+    go false e = other
 
-pub ordinary : (code : ℕ) → (code ≡ 0x45 → ⊥) → (code ≡ 0x44 → ⊥) → (code ≡ 0x70 → ⊥) → (code ≡ 0x73 → ⊥) → (code ≡ 0x74 → ⊥) → (code ≡ 0x75 → ⊥) → (code ≡ 0x8b → ⊥) → (code ≡ 0x8c → ⊥) → (code ≡ 0x63 → ⊥) → (code ≡ 0x62 → ⊥) → (code ≡ 0x66 → ⊥) → (code ≡ 0x67 → ⊥) → refinement_of code ≡ Ordinary
-ordinary code a b c d e f g h i j k l = rw (not_eq code 0x45 a, not_eq code 0x44 b, not_eq code 0x70 c, not_eq code 0x73 d, not_eq code 0x74 e, not_eq code 0x75 f, not_eq code 0x8b g, not_eq code 0x8c h, not_eq code 0x63 i, not_eq code 0x62 j, not_eq code 0x66 k, not_eq code 0x67 l) refl
+of_line : (code : ℕ) → IsOfLine code (line_for (refinement_of code))
+of_line code =
+    chosen code 0x45 kinds.ReadsControl _ read_effect (chosen code 0x44 kinds.WritesControl _ write_effect (chosen code 0x70 kinds.ChangesControl _ change_effect
+    (chosen code 0x73 kinds.ChangesControls _ pairs_effects.0 (chosen code 0x74 kinds.ChangesControls _ pairs_effects.1 (chosen code 0x75 kinds.ChangesControls _ pairs_effects.2
+    (chosen code 0x8b kinds.Greatest _ exact_effects.0 (chosen code 0x8c kinds.Least _ exact_effects.1 (chosen code 0x63 kinds.Product _ exact_effects.2 (chosen code 0x62 kinds.Quotient _ exact_effects.3
+    (chosen code 0x66 kinds.Floor _ exact_effects.4 (chosen code 0x67 kinds.Ceiling kinds.Ordinary exact_effects.5 tt)))))))))))
 
-abbrev is_plain : Meaning → Bool
-is_plain (Plain line) = true
-is_plain _ = false
-
-plains : (is_plain (effect_of 0x45) ≡ true) × (is_plain (effect_of 0x44) ≡ true) × (is_plain (effect_of 0x70) ≡ true) × (is_plain (effect_of 0x73) ≡ true) × (is_plain (effect_of 0x74) ≡ true) × (is_plain (effect_of 0x75) ≡ true) × (is_plain (effect_of 0x8b) ≡ true) × (is_plain (effect_of 0x8c) ≡ true) × (is_plain (effect_of 0x63) ≡ true) × (is_plain (effect_of 0x62) ≡ true) × (is_plain (effect_of 0x66) ≡ true) × (is_plain (effect_of 0x67) ≡ true)
-unfolding effect_of
-plains = (refl, refl, refl, refl, refl, refl, refl, refl, refl, refl, refl, refl)
+-- an instruction of a kind, by its line
+pub kind_here : (s : MachineSetting) (kind : Refinement) (line : Lists) (code : ℕ) (rest : List ℕ) (old new : State) → refinement_of code ≡ kind → line_for kind ≡ Some line → Works (λ m. plain s m line) (refined kind) old new → DoesHere s (refined_by code) code rest old new
+kind_here s kind line code rest old new e f w = refined_here s kind line code rest old new e (subst (λ (l : Option Lists). IsOfLine code l) (ap line_for e ∙ f) (of_line code)) w
 
 pub control_ordinary : (code : ℕ) (op : Control) → effect_of code ≡ Controls op → refinement_of code ≡ Ordinary
-control_ordinary code op e = ordinary code (no 0x45 plains.0) (no 0x44 plains.1) (no 0x70 plains.2) (no 0x73 plains.3) (no 0x74 plains.4) (no 0x75 plains.5) (no 0x8b plains.6) (no 0x8c plains.7) (no 0x63 plains.8) (no 0x62 plains.9) (no 0x66 plains.10) (no 0x67 plains.11)
+control_ordinary code op e = go (refinement_of code) (of_line code)
   where
-    no : (n : ℕ) → is_plain (effect_of n) ≡ true → code ≡ n → ⊥
-    no n p q = let f : is_plain (Controls op) ≡ true = ap is_plain (sym e ∙ ap effect_of q) ∙ p in cc
+    not_of : (line : Lists) → effect_of code ≡ Plain line → ⊥
+    not_of line f = let g : Plain line ≡ Controls op = sym f ∙ e in cc
+    go : (kind : Refinement) → IsOfLine code (line_for kind) → kind ≡ Ordinary
+    go kinds.ReadsControl h = absurd (not_of read_line h)
+    go kinds.WritesControl h = absurd (not_of write_line h)
+    go kinds.ChangesControl h = absurd (not_of write_line h)
+    go kinds.ChangesControls h = absurd (not_of pairs_line h)
+    go kinds.Greatest h = absurd (not_of of_two_line h)
+    go kinds.Least h = absurd (not_of of_two_line h)
+    go kinds.Product h = absurd (not_of of_two_line h)
+    go kinds.Quotient h = absurd (not_of of_two_line h)
+    go kinds.Floor h = absurd (not_of of_one_line h)
+    go kinds.Ceiling h = absurd (not_of of_one_line h)
+    go kinds.Ordinary h = refl
 
 pub delta_here : (s : MachineSetting) (line : Lists) (code : ℕ) (rest : List ℕ) (old new : State) → refinement_of code ≡ ChangesControls → effect_of code ≡ Plain line → Works (λ m. plain s m line) (refined ChangesControls) old new → DoesHere s (refined_by code) code rest old new
 delta_here s line code rest old new e f w = refined_here s ChangesControls line code rest old new e f w
-
-pub change_effect : effect_of 0x70 ≡ Plain write_line
-unfolding effect_of
-change_effect = refl
 
 pub code_is : (i : Instruction) (c d : ℕ) → code_of i ≡ Some c → code_of i ≡ Some d → c ≡ d
 code_is i c d e f = cc

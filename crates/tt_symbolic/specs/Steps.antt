@@ -8,7 +8,8 @@ use Rattle.tt_code.specs.Table.{effect_of}
 use Rattle.tt_code.specs.Runs.{does, fetched, goes_on, outcome}
 use Rattle.tt_setting.specs.declared.setting.Setting.{Setting}
 use Rattle.tt_setting.specs.Settings.{setting_of}
-use Rattle.tt_symbolic_state.specs.CvtMachine.{Allows, Refines, refinement_of}
+use Rattle.tt_code.specs.Table.{refinement_of}
+use Rattle.tt_symbolic_state.specs.CvtMachine.{Allows, Refines}
 use Rattle.tt_symbolic_state.specs.declared.state.State.{State}
 use Rattle.tt_symbolic.specs.Sound.{Allowing, Sound, Works}
 

@@ -12,10 +12,10 @@ ghost use Rattle.tt_symbolic.specs.Steps.{StepsTo};
 
 use crate::changes::index_bounds;
 use crate::refined::pair_count;
-use crate::step::{frame_of, innermost, is_ordinary, perform};
+use crate::step::{frame_of, innermost, perform};
 use tt_abs::{Point, Setting, StepFault};
-use tt_code::kinds::{Effect, Update};
-use tt_code::{Instr, Reason, entry};
+use tt_code::kinds::Update;
+use tt_code::{Effect, Instr, Reason, Refinement, Written, entry, refinement, written};
 use tt_symbolic_cells::cell_under;
 use tt_symbolic_state::cell::{Cell, Range};
 use tt_symbolic_state::state::State;
@@ -130,23 +130,18 @@ fn are_all_pairs_none_of(numbers: &[u16], state: &State) -> bool
 fn keeps_controls(numbers: &[u16], state: &State, code: u8) -> bool
     ensures { result ≡ true → KeepsControls numbers.now code state.now }
 {
-    if is_ordinary(code) {
-        return true;
-    }
-    match code {
-        0x44 => is_second_none_of(numbers, state),
-        0x70 => is_second_none_of(numbers, state),
-        0x73 => are_all_pairs_none_of(numbers, state),
-        0x74 => are_all_pairs_none_of(numbers, state),
-        0x75 => are_all_pairs_none_of(numbers, state),
-        0x45 => true,
-        0x8b => true,
-        0x8c => true,
-        0x63 => true,
-        0x62 => true,
-        0x66 => true,
-        0x67 => true,
-        _ => false,
+    match refinement(code) {
+        Refinement::WritesControl => is_second_none_of(numbers, state),
+        Refinement::ChangesControl => is_second_none_of(numbers, state),
+        Refinement::ChangesControls => are_all_pairs_none_of(numbers, state),
+        Refinement::ReadsControl
+        | Refinement::Greatest
+        | Refinement::Least
+        | Refinement::Product
+        | Refinement::Quotient
+        | Refinement::Floor
+        | Refinement::Ceiling
+        | Refinement::Ordinary => true,
     }
 }
 
@@ -154,7 +149,7 @@ fn keeps_controls(numbers: &[u16], state: &State, code: u8) -> bool
 fn keeps_storage(numbers: &[u16], state: &State, code: u8) -> bool
     ensures { result ≡ true → KeepsStorage numbers.now code state.now }
 {
-    if code == 0x42 {
+    if written(code) == Written::StorageCell {
         return is_second_none_of(numbers, state);
     }
     match entry(code) {

@@ -4,7 +4,8 @@ ghost use Rattle.std.specs.Prelude.{◌≡◌, OnOk, Some, true, ℕ};
 ghost use Rattle.tt_code.specs.Cut.{code_of};
 ghost use Rattle.tt_setting.specs.Settings.{point_instruction};
 ghost use Rattle.tt_setting.specs.Settings.{setting_of};
-ghost use Rattle.tt_symbolic_state.specs.CvtMachine.{ChangesControls, Ordinary, refinement_of};
+ghost use Rattle.tt_code.specs.declared.kinds.Refinement.TheVariants.{ChangesControls};
+ghost use Rattle.tt_code.specs.Table.{refinement_of};
 ghost use Rattle.tt_symbolic.specs.Representation.Leading.{IsAt, IsInnermost};
 ghost use Rattle.tt_symbolic.specs.Sound.{keeps_controls};
 ghost use Rattle.tt_symbolic.specs.Steps.{CarriesOut, Dispatches, StepsTo, always, refined_by};
@@ -17,8 +18,7 @@ use crate::refined::{
     write_control,
 };
 use tt_abs::{Point, Setting, StepFault};
-use tt_code::kinds::Effect;
-use tt_code::{Frame, Instr, Reason, entry};
+use tt_code::{Effect, Frame, Instr, Reason, Refinement, entry, refinement};
 use tt_symbolic_cells::{Exact, push_data, shuffle};
 use tt_symbolic_state::state::{OpenCall, State};
 
@@ -46,24 +46,6 @@ fn execute_ordinary(
     }
 }
 
-/// Whether the refined machine says no more of the instructions of this code.
-pub(crate) fn is_ordinary(code: u8) -> bool
-    ensures { result ≡ true → refinement_of code ≡ Ordinary }
-{
-    code != 0x45
-        && code != 0x44
-        && code != 0x70
-        && code != 0x73
-        && code != 0x74
-        && code != 0x75
-        && code != 0x8b
-        && code != 0x8c
-        && code != 0x63
-        && code != 0x62
-        && code != 0x66
-        && code != 0x67
-}
-
 /// Carries out DELTAC1, DELTAC2 or DELTAC3.
 fn execute_delta(
     setting: &Setting<'_>,
@@ -89,24 +71,18 @@ fn execute_here(
     ensures { OnOk result
         (CarriesOut (setting_of setting.now) refined_by instr.now state.old state.new) }
 {
-    let code = instr.code();
-    if is_ordinary(code) {
-        return execute_ordinary(setting, state, instr);
-    }
-    match code {
-        0x45 => read_control(setting, state),
-        0x44 => write_control(setting, state),
-        0x70 => change_control(setting, state),
-        0x73 => execute_delta(setting, state, instr),
-        0x74 => execute_delta(setting, state, instr),
-        0x75 => execute_delta(setting, state, instr),
-        0x8b => compute_exact_of_two(setting, state, Exact::Greatest),
-        0x8c => compute_exact_of_two(setting, state, Exact::Least),
-        0x63 => compute_exact_of_two(setting, state, Exact::Product),
-        0x62 => compute_exact_of_two(setting, state, Exact::Quotient),
-        0x66 => compute_exact_of_one(setting, state, Exact::Floor),
-        0x67 => compute_exact_of_one(setting, state, Exact::Ceiling),
-        _ => Err(StepFault::from(Reason::Cvt)),
+    match refinement(instr.code()) {
+        Refinement::Ordinary => execute_ordinary(setting, state, instr),
+        Refinement::ReadsControl => read_control(setting, state),
+        Refinement::WritesControl => write_control(setting, state),
+        Refinement::ChangesControl => change_control(setting, state),
+        Refinement::ChangesControls => execute_delta(setting, state, instr),
+        Refinement::Greatest => compute_exact_of_two(setting, state, Exact::Greatest),
+        Refinement::Least => compute_exact_of_two(setting, state, Exact::Least),
+        Refinement::Product => compute_exact_of_two(setting, state, Exact::Product),
+        Refinement::Quotient => compute_exact_of_two(setting, state, Exact::Quotient),
+        Refinement::Floor => compute_exact_of_one(setting, state, Exact::Floor),
+        Refinement::Ceiling => compute_exact_of_one(setting, state, Exact::Ceiling),
     }
 }
 

@@ -4,6 +4,7 @@
 mod checking;
 mod copying;
 mod covering;
+mod insight;
 pub mod laws;
 mod place_index;
 mod pool;
@@ -15,7 +16,8 @@ mod walk;
 pub use checking::check;
 pub use copying::{Split, copied, copy_into, lower, raise};
 pub use covering::{covers, has_functions};
+pub use insight::{Insight, KnownState, Question, SymbolOrigin};
 pub use site::{START, Site, too_many_steps};
-pub use splits::wanted;
+pub use splits::{Decision, decision_of, wanted};
 pub use start::{Start, start_state};
 pub use walk::{Effort, USUAL_EFFORT, is_at_end};

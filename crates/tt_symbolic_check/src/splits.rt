@@ -1,11 +1,71 @@
 //! Which splits an instruction wants. Each split is right, so that nothing is promised of these.
 
 use crate::copying::Split;
+use tt_code::kinds::{Arithmetic, Control};
+use tt_code::{Effect, entry};
 use tt_symbolic_state::cell::{Cell, Range, difference};
 use tt_symbolic_state::state::State;
 
 /// How many numbers the range of a function number may have to be split.
 const MOST_FUNCTIONS: i64 = 16;
+
+/// What an instruction decides by numbers that a split can tell apart.
+#[derive(Clone, Copy, Debug, PartialEq, Eq)]
+pub enum Decision {
+    /// LT and GTEQ: whether the first number is less than the second.
+    IsLess,
+    /// LTEQ and GT: whether the first number is at most the second.
+    IsAtMost,
+    /// EQ and NEQ: whether two numbers are equal.
+    AreEqual,
+    /// IF, JROT and JROF: whether a number is 0.
+    IsZero,
+    /// CALL: which function is called.
+    WhichFunction,
+    /// LOOPCALL: which function is called, and whether it is called at all.
+    WhetherRepeated,
+    /// ENDF: whether the function has another turn.
+    WhetherAgain,
+}
+
+/// Returns what a comparison decides.
+fn decision_of_computing(operation: Arithmetic) -> Option<Decision> {
+    match operation {
+        Arithmetic::Lt | Arithmetic::GtEq => Some(Decision::IsLess),
+        Arithmetic::LtEq | Arithmetic::Gt => Some(Decision::IsAtMost),
+        Arithmetic::Eq | Arithmetic::Neq => Some(Decision::AreEqual),
+        Arithmetic::Add
+        | Arithmetic::Sub
+        | Arithmetic::Abs
+        | Arithmetic::Neg
+        | Arithmetic::And
+        | Arithmetic::Or
+        | Arithmetic::Not => None,
+    }
+}
+
+/// Returns what a control instruction decides.
+fn decision_of_control(control: Control) -> Option<Decision> {
+    match control {
+        Control::If | Control::JumpIfTrue | Control::JumpIfFalse => Some(Decision::IsZero),
+        Control::Call => Some(Decision::WhichFunction),
+        Control::LoopCall => Some(Decision::WhetherRepeated),
+        Control::EndFunction => Some(Decision::WhetherAgain),
+        Control::Else
+        | Control::Jump
+        | Control::FunctionDefinition
+        | Control::InstructionDefinition => None,
+    }
+}
+
+/// Returns what the instructions of a code decide, if it is by numbers that a split can tell apart.
+pub fn decision_of(code: u8) -> Option<Decision> {
+    match entry(code) {
+        Effect::Arithmetic(operation) => decision_of_computing(*operation),
+        Effect::Control(control) => decision_of_control(*control),
+        Effect::NoEntry | Effect::Plain(_) | Effect::Push(_) | Effect::Stack(_) => None,
+    }
+}
 
 /// Returns the range of the cell's symbol, if it has one.
 fn range_of(cell: Cell, ranges: &[Range]) -> Option<Range> {
@@ -102,26 +162,17 @@ fn at_end_of_body(state: &State) -> Option<Split> {
     }
 }
 
-/// Returns the split that an instruction of this code wants in the state, if it wants one: IF, JROT,
-/// JROF, comparisons, CALL, LOOPCALL and ENDF want some. A comparison wants one where the range of the
-/// symbol has at most as many numbers as the widest.
+/// Returns the split that an instruction of this code wants in the state, if it wants one. A
+/// comparison wants one where the range of the symbol has at most as many numbers as the widest.
 pub fn wanted(code: u8, state: &State, widest: i64) -> Option<Split> {
     let ranges = state.ranges.as_slice();
-    match code {
-        // LT and GTEQ
-        0x50 | 0x53 => at_bound(compared(state, widest)?, 0, ranges),
-        // LTEQ and GT
-        0x51 | 0x52 => at_bound(compared(state, widest)?, 1, ranges),
-        // EQ and NEQ
-        0x54 | 0x55 => at_zero(compared(state, widest)?, ranges),
-        // IF, JROT and JROF
-        0x58 | 0x78 | 0x79 => at_zero(state.stack.under(0)?, ranges),
-        // CALL
-        0x2B => at_least(state.stack.under(0)?, ranges),
-        // LOOPCALL
-        0x2A => at_loop_call(state),
-        // ENDF
-        0x2D => at_end_of_body(state),
-        _ => None,
+    match decision_of(code)? {
+        Decision::IsLess => at_bound(compared(state, widest)?, 0, ranges),
+        Decision::IsAtMost => at_bound(compared(state, widest)?, 1, ranges),
+        Decision::AreEqual => at_zero(compared(state, widest)?, ranges),
+        Decision::IsZero => at_zero(state.stack.under(0)?, ranges),
+        Decision::WhichFunction => at_least(state.stack.under(0)?, ranges),
+        Decision::WhetherRepeated => at_loop_call(state),
+        Decision::WhetherAgain => at_end_of_body(state),
     }
 }

@@ -22,7 +22,7 @@ mod blending;
 mod boxes;
 mod cell_names;
 mod inclusion;
-pub mod insight;
+mod known_states;
 mod marks;
 mod origin_notes;
 mod origins;
@@ -36,5 +36,5 @@ mod track;
 mod waiting;
 mod writes;
 
-pub use insight::{Insight, KnownState, Question, SymbolOrigin};
 pub use search::{Found, Search, USUAL_SEARCH};
+pub use tt_symbolic_check::{Insight, KnownState, Question, SymbolOrigin};

@@ -3,10 +3,10 @@
 //! is noted beside that where the merges were, and which instructions made the other symbols.
 
 use crate::cell_names::CellName;
-use crate::insight::SymbolOrigin;
 use crate::origin_notes::{FIRST_MAKER, Meeting, Notes, Point};
 use std::alloc::{AllocError, Global};
 use std::collections::HashMap;
+use tt_symbolic_check::SymbolOrigin;
 use tt_symbolic_state::cell::Cell;
 
 /// The number of an origin; `NOWHERE` is that of symbols that no merge made. Those from

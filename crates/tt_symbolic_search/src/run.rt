@@ -8,7 +8,7 @@ use crate::blame::culprits;
 use crate::blending::Merges;
 use crate::boxes::{Sharing, rename};
 use crate::cell_names::CellName;
-use crate::insight::{Insight, KnownState, Question};
+use crate::known_states::known_state;
 use crate::marks::Marks;
 use crate::origins::{NOWHERE, Origins, of_merges};
 use crate::signature::{Functions, signature};
@@ -19,10 +19,14 @@ use crate::writes::Writes;
 use std::alloc::{AllocError, Global};
 use std::mem;
 use tt_abs::{Kind, Refusal, Setting, StepFault};
-use tt_code::Reason;
+use tt_code::block_keyword::BlockKeyword;
+use tt_code::{Reason, keyword_of_code};
 use tt_symbolic::kept::Kept;
 use tt_symbolic::step::code_at;
-use tt_symbolic_check::{START, Site, Start, is_at_end, lower, raise, start_state, wanted};
+use tt_symbolic_check::{
+    Insight, Question, START, Site, Start, decision_of, is_at_end, lower, raise, start_state,
+    wanted,
+};
 
 /// How many steps a state makes beside another one before it is put down.
 const MOST_CROWDED: u32 = 40;
@@ -39,9 +43,6 @@ const MOST_SPARE_SYMBOLS: usize = 256;
 
 /// How many of the states are kept that come to a site which is asked for.
 const MOST_SEEN: usize = 16;
-
-/// The code of EIF.
-const EIF: u8 = 0x59;
 
 /// Why a run ends before nothing waits.
 #[derive(Drop)]
@@ -151,10 +152,12 @@ pub(crate) struct Run {
     has_more: bool,
 }
 
-/// Whether an instruction of this code may want a split: comparisons, IF, JROT, JROF, CALL, LOOPCALL
-/// and ENDF.
-fn may_split(code: u8) -> bool {
-    matches!(code, 0x50..=0x55 | 0x58 | 0x78 | 0x79 | 0x2A | 0x2B | 0x2D)
+/// Whether an instruction of this code ends the part of an IF or of an ELSE.
+fn is_end_of_if(code: Option<u8>) -> bool {
+    match code {
+        Some(code) => keyword_of_code(code) == BlockKeyword::Eif,
+        None => false,
+    }
 }
 
 /// Whether all starts have the same functions.
@@ -247,7 +250,7 @@ impl Run {
         if self.marks.at(Site::of(state)) {
             return Some(Arrival::AtListed);
         }
-        let is_meeting = way.led != Led::On || code == Some(EIF);
+        let is_meeting = way.led != Led::On || is_end_of_if(code);
         if !is_meeting && way.crowded <= MOST_CROWDED {
             return None;
         }
@@ -367,10 +370,10 @@ impl Run {
     ) -> Result<Insight, AllocError> {
         let mut seen = Vec::new(alloc);
         for track in mem::replace(&mut self.seen, Vec::new(alloc)) {
-            seen.push(KnownState::of(alloc, origins, track)?)?;
+            seen.push(known_state(alloc, origins, track)?)?;
         }
         let refused = match self.last.take() {
-            Some(track) if is_refused => Some(KnownState::of(alloc, origins, track)?),
+            Some(track) if is_refused => Some(known_state(alloc, origins, track)?),
             _ => None,
         };
         Ok(Insight {
@@ -438,7 +441,7 @@ impl Run {
         code: Option<u8>,
     ) -> Result<(), AllocError> {
         match code {
-            Some(code) if may_split(code) => {
+            Some(code) if decision_of(code).is_some() => {
                 self.split(task, track, code)?;
                 self.tidy(task, track)
             }

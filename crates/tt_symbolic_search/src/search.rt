@@ -6,7 +6,6 @@ ghost use Rattle.tt_symbolic_search.specs.Answers.{IsAnswerOfSearch};
 
 use crate::blending::Merges;
 use crate::cell_names::CellName;
-use crate::insight::{Insight, Question};
 use crate::origins::Origins;
 use crate::run::{Run, Stop, Task, told_functions};
 use crate::starts;
@@ -19,7 +18,7 @@ use std::mem;
 use tt_abs::{Refusal, Setting, StepFault};
 use tt_code::Reason;
 use tt_symbolic::kept::Kept;
-use tt_symbolic_check::{Effort, Start, too_many_steps};
+use tt_symbolic_check::{Effort, Insight, Question, Start, too_many_steps};
 use tt_symbolic_state::State;
 
 /// How often a program is searched at most, each time with more that was learnt.

@@ -8,8 +8,8 @@ use crate::track::Track;
 use std::alloc::{AllocError, Global};
 use std::cmp::Ordering;
 use tt_abs::{Setting, StepFault};
-use tt_code::kinds::{Arithmetic, Control, Operand, Row, StackOp};
-use tt_code::{Effect, Graphics, entry};
+use tt_code::kinds::{Arithmetic, Control, Operand, Pushed, Row, StackOp};
+use tt_code::{Effect, Graphics, Refinement, entry, refinement};
 use tt_symbolic::step::step;
 use tt_symbolic_state::cell::{Cell, bounds, known, number};
 use tt_symbolic_state::state::Zone;
@@ -147,6 +147,14 @@ fn origin_of_two(merges: &mut Merges, track: &Track) -> Result<OriginNumber, All
     merges.origins.computed(element_origin(track, 0), second)
 }
 
+/// Returns the origin of what a line pushes, where it pushes a stored number.
+fn stored_origin(merges: &Merges, track: &Track, line: &Row) -> OriginNumber {
+    match line.pushes {
+        [Pushed::Stored(_)] => read_origin(merges, track, Area::Storage),
+        _ => NOWHERE,
+    }
+}
+
 /// Returns the origin of the symbols that the instruction of this code makes.
 fn origin_of_result(
     merges: &mut Merges,
@@ -157,16 +165,17 @@ fn origin_of_result(
     match effect {
         Effect::Arithmetic(operation) if takes_one(*operation) => Ok(element_origin(track, 0)),
         Effect::Arithmetic(_) => origin_of_two(merges, track),
-        Effect::Plain(_) => match code {
-            // DIV, MUL, MAX and MIN
-            0x62 | 0x63 | 0x8B | 0x8C => origin_of_two(merges, track),
-            // FLOOR and CEILING
-            0x66 | 0x67 => Ok(element_origin(track, 0)),
-            // RS
-            0x43 => Ok(read_origin(merges, track, Area::Storage)),
-            // RCVT
-            0x45 => Ok(read_origin(merges, track, Area::Controls)),
-            _ => Ok(NOWHERE),
+        Effect::Plain(line) => match refinement(code) {
+            Refinement::Greatest
+            | Refinement::Least
+            | Refinement::Product
+            | Refinement::Quotient => origin_of_two(merges, track),
+            Refinement::Floor | Refinement::Ceiling => Ok(element_origin(track, 0)),
+            Refinement::ReadsControl => Ok(read_origin(merges, track, Area::Controls)),
+            Refinement::WritesControl
+            | Refinement::ChangesControl
+            | Refinement::ChangesControls
+            | Refinement::Ordinary => Ok(stored_origin(merges, track, line)),
         },
         _ => Ok(NOWHERE),
     }

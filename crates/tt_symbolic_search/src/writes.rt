@@ -3,6 +3,7 @@
 use crate::boxes::Area;
 use std::alloc::{AllocError, Global};
 use tt_abs::{Kind, Setting};
+use tt_code::{Written, written};
 use tt_symbolic::kept::{Kept, keeps};
 use tt_symbolic_state::State;
 
@@ -23,11 +24,6 @@ impl Drop for Writes {
     }
 }
 
-/// Whether an instruction of this code may write memory: WS, WCVTP, WCVTF, DELTAC1 to DELTAC3.
-fn may_write(code: u8) -> bool {
-    matches!(code, 0x42 | 0x44 | 0x70 | 0x73 | 0x74 | 0x75)
-}
-
 impl Writes {
     /// Makes the list of no entries.
     pub(crate) fn new(alloc: Global) -> Writes {
@@ -46,7 +42,9 @@ impl Writes {
         code: u8,
     ) -> bool {
         match setting.kind {
-            Kind::Glyph { .. } => may_write(code) && !keeps(setting, state, kept),
+            Kind::Glyph { .. } => {
+                written(code) != Written::Nothing && !keeps(setting, state, kept)
+            }
             Kind::Font | Kind::Cvt => false,
         }
     }

@@ -3,7 +3,8 @@
 use Rattle.std.proofs.Common.{ℕ, ℤ, pos, negsuc, [], ◌∷◌, refl, arith}
 use Rattle.std.proofs.lemmas.Int.{ints}
 use Rattle.tt_code.specs.Changes.{with_stored}
-use Rattle.tt_symbolic_state.specs.CvtMachine.{Floor, Greatest, IsCeiling, IsPaired, Least, ReadsControl, Refines, WritesControl}
+use Rattle.tt_code.specs.declared.kinds.Refinement.TheVariants.{Floor, Greatest, Least, ReadsControl, WritesControl}
+use Rattle.tt_symbolic_state.specs.CvtMachine.{IsCeiling, IsPaired, Refines}
 
 -- control values: 100 at each index
 abbrev hundreds : ℕ → ℤ

@@ -2,10 +2,13 @@
 -- of the numbers that are any there are these. (Apple TrueType Reference Manual, "The TrueType
 -- instruction set": RCVT, WCVTP, WCVTF, DELTAC, MAX, MIN, MUL, DIV, FLOOR and CEILING.) Numbers in
 -- 26.6 are counted in sixty-fourths. Own: control values are read as they are written.
-use Rattle.std.specs.Prelude.{◌≡◌, ◌⊎◌, ℕ, ◌+◌, ◌<◌, ℤ, pos, ◌+ℤ◌, ◌-ℤ◌, ◌*ℤ◌, ◌≤ℤ◌, ◌<ℤ◌, List, [], ◌∷◌, drop, Option, None, Some, nat_eq, if◌then◌else◌}
+use Rattle.std.specs.Prelude.{◌≡◌, ◌⊎◌, ℕ, ◌+◌, ◌<◌, ℤ, pos, ◌+ℤ◌, ◌-ℤ◌, ◌*ℤ◌, ◌≤ℤ◌, ◌<ℤ◌, List, [], ◌∷◌, drop, Option, None, Some}
 use Rattle.std.specs.Int.{int_max, int_min}
 use Rattle.tt_code.specs.Cut.{Instruction}
 use Rattle.tt_code.specs.Settings.{Setting}
+use Rattle.tt_code.specs.Table.{refinement_of}
+use Rattle.tt_code.specs.declared.kinds.Refinement.{Refinement}
+use Rattle.tt_code.specs.declared.kinds.Refinement.TheVariants.{ReadsControl, WritesControl, ChangesControl, ChangesControls, Greatest, Least, Product, Quotient, Floor, Ceiling}
 use Rattle.tt_code.specs.States.{Machine, IsNumber}
 use Rattle.tt_code.specs.Changes.{natural, with_stored}
 use Rattle.tt_code.specs.Runs.{Choices, Faults, Steps, fetched}
@@ -15,37 +18,6 @@ use Rattle.tt_code.specs.declared.reason.Reason.{Reason}
 pub record CvtMachine : Type 0 where
   pub machine : Machine
   pub controls : ℕ → ℤ
-
--- what this machine says more of an instruction
-pub data Refinement : Type 0 where
-  ReadsControl : Refinement
-  WritesControl : Refinement
-  ChangesControl : Refinement
-  ChangesControls : Refinement
-  Greatest : Refinement
-  Least : Refinement
-  Product : Refinement
-  Quotient : Refinement
-  Floor : Refinement
-  Ceiling : Refinement
-  Ordinary : Refinement
-
--- by code: RCVT, WCVTP, WCVTF, DELTAC1 to DELTAC3, MAX, MIN, MUL, DIV, FLOOR, CEILING
-abbrev pub refinement_of : ℕ → Refinement
-refinement_of code =
-    if nat_eq code 0x45 then ReadsControl
-    else if nat_eq code 0x44 then WritesControl
-    else if nat_eq code 0x70 then ChangesControl
-    else if nat_eq code 0x73 then ChangesControls
-    else if nat_eq code 0x74 then ChangesControls
-    else if nat_eq code 0x75 then ChangesControls
-    else if nat_eq code 0x8b then Greatest
-    else if nat_eq code 0x8c then Least
-    else if nat_eq code 0x63 then Product
-    else if nat_eq code 0x62 then Quotient
-    else if nat_eq code 0x66 then Floor
-    else if nat_eq code 0x67 then Ceiling
-    else Ordinary
 
 -- the same control values
 abbrev pub SameControls : (ℕ → ℤ) → (ℕ → ℤ) → Type 0

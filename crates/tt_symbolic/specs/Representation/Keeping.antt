@@ -6,7 +6,8 @@ use Rattle.tt_code.specs.Changes.{all_updated, natural, numbers, updated}
 use Rattle.tt_code.specs.Runs.{Choices, does}
 use Rattle.tt_code.specs.Table.{effect_of}
 use Rattle.tt_code.specs.declared.kinds.Update.{Update}
-use Rattle.tt_symbolic_state.specs.CvtMachine.{Refines, refinement_of}
+use Rattle.tt_code.specs.Table.{refinement_of}
+use Rattle.tt_symbolic_state.specs.CvtMachine.{Refines}
 use Rattle.tt_symbolic_state.specs.Shows.{values}
 use Rattle.tt_symbolic_state.specs.Values.{Fits, Valuation, value}
 use Rattle.tt_symbolic_state.specs.declared.cell.Cell.{Cell}

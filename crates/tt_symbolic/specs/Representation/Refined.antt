@@ -7,8 +7,10 @@ use Rattle.tt_code.specs.declared.kinds.Operand.TheVariants as operand
 use Rattle.tt_code.specs.declared.kinds.Pushed.TheVariants as pushed
 use Rattle.tt_code.specs.declared.kinds.Row.{Row}
 use Rattle.tt_symbolic_state.specs.declared.state.State.{State}
-use Rattle.tt_symbolic_state.specs.CvtMachine.{ChangesControl, ChangesControls, ReadsControl, Refinement, Refines, WritesControl}
-use Rattle.tt_symbolic_state.specs.CvtMachine as kinds
+use Rattle.tt_code.specs.declared.kinds.Refinement.{Refinement}
+use Rattle.tt_code.specs.declared.kinds.Refinement.TheVariants.{ChangesControl, ChangesControls, ReadsControl, WritesControl}
+use Rattle.tt_symbolic_state.specs.CvtMachine.{Refines}
+use Rattle.tt_code.specs.declared.kinds.Refinement.TheVariants as kinds
 use Rattle.tt_symbolic_cells.specs.declared.exact.Exact.{Exact}
 use Rattle.tt_symbolic_cells.specs.declared.exact.Exact.TheVariants as exact
 use Rattle.tt_symbolic.specs.Representation.Plain.{line_of}

@@ -1,6 +1,6 @@
 use Rattle.std.proofs.Common.{ap}
-use Rattle.tt_symbolic_state.specs.CvtMachine.{refinement_of}
-use Rattle.tt_symbolic_state.specs.CvtMachine as kinds
+use Rattle.tt_code.specs.Table.{refinement_of}
+use Rattle.tt_code.specs.declared.kinds.Refinement.TheVariants as kinds
 use Rattle.tt_symbolic.proofs.Keepings.{keeps_changed, keeps_ordinary, keeps_paired, keeps_quiet, keeps_written}
 use Rattle.tt_symbolic.proofs.kept.keeps_controls.Goals as goal
 

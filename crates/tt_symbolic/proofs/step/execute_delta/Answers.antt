@@ -2,7 +2,7 @@ use Rattle.std.proofs.Common.{sym, ap, ◌∙◌}
 use Rattle.tt_code.specs.Entries.{view}
 use Rattle.tt_code.specs.Table.{effect_of}
 use Rattle.tt_setting.specs.Settings.{setting_of}
-use Rattle.tt_symbolic_state.specs.CvtMachine.{refinement_of}
+use Rattle.tt_code.specs.Table.{refinement_of}
 use Rattle.tt_symbolic.specs.Representation.Plain.{line_of}
 use Rattle.tt_symbolic.proofs.Results.{on_ok}
 use Rattle.tt_symbolic.proofs.Steppings.{first_code, delta_here}

@@ -1,12 +1,9 @@
-//! What the search tells of a program for those who explain its answer.
+//! What a search tells of a program for those who explain its answer.
 
-use crate::origins::Origins;
-use crate::track::Track;
-use std::alloc::{AllocError, Global};
+use crate::site::Site;
 use tt_abs::{Kind, Spot};
-use tt_symbolic_check::Site;
-use tt_symbolic_state::State;
 use tt_symbolic_state::cell::Cell;
+use tt_symbolic_state::state::State;
 
 /// What is asked of a program that is searched.
 #[derive(Clone, Copy, Debug, PartialEq, Eq)]
@@ -19,7 +16,7 @@ pub struct Question {
 impl Question {
     /// Whether what is known at this site of a program of this kind is asked for. The bodies of the
     /// font program's functions are in the font program itself, and so are those of the CVT program's.
-    pub(crate) fn is_on(self, kind: Kind, site: Site) -> bool {
+    pub fn is_on(self, kind: Kind, site: Site) -> bool {
         match self.site {
             Some(asked) => {
                 asked.offset == site.offset && holder(kind, asked.spot) == holder(kind, site.spot)
@@ -61,28 +58,10 @@ pub struct KnownState {
     /// The state.
     pub state: State,
     /// Where the number of each of its symbols comes from.
-    origins: Vec<SymbolOrigin>,
+    pub origins: Vec<SymbolOrigin>,
 }
 
 impl KnownState {
-    /// Makes it of a track.
-    pub(crate) fn of(
-        alloc: Global,
-        all: &Origins,
-        track: Box<Track>,
-    ) -> Result<KnownState, AllocError> {
-        let Track {
-            state,
-            origins: numbers,
-            ..
-        } = Box::into_inner(track);
-        let mut origins = Vec::new(alloc);
-        for number in numbers.as_slice() {
-            origins.push(all.symbol_origin(alloc, *number)?)?;
-        }
-        Ok(KnownState { state, origins })
-    }
-
     /// Returns where the number of a cell's symbol comes from; nothing where it has none.
     pub fn origin(&self, cell: Cell) -> Option<SymbolOrigin> {
         if cell.factor == 0 {
