@@ -10,7 +10,8 @@ there, and each edit that `rt ci` tries is named. The definitions that the headl
 the exit status is then 1.
 
 It reads the sources by their layout, as `rt fmt` writes it: an `impl` or a `trait` begins a line, and a clause is `requires` or `ensures`, a
-name or none, and braces. A function is public where `src/lib.rt` names it, its type or its module as public.
+name or none, and braces. A function is public where the crate's root, `src/lib.rt` or `src/main.rt`, names it, its type or its
+module as public.
 """
 
 import pathlib
@@ -69,13 +70,19 @@ def without_arrays(text: str) -> str:
     return re.sub(r"\[([\w&' ]+); ([\w: ]+)\]", r"[\1  \2]", text)
 
 
+def root_of(crate: pathlib.Path) -> pathlib.Path | None:
+    """The file with which a crate's code begins: a library's or a program's; None where there is no such crate."""
+    return next((file for file in (crate / "src/lib.rt", crate / "src/main.rt") if file.exists()), None)
+
+
 def public_names(crate: pathlib.Path) -> set[str]:
     """The functions and types that a crate shows: those that its root names again, and the public ones of its public modules."""
-    root = without_comments((crate / "src/lib.rt").read_text())
+    file = root_of(crate)
+    root = without_comments(file.read_text())
     names: set[str] = set()
     for path, group in re.findall(r"^pub use ([\w:]+?)(?:::\{([^}]*)\})?(?: as \w+)?;", root, re.M):
         names |= {word.split(" as ")[0].strip() for word in group.split(",")} if group else {path.split("::")[-1]}
-    for module in ["lib"] + re.findall(r"^pub mod (\w+);", root, re.M):
+    for module in [file.stem] + re.findall(r"^pub mod (\w+);", root, re.M):
         text = without_comments((crate / f"src/{module}.rt").read_text())
         names |= set(re.findall(r'^pub (?:struct|enum|trait|(?:extern "C" )?fn) (\w+)', text, re.M))
     return names
@@ -214,7 +221,7 @@ def write_columns() -> None:
         cells = line.removeprefix("| ").removesuffix(" |").split(" | ")
         if line.startswith("## "):
             crate = line.removeprefix("## ")
-            known = table_of(clauses_of(crate)) if (TOP / "crates" / crate / "src/lib.rt").exists() else {}
+            known = table_of(clauses_of(crate)) if root_of(TOP / "crates" / crate) else {}
         elif known and len(cells) == 5 and cells[0] != "Promise":
             cells[2], cells[4] = definitions_cell(cells[1], known, cells[2]), edits_cell(crate, cells[4])
             lines[at] = f"| {' | '.join(cells)} |"
@@ -256,8 +263,8 @@ def faults() -> typing.Iterator[str]:
     yield from (f"headline: there is no clause {told(pair)}" for pair in sorted(carry - everything))
     words = {word for row in rows_of(sections["The headline"]) if len(row) == 2 for word in re.findall(r"`([A-Za-z]\w*)`", row[1])}
     yield from (f"headline: there is no definition {word}" for word in sorted(words - definitions()))
-    crates = [name for name in sections if (TOP / "crates" / name / "src/lib.rt").exists()]
-    for crate in sorted(path.parent.parent.name for path in TOP.glob("crates/*/src/lib.rt")):
+    crates = [name for name in sections if root_of(TOP / "crates" / name)]
+    for crate in sorted(path.parent.name for path in TOP.glob("crates/*/src")):
         if crate not in crates and crate not in FIXTURES and any(clauses_of(crate)):
             yield f"{crate} has no table"
     for crate in crates:

@@ -12,7 +12,7 @@ use Rattle.hintcheck_words.specs.declared.words.FontWords.TheVariants.{Fonts, Li
 use Rattle.hintcheck_words.specs.declared.words.Format.{Format}
 use Rattle.hintcheck_words.specs.declared.words.Format.TheVariants.{Json, Lines}
 use Rattle.hintcheck_words.specs.declared.words.ScanOptions.{ScanOptions}
-use Rattle.hintcheck.specs.Commands.{ReadsToEnd, status_of}
+use Rattle.hintcheck.specs.Commands.{status_of}
 use Rattle.hintcheck.specs.Containers.{container_beside}
 use Rattle.hintcheck_fonts.specs.BarePrograms.{IsMemory}
 use Rattle.hintcheck.specs.Explanations.{HoldPlace}
@@ -37,24 +37,9 @@ pub record IsFaultOfFont (bytes : List ℕ) (told : Numbered) : Type 0 where
 abbrev pub IsFaultOfSomeFont : Numbered → Type 0
 IsFaultOfSomeFont told = (bytes : List ℕ) × IsFaultOfFont bytes told
 
--- Why there is no verdict on the bytes of a source: a read failed, or all of them were read, and
--- this is their first fault.
-abbrev pub IsFaultOfSource : Option (List ℕ) → Option (List ℕ) → CommandFault → Type 0
-IsFaultOfSource old new fault.Read = Unit {0}
-IsFaultOfSource old new fault.OutOfMemory = Unit {0}
-IsFaultOfSource old new (fault.Font numbered) =
-    (bytes : List ℕ) × ReadsToEnd old new bytes × IsFaultOfFont bytes numbered
-IsFaultOfSource old new other = ⊥
-
 -- that a budget is exceeded is reported only where there is one
 abbrev pub IsWithin : Option ℕ → CommandFault → Type 0
 IsWithin budget reported = reported ≡ fault.Budget → budget ≢ None
-
--- Why there is no verdict on the bytes of a source, where there may be a budget: as
--- `IsFaultOfSource` says; or there is a budget, and it is exceeded.
-abbrev pub IsFaultWithin : Option ℕ → Option (List ℕ) → Option (List ℕ) → CommandFault → Type 0
-IsFaultWithin budget old new fault.Budget = budget ≢ None
-IsFaultWithin budget old new other = IsFaultOfSource old new other
 
 -- why there is no verdict on the font in these bytes within a budget: their first fault, or the
 -- budget is exceeded
@@ -62,10 +47,6 @@ abbrev pub IsFaultInBudget : List ℕ → CommandFault → Type 0
 IsFaultInBudget bytes (fault.Font numbered) = IsFaultOfFont bytes numbered
 IsFaultInBudget bytes fault.Budget = Unit {0}
 IsFaultInBudget bytes other = ⊥
-
--- all bytes were read, and have no fault as those of a font
-abbrev pub ReadNoFault : Option (List ℕ) → Option (List ℕ) → Type 0
-ReadNoFault old new = (bytes : List ℕ) × ReadsToEnd old new bytes × (font_fault bytes ≡ None)
 
 -- the words spell a `maxp` table and a program
 abbrev pub AreHexWords : List ℕ → List ℕ → Type 0

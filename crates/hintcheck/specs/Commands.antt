@@ -1,7 +1,6 @@
 -- The faults of a command: their exit statuses, how they are made of the faults of what it calls,
 -- and what an answer tells of failed reads and writes.
 use Rattle.std.specs.Prelude.{◌≡◌, ◌+◌, ℕ, List, Option, IfSome, Result, Ok, Err}
-use Rattle.std.specs.Io.KnownBytes.{Consumes, IsAtEnd}
 use Rattle.hintcheck.specs.declared.commands.faults.CommandFault.{CommandFault}
 use Rattle.hintcheck.specs.declared.commands.faults.CommandFault.TheVariants as fault
 use Rattle.hintcheck.specs.declared.commands.faults.Container.TheVariants.{Other}
@@ -81,16 +80,6 @@ abbrev pub TellsFailure : {T : Type 0} → Result T CommandFault → ℕ → ℕ
 TellsFailure (Ok done) old new = new ≡ old
 TellsFailure (Err fault.Write) old new = new ≡ old + 1
 TellsFailure (Err other) old new = new ≡ old
-
--- the count of failed reads goes up by one exactly where the fault is a failed read
-abbrev pub TellsFailedRead : {T : Type 0} → Result T CommandFault → ℕ → ℕ → Type 0
-TellsFailedRead (Ok done) old new = new ≡ old
-TellsFailedRead (Err fault.Read) old new = new ≡ old + 1
-TellsFailedRead (Err other) old new = new ≡ old
-
--- a read to the end took these bytes
-abbrev pub ReadsToEnd : Option (List ℕ) → Option (List ℕ) → List ℕ → Type 0
-ReadsToEnd old new bytes = Consumes old new bytes × IsAtEnd new
 
 -- these are the bytes that were left, where those are known
 abbrev pub HasAll : Option (List ℕ) → List ℕ → Type 0

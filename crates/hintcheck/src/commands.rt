@@ -52,7 +52,6 @@ use tt_stream::Sink;
 use upgrade_task::tell_upgrade;
 use verdict_lines::tell_verdict;
 use verdict_task::file_verdict;
-pub use verdict_task::verdict_of;
 
 /// The exit status where every program is accepted, a certificate is upgraded, or help was asked
 /// for.
@@ -234,7 +233,7 @@ fn do_task<R: Files + AllocGlobal, O: Sink, E: Sink>(
 /// where a font's file is to be its certificate's; `NewWord` where an old certificate's file is to
 /// be the new one's; `Font` for the first fault of the font or of `bare`'s `maxp`, which may be
 /// that memory ran out; `Form`, `Read`, `File` and `OutOfMemory`.
-pub fn try_command<R: Files + AllocGlobal, O: Sink, E: Sink>(
+fn try_command<R: Files + AllocGlobal, O: Sink, E: Sink>(
     rt: &R,
     words: &[&str],
     out: &mut O,

@@ -6,7 +6,7 @@ ghost use Rattle.tt_setting.specs.Settings.{setting_of};
 ghost use Rattle.tt_abs.specs.StateFlow.{FunctionsFit};
 ghost use Rattle.hintcheck.specs.Commands.{TellsFailure};
 ghost use Rattle.hintcheck.specs.CommandFaults.{IsEndOfWork, IsFaultOfExplaining, IsFaultOfExplanation, IsFaultOfLines, IsWithin};
-ghost use Rattle.hintcheck.specs.Explanations.{HoldAcceptedProgram, HoldExplained, HoldPlace, HoldRefusedProgram, IsAnswered, IsRefusedIn, IsReportOf, TellsProgram, status_of_explained};
+ghost use Rattle.hintcheck.specs.Explanations.{HoldExplained, HoldPlace, IsAnswered, IsRefusedIn, IsReportOf, TellsProgram, status_of_explained};
 ghost use Rattle.hintcheck_fonts.specs.FontPrograms.{IsFontInRange};
 ghost use Rattle.hintcheck.specs.Listing.{program_in};
 ghost use Rattle.hintcheck_fonts.specs.ProgramVerdicts.{IsSubjectOf, with_start};
@@ -235,8 +235,7 @@ fn explain_named<O: Sink>(
     explain_judged(alloc, &mut programs, &mut judge, called, site, budget, out)
 }
 
-/// Explains one program of the font in these bytes, the one that the word names, as
-/// `explain_program` does, within a budget.
+/// Explains one program of the font in these bytes, as `explained_program` does, within a budget.
 pub(crate) fn explain_word<O: Sink>(
     alloc: Global,
     font: &[u8],
@@ -260,11 +259,18 @@ pub(crate) fn explain_word<O: Sink>(
     }
 }
 
-/// Explains one program of the font in these bytes, the one that the word names, as
-/// `explain_program` does, and returns whether it is accepted.
+/// Explains one program of the font in these bytes, the one that the word names, and returns whether it
+/// is accepted; where it isn't checked since the font program or the CVT program is refused, how that
+/// one is refused. With a site the explanation tells what is known there: at an instruction of the
+/// program, or of the font program or the CVT program where this program calls a function that one
+/// defines. At most this many points are made, where they are bounded: also for the programs before the
+/// named one, and for the searches with greater limits by which a refused one is explained.
 ///
 /// # Errors
-/// As `explain_program`.
+/// The faults of `Font::read`; `ProgramName` where the word is the name of none of the font's
+/// programs; `OffsetWord` where no instruction begins at the site, whether or not the program is
+/// checked or comes there; `Write` exactly where a write to `out` failed; `OutOfMemory`; `Budget`,
+/// where points are bounded and more were to be made.
 pub(crate) fn explained_program<O: Sink>(
     alloc: Global,
     font: &[u8],
@@ -287,37 +293,4 @@ pub(crate) fn explained_program<O: Sink>(
         };
     };
     explain_word(alloc, font, word, site, &mut Budget::of(most), out)
-}
-
-/// Explains one program of the font in these bytes, the one that the word names, and returns the
-/// exit status: 0 accepted; 1 where it is refused, or isn't checked since the font program or the
-/// CVT program is refused. With a site the explanation tells what is known there: at an instruction
-/// of the program, or of the font program or the CVT program where this program calls a function
-/// that one defines. At most this many points are made, where they are bounded: also for the programs
-/// before the named one, and for the searches with greater limits by which a refused one is explained.
-///
-/// # Errors
-/// The faults of `Font::read`; `ProgramName` where the word is the name of none of the font's
-/// programs; `OffsetWord` where no instruction begins at the site, whether or not the program is
-/// checked or comes there; `Write` exactly where a write to `out` failed; `OutOfMemory`; `Budget`,
-/// where points are bounded and more were to be made.
-pub fn explain_program<O: Sink>(
-    alloc: Global,
-    font: &[u8],
-    word: &str,
-    site: Option<Site>,
-    budget: Option<u64>,
-    out: &mut O,
-) -> Result<u8, CommandFault>
-    ensures status { IfOk result (λ status. status ≤ 1) }
-    ensures accepted { IfOk result
-        (λ status. status ≡ 0 → HoldAcceptedProgram font.now word.now) }
-    ensures refused { IfOk result (λ status. status ≡ 1 → HoldRefusedProgram font.now word.now) }
-    ensures failures { TellsFailure result (O.failures out.old) (O.failures out.new) }
-    ensures faults { IfErr result
-        (λ fault. IsFaultOfExplaining font.now word.now site fault × IsWithin budget fault) }
-    ensures none { OnOk result (HoldPlace font.now word.now site) }
-{
-    let explained = explained_program(alloc, font, word, site, budget, out)?;
-    Ok(exit_status(explained))
 }

@@ -1,16 +1,14 @@
 //! Fonts in the bytes of a file, and the verdicts on them: where there is none, the fault tells what
 //! the file holds instead, as far as it is known.
 
-ghost use Rattle.std.specs.Prelude.{◌≡◌, IfErr, IfOk, None, OnOk};
-ghost use Rattle.tt_font.specs.FileFaults.{font_fault};
+ghost use Rattle.std.specs.Prelude.{◌≡◌, IfErr, IfOk};
 ghost use Rattle.tt_font.specs.Reading.{Reads};
 ghost use Rattle.hintcheck.specs.CommandFaults.{IsFaultInBudget, IsFaultOfFont};
 ghost use Rattle.hintcheck.specs.MeansSafe.{IsRequestOf, IsVerdictBy};
-ghost use Rattle.hintcheck_fonts.specs.FontAnswers.{IsVerdictOn};
 ghost use Rattle.hintcheck_fonts.specs.FontPrograms.{IsFontInRange};
 
 use crate::commands::faults::{CommandFault, Numbered};
-use hintcheck_fonts::font::{self, read_font};
+use hintcheck_fonts::font::read_font;
 use hintcheck_fonts::report::Verdict;
 use hintcheck_fonts::symbolic_verdict::USUAL_STEPS;
 use hintcheck_fonts::{Request, verdict_by};
@@ -32,21 +30,6 @@ pub(crate) fn font_in<'a>(alloc: Global, bytes: &'a [u8]) -> Result<Font<'a>, Nu
 {
     match read_font(alloc, bytes) {
         Ok(font) => Ok(font),
-        Err(fault) => Err(Numbered::of(fault, bytes)),
-    }
-}
-
-/// Returns the verdict on a font.
-///
-/// # Errors
-/// The faults of `Font::read`; `OutOfMemory`.
-pub(crate) fn verdict_in(alloc: Global, bytes: &[u8]) -> Result<Verdict, Numbered>
-    ensures exact { IfOk result (IsVerdictOn bytes.now) }
-    ensures faults { IfErr result (IsFaultOfFont bytes.now) }
-    ensures none { OnOk result (font_fault bytes.now ≡ None) }
-{
-    match font::verdict(alloc, bytes) {
-        Ok(verdict) => Ok(verdict),
         Err(fault) => Err(Numbered::of(fault, bytes)),
     }
 }

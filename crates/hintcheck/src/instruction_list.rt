@@ -288,7 +288,7 @@ fn list_named<O: Sink>(
 /// # Errors
 /// The faults of `Font::read`; `ProgramName` where the word is the name of none of the font's
 /// programs; `Write` exactly where a write to `out` failed; `OutOfMemory`.
-pub fn list_program<O: Sink>(
+pub(crate) fn list_program<O: Sink>(
     alloc: Global,
     font: &[u8],
     word: &str,

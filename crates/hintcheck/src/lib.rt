@@ -14,8 +14,7 @@ mod pushed_numbers;
 mod symbolic_explanation;
 
 pub use commands::faults::{CommandFault, Container, Unopened};
-pub use commands::{command, try_command, verdict_of};
-pub use explanation::explain_program;
+pub use commands::command;
 pub use hintcheck_explain::Site;
 pub use hintcheck_fonts::{
     AnswerFault, CheckFontFault, FindFontFault, Name, Outcome, Place, Refused, Session,
@@ -27,9 +26,7 @@ pub use hintcheck_words::{
     Detail, ExplainOptions, FailOn, FontWords, Format, Profile, ScanOptions, Task, TaskFault,
     WordFault, read_words, word_bytes,
 };
-pub use instruction_list::list_program;
 pub use neighbours::{Neighbour, Neighbours};
-pub use symbolic_explanation::explain_program_symbolic;
 pub use tt_family::Budget;
 pub use tt_font::{FontFault, Tag, read_maxp};
 pub use tt_stream::{ReadFault, read_all};

@@ -5,11 +5,11 @@ ghost use Rattle.hintcheck.specs.Commands.{TellsFailure};
 ghost use Rattle.hintcheck.specs.CommandFaults.{IsFaultOfExplaining, IsFaultOfExplanation, IsWithin};
 ghost use Rattle.hintcheck.specs.Explanations.{HoldPlace};
 ghost use Rattle.hintcheck_fonts.specs.FontPrograms.{IsFontInRange};
-ghost use Rattle.hintcheck.specs.SymbolicExplanations.{HoldSymbolicAcceptedProgram, HoldSymbolicExplained, HoldSymbolicRefusedProgram, TellsSymbolicProgram, first_against, keeps_from as keeps_from_it};
+ghost use Rattle.hintcheck.specs.SymbolicExplanations.{HoldSymbolicExplained, TellsSymbolicProgram, first_against, keeps_from as keeps_from_it};
 
 use crate::asked_site::check_site;
 use crate::commands::faults::CommandFault;
-use crate::explanation::{exit_status, explain_uncut, tell_unchecked};
+use crate::explanation::{explain_uncut, tell_unchecked};
 use crate::font_file::font_in;
 use crate::instruction_list::{Named, named_program};
 use hintcheck_explain::{Asked, Explained, Site, explain_symbolic};
@@ -180,8 +180,8 @@ fn explain_named<O: Sink>(
     Ok(Explained::Refused(one))
 }
 
-/// Explains one program of the font in these bytes, the one that the word names, as
-/// `explain_program_symbolic` does, where the search makes at most so many steps.
+/// Explains one program of the font in these bytes, as `explained_program_symbolic` does, where the
+/// search makes at most so many steps.
 fn explain_word<O: Sink>(
     alloc: Global,
     font: &[u8],
@@ -205,11 +205,14 @@ fn explain_word<O: Sink>(
     }
 }
 
-/// Explains one program of the font in these bytes, the one that the word names, as
-/// `explain_program_symbolic` does, and returns whether it is accepted.
+/// Explains one program of the font in these bytes by the symbolic profile, the one that the word
+/// names, and returns whether the verdict on the font by symbolic states accepts it and those before
+/// it, or how one of them is refused. With a site the explanation tells what the search knows there.
+/// The search makes at most so many steps for the font, where they are bounded, and otherwise as many
+/// as that of `verdict_symbolic`; a program for which they are too few is refused.
 ///
 /// # Errors
-/// As `explain_program`, but never `Budget`.
+/// As `explained_program`, but never `Budget`.
 pub(crate) fn explained_program_symbolic<O: Sink>(
     alloc: Global,
     font: &[u8],
@@ -229,35 +232,4 @@ pub(crate) fn explained_program_symbolic<O: Sink>(
         Err(CommandFault::Budget) => Err(CommandFault::OutOfMemory),
         explained => explained,
     }
-}
-
-/// Explains one program of the font in these bytes by the symbolic profile, the one that the word
-/// names, and returns the exit status: 0 where the verdict on the font by symbolic states refuses
-/// neither it nor one before it; 1 where it is refused, or isn't checked since the font program or
-/// the CVT program is refused. With a site the explanation tells what the search knows there. The
-/// search makes at most so many steps for the font, where they are bounded, and otherwise as many as
-/// that of `verdict_symbolic`; a program for which they are too few is refused.
-///
-/// # Errors
-/// As `explain_program`, but never `Budget`.
-pub fn explain_program_symbolic<O: Sink>(
-    alloc: Global,
-    font: &[u8],
-    word: &str,
-    site: Option<Site>,
-    steps: Option<u64>,
-    out: &mut O,
-) -> Result<u8, CommandFault>
-    ensures status { IfOk result (λ status. status ≤ 1) }
-    ensures accepted { IfOk result
-        (λ status. status ≡ 0 → HoldSymbolicAcceptedProgram font.now word.now) }
-    ensures refused { IfOk result
-        (λ status. status ≡ 1 → HoldSymbolicRefusedProgram font.now word.now) }
-    ensures failures { TellsFailure result (O.failures out.old) (O.failures out.new) }
-    ensures faults { IfErr result
-        (λ fault. IsFaultOfExplaining font.now word.now site fault × IsWithin None fault) }
-    ensures none { OnOk result (HoldPlace font.now word.now site) }
-{
-    let explained = explained_program_symbolic(alloc, font, word, site, steps, out)?;
-    Ok(exit_status(explained))
 }

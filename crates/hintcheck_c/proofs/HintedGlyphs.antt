@@ -7,8 +7,8 @@ use Rattle.std.proofs.lemmas.List.{get_or_past}
 use Rattle.std.proofs.Math.Seq.{take-append_seam}
 use Rattle.tt_setting.specs.declared.name.Name.{Name}
 use Rattle.tt_setting.specs.declared.name.Name.TheVariants as name
-use Rattle.tt_components.specs.Closed.{HasAllReached, is_in}
-use Rattle.tt_components.proofs.Chains.{reached_inside, reaches_itself}
+use Rattle.hintcheck_c.specs.Representation.Retained.{HasAllReached, is_in}
+use Rattle.hintcheck_c.proofs.Chains.{reached_inside, reaches_itself}
 use Rattle.tt_font.specs.FileFaults.{font_fault}
 use Rattle.tt_font.specs.Files.{font_glyph_count, font_outlines}
 use Rattle.hintcheck_report.specs.declared.refused.Refused.{Refused}

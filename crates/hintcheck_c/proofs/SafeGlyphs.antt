@@ -7,7 +7,7 @@ use Rattle.tt_code.specs.Fonts.{Font}
 use Rattle.tt_code.specs.Settings.{Setting}
 use Rattle.tt_setting.specs.declared.name.Name.{Name}
 use Rattle.tt_setting.specs.declared.name.Name.TheVariants as name
-use Rattle.tt_components.proofs.Chains.{reaches_itself}
+use Rattle.hintcheck_c.proofs.Chains.{reaches_itself}
 use Rattle.tt_font.specs.FileFaults.{font_fault, tables_fault}
 use Rattle.tt_font.specs.Conditions.{Condition, first, glyphs_fault}
 use Rattle.tt_font.specs.Files.{font_glyph_count, font_glyphs, font_outlines}

@@ -6,8 +6,10 @@ use Rattle.tt_code.specs.Cut.{Instruction}
 use Rattle.tt_code.specs.Settings.{Setting}
 use Rattle.tt_setting.specs.declared.name.Name.{Name}
 use Rattle.tt_setting.specs.declared.name.Name.TheVariants as name
-use Rattle.tt_components.specs.Closed.{Reaches}
+use Rattle.tt_font.specs.Chains.{end_of}
 use Rattle.tt_font.specs.Files.{font_glyph_count, font_outlines}
+use Rattle.tt_font.specs.Laws.{IsWay}
+use Rattle.tt_font.specs.Outlines.{Outline}
 use Rattle.tt_font.specs.Reading.{FontData, GlyphData, Reads}
 use Rattle.tt_symbolic_font.specs.Laws.{IsFontSafe}
 use Rattle.tt_symbolic_font.specs.Starts.{GlyphPrograms}
@@ -18,6 +20,13 @@ use Rattle.hintcheck_fonts.specs.Verdicts.{Judgement}
 use Rattle.hintcheck_report.specs.declared.refused.Refused.{Refused}
 use Rattle.hintcheck_c.specs.Answers.{Answers}
 use Rattle.hintcheck_c.specs.declared.answer.HintcheckAnswer.{HintcheckAnswer}
+
+-- a chain of components, of any number of steps, leads from a glyph to another one; one of no steps
+-- leads to the glyph itself
+pub record Reaches (outlines : ℕ → Outline) (id other : ℕ) : Type 0 where
+  pub way : List ℕ
+  pub steps : IsWay outlines id way
+  pub ends : end_of outlines id way ≡ other
 
 -- the program of this name is another glyph's
 abbrev pub IsAnothers : Name → ℕ → Type 0

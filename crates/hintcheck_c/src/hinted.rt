@@ -2,7 +2,7 @@
 //! their components at any depth too, which a renderer runs to draw them.
 
 ghost use Rattle.std.specs.Prelude.{◌≡◌, ◌≢◌, ◌↔◌, None, ℕ, ◌+◌, ◌≤◌, [], alloc_error, IfErr, IfOk, length, true};
-ghost use Rattle.tt_components.specs.Closed.{is_in};
+ghost use Rattle.hintcheck_c.specs.Representation.Retained.{is_in};
 ghost use Rattle.tt_setting.specs.Budgets.{IsExceeded, Spends};
 ghost use Rattle.tt_font.specs.FileFaults.{font_fault};
 ghost use Rattle.tt_font.specs.Files.{font_glyph_count};
@@ -15,11 +15,11 @@ ghost use Rattle.hintcheck_c.specs.Answers.{Answers, IsFaultOfVerdict, unanswere
 ghost use Rattle.hintcheck_c.specs.Representation.HintedSets.{AreHinted, Tell};
 
 use crate::answer::{HintcheckAnswer, answer_verdict, fault_of};
+use crate::closed::retain_closed;
 use hintcheck_fonts::{
     AnswerFault, Budget, FontFault, Name, Refused, Verdict, verdict_symbolic_within, verdict_within,
 };
 use std::alloc::Global;
-use tt_components::retain_closed;
 
 /// The verdict on a font, and which of its glyphs may be drawn with hints.
 #[derive(Drop)]

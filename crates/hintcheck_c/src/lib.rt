@@ -19,6 +19,8 @@ ghost use Rattle.hintcheck_report.specs.ReasonNumbers.{IsReasonNumber};
 ghost use Rattle.tt_font.specs.Reading.{FontData, Reads};
 
 mod answer;
+mod closed;
+mod component;
 mod hinted;
 mod reason;
 mod refusal;

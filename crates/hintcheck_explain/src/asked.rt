@@ -1,7 +1,7 @@
 //! What is asked for, and what comes of it.
 
 use hintcheck_report::{Place, Refused};
-use tt_cert::Name;
+use tt_setting::Name;
 use tt_symbolic_check::Site;
 
 /// A program, and the site that is asked for.

@@ -7,7 +7,7 @@ use crate::effect_text::tell_effect;
 use crate::meaning::{ADVICE_ON_RANGE, advice_of, class_of, class_text};
 use crate::trouble::Trouble;
 use crate::view::View;
-use tt_abs::Setting;
+use tt_setting::Setting;
 use tt_code::{Instr, Reason};
 use tt_stream::{PrintFailed, Sink};
 

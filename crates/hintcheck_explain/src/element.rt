@@ -1,7 +1,7 @@
 //! The numbers that an instruction's tests read, by where they are kept.
 
 use std::fmt;
-use tt_abs::{Failed, Register};
+use tt_setting::{Failed, Register};
 use tt_code::kinds::Reference;
 
 /// Where a number is kept that a test of an instruction reads: on the stack, in the graphics state

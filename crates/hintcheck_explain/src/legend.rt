@@ -5,7 +5,7 @@ use crate::knowledge::SHOWN_CELLS;
 use crate::view::range_of;
 use std::alloc::{AllocError, Global};
 use std::fmt;
-use tt_abs::SortedMap;
+use tt_setting::SortedMap;
 use tt_symbolic_state::cell::{Cell, Range, number, symbol};
 use tt_symbolic_state::state::State;
 

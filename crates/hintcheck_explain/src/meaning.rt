@@ -1,7 +1,7 @@
 //! What a reason tells the font's maker: its class, and what to do.
 
 use crate::trouble::Trouble;
-use tt_abs::Failed;
+use tt_setting::Failed;
 use tt_code::{Reason, ReasonClass};
 
 /// What to do about a number of which the symbolic profile knows a range that is too wide.

@@ -11,10 +11,10 @@ ghost use Rattle.hintcheck_explain.specs.Representation.Needs.{raised};
 
 use hintcheck_report::{AnswerFault, Bound, Place};
 use std::alloc::Global;
-use tt_abs::{Exhausted, Failed, Refusal, Setting};
-use tt_cert::Name;
+use tt_setting::{Exhausted, Failed, Refusal, Setting};
+use tt_setting::Name;
 use tt_code::Reason;
-use tt_family::Budget;
+use tt_setting::Budget;
 use tt_find::explore;
 use tt_stream::Sink;
 

@@ -5,7 +5,8 @@ ghost use Rattle.tt_setting.specs.Settings.{setting_of};
 ghost use Rattle.hintcheck_explain.specs.Representation.Causes.{TellsRefused};
 
 use std::alloc::AllocError;
-use tt_abs::{Failed, Moves, Point, Setting, State, StepFault, step_at};
+use tt_abs::{Moves, State, step_at};
+use tt_setting::{Failed, Point, Setting, StepFault};
 use tt_code::Frame;
 
 /// What comes of the instruction at a point.

@@ -2,7 +2,7 @@
 
 use crate::element::Element;
 use hintcheck_report::Place;
-use tt_abs::{Failed, Role};
+use tt_setting::{Failed, Role};
 use tt_family::PointKey;
 
 /// How a stack comes to a place: from which instruction, and how deep it is.

@@ -13,7 +13,7 @@ use crate::meaning::{advice_of, class_of, class_text};
 use crate::trouble::Trouble;
 use hintcheck_report::Refused;
 use std::fmt;
-use tt_abs::Spot;
+use tt_setting::Spot;
 use tt_code::Reason;
 use tt_stream::{PrintFailed, Sink};
 

@@ -1,7 +1,8 @@
 //! What is known at a place, by either profile.
 
 use crate::element::Element;
-use tt_abs::{Cell, State, ZoneCell};
+use tt_abs::{Cell, State};
+use tt_setting::ZoneCell;
 use tt_code::kinds::{Pointer, Reference};
 use tt_symbolic_state::cell::{Cell as SymbolicCell, Range, bounds};
 use tt_symbolic_state::state::{State as SymbolicState, Zone};

@@ -7,8 +7,8 @@ ghost use Rattle.tt_setting.specs.declared.exhausted.Exhausted.{Exhausted as By}
 
 use std::alloc::AllocError;
 use thiserror::Error;
-use tt_abs::Exhausted;
-use tt_cert::CertFault;
+use tt_setting::Exhausted;
+use tt_setting::CertFault;
 use tt_font::FontFault;
 use tt_stream::PrintFailed;
 

@@ -11,4 +11,4 @@ pub use answer_fault::AnswerFault;
 pub use bound::Bound;
 pub use reason_number::reason_of;
 pub use refused::{Place, Refused, program_at};
-pub use tt_cert::Name;
+pub use tt_setting::Name;

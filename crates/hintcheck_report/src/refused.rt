@@ -4,8 +4,8 @@ ghost use Rattle.std.specs.Prelude.{◌≡◌};
 ghost use Rattle.hintcheck_report.specs.Places.{place_at, program_at as program_at_spot, reported_at};
 
 use std::fmt;
-use tt_abs::Spot;
-use tt_cert::Name;
+use tt_setting::Spot;
+use tt_setting::Name;
 use tt_code::Reason;
 
 /// An offset in a program.

@@ -5,7 +5,7 @@ ghost use Rattle.std.specs.List.{All};
 ghost use Rattle.tt_symbolic_state.specs.declared.cell.Cell.{Cell as AnyCell};
 ghost use Rattle.tt_symbolic.specs.Representation.Areas.{Forgets, IsOutside, IsPartOf};
 
-use tt_abs::SortedMap;
+use tt_setting::SortedMap;
 use tt_symbolic_state::cell::Cell;
 
 /// How many entries `forget` removes one by one.

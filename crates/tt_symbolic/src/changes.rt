@@ -9,7 +9,7 @@ ghost use Rattle.tt_symbolic_state.specs.Shows.{values, zone_number};
 ghost use Rattle.tt_symbolic.specs.Representation.Changing.{Changes, ChangesAll, StoresAt, StoresBetween};
 
 use crate::areas::forget;
-use tt_abs::StepFault;
+use tt_setting::StepFault;
 use tt_code::Reason;
 use tt_code::kinds::{NewNumber, Pointer, Reference, Update};
 use tt_symbolic_cells::{reference, set_pointer, set_reference};

@@ -10,8 +10,8 @@ ghost use Rattle.tt_symbolic.specs.Representation.Leading.{Closes, GoesTo, IsAt,
 
 use crate::push::pop;
 use std::alloc::AllocError;
-use tt_abs::setting::body_offset;
-use tt_abs::{Kind, Point, Setting, SortedMap, StepFault};
+use tt_setting::setting::body_offset;
+use tt_setting::{Kind, Point, Setting, SortedMap, StepFault};
 use tt_code::Reason;
 use tt_code::kinds::Control;
 use tt_symbolic_cells::truth_of;

@@ -13,7 +13,7 @@ ghost use Rattle.tt_symbolic.specs.Steps.{StepsTo};
 use crate::changes::index_bounds;
 use crate::refined::pair_count;
 use crate::step::{frame_of, innermost, perform};
-use tt_abs::{Point, Setting, StepFault};
+use tt_setting::{Point, Setting, StepFault};
 use tt_code::kinds::Update;
 use tt_code::{Effect, Instr, Reason, Refinement, Written, entry, refinement, written};
 use tt_symbolic_cells::cell_under;

@@ -8,7 +8,7 @@ ghost use Rattle.tt_symbolic.specs.Sound.{Puts};
 
 use crate::changes::{index_of, taken, update_all};
 use crate::push::put;
-use tt_abs::{Setting, StepFault};
+use tt_setting::{Setting, StepFault};
 use tt_code::Reason;
 use tt_code::kinds::{Pushed, Row, Update};
 use tt_symbolic_cells::{take_operands, test_uses};

@@ -3,7 +3,7 @@
 ghost use Rattle.std.specs.Prelude.{IfOk, OnOk};
 ghost use Rattle.tt_symbolic.specs.Sound.{Pops, Pushes};
 
-use tt_abs::StepFault;
+use tt_setting::StepFault;
 use tt_code::Reason;
 use tt_symbolic_cells::cell_under;
 use tt_symbolic_state::cell::{Cell, FULL, Range};

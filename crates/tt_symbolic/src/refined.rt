@@ -13,7 +13,7 @@ use crate::changes::{index_bounds, index_of};
 use crate::compute::put_answer;
 use crate::plain::{cut, execute_plain, put_any, put_control};
 use crate::push::pop;
-use tt_abs::{Setting, StepFault};
+use tt_setting::{Setting, StepFault};
 use tt_code::Reason;
 use tt_code::kinds::Row;
 use tt_symbolic_cells::{Exact, answer_of_one, answer_of_two, cell_under, is_index, refusal_of};

@@ -17,7 +17,7 @@ use crate::refined::{
     change_control, change_controls, compute_exact_of_one, compute_exact_of_two, read_control,
     write_control,
 };
-use tt_abs::{Point, Setting, StepFault};
+use tt_setting::{Point, Setting, StepFault};
 use tt_code::{Effect, Frame, Instr, Reason, Refinement, entry, refinement};
 use tt_symbolic_cells::{Exact, push_data, shuffle};
 use tt_symbolic_state::state::{OpenCall, State};

@@ -11,7 +11,7 @@ ghost use Rattle.tt_symbolic_state.specs.Shows.{graphics_of, values};
 ghost use Rattle.tt_symbolic_cells.specs.Taking.{Leaves, Takes, below_bound};
 
 use crate::zones::{contours, names_zone, pointer, points_in, points_within, reference};
-use tt_abs::Setting;
+use tt_setting::Setting;
 use tt_code::kinds::{Operand, Use};
 use tt_code::{Graphics, Reason};
 use tt_symbolic_state::cell::{Cell, Range, bounds, number};

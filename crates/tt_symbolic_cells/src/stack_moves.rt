@@ -8,7 +8,7 @@ ghost use Rattle.tt_symbolic_state.specs.declared.cell.Cell.{Cell as AnyCell};
 ghost use Rattle.tt_symbolic_cells.specs.Stacking.{Restacks};
 
 use std::alloc::AllocError;
-use tt_abs::StepFault;
+use tt_setting::StepFault;
 use tt_code::Reason;
 use tt_code::kinds::StackOp;
 use tt_symbolic_state::cell::{Cell, Range, known, number};

@@ -8,7 +8,7 @@ ghost use Rattle.tt_setting.specs.Settings.{setting_of};
 ghost use Rattle.tt_symbolic_state.specs.Values.{Valuation, value};
 ghost use Rattle.tt_symbolic_state.specs.Shows.{graphics_of, zone_number};
 
-use tt_abs::{Kind, Setting};
+use tt_setting::{Kind, Setting};
 use tt_code::Graphics;
 use tt_code::kinds::{Pointer, Reference, Within};
 use tt_symbolic_state::cell::Cell;

@@ -11,7 +11,7 @@ use crate::pool::Pool;
 use crate::start::Start;
 use crate::walk::{Effort, begin, walk_on};
 use std::alloc::Global;
-use tt_abs::{Refusal, Setting};
+use tt_setting::{Refusal, Setting};
 use tt_symbolic::kept::Kept;
 use tt_symbolic_state::state::State;
 

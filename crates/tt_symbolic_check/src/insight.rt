@@ -1,7 +1,7 @@
 //! What a search tells of a program for those who explain its answer.
 
 use crate::site::Site;
-use tt_abs::{Kind, Spot};
+use tt_setting::{Kind, Spot};
 use tt_symbolic_state::cell::Cell;
 use tt_symbolic_state::state::State;
 

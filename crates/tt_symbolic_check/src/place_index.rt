@@ -4,7 +4,7 @@
 
 use std::alloc::{AllocError, Global};
 use std::collections::HashMap;
-use tt_abs::SortedMap;
+use tt_setting::SortedMap;
 use tt_symbolic_state::cell::{Cell, number};
 use tt_symbolic_state::state::{OpenCall, State};
 

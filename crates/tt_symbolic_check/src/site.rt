@@ -4,7 +4,7 @@ ghost use Rattle.std.specs.Prelude.{◌≡◌};
 ghost use Rattle.tt_setting.specs.Refusals.{IsOfNoBudget, refusal_at};
 ghost use Rattle.tt_setting.specs.declared.failed.Failed.TheVariants.{Only};
 
-use tt_abs::{Refusal, Spot, StepFault};
+use tt_setting::{Refusal, Spot, StepFault};
 use tt_code::Reason;
 use tt_symbolic_state::state::State;
 

@@ -12,7 +12,7 @@ use crate::site::{Site, too_many_steps};
 use crate::splits::wanted;
 use crate::start::{Start, start_state};
 use std::alloc::{AllocError, Global};
-use tt_abs::{Point, Refusal, Setting, StepFault};
+use tt_setting::{Point, Refusal, Setting, StepFault};
 use tt_symbolic::kept::{Kept, step_keeping};
 use tt_symbolic::step::code_at;
 use tt_symbolic_state::cell::Cell;

@@ -9,7 +9,7 @@ ghost use Rattle.tt_symbolic_check.specs.Starts.{StartsAs};
 ghost use Rattle.tt_symbolic_state.specs.CvtMachine.{CvtMachine};
 
 use std::alloc::{AllocError, Global};
-use tt_abs::{Refusal, Setting, SortedMap};
+use tt_setting::{Refusal, Setting, SortedMap};
 use tt_code::Reason;
 use tt_symbolic::NOTHING_KEPT;
 use tt_symbolic_check::{Effort, Start, check, has_functions};

@@ -13,7 +13,7 @@ ghost use Rattle.tt_symbolic_state.specs.declared.state.State.{State as AnyState
 
 use crate::ends::Ends;
 use std::alloc::{AllocError, Global};
-use tt_abs::{Refusal, Setting, SortedMap};
+use tt_setting::{Refusal, Setting, SortedMap};
 use tt_symbolic::Kept;
 use tt_symbolic_check::{Effort, Start, check, has_functions};
 use tt_symbolic_state::{Cell, State};

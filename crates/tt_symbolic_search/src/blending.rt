@@ -9,7 +9,7 @@ use crate::track::Track;
 use std::alloc::{AllocError, Global};
 use std::collections::HashMap;
 use std::mem;
-use tt_abs::SortedMap;
+use tt_setting::SortedMap;
 use tt_symbolic_state::cell::{Cell, Range, bounds, known, number};
 use tt_symbolic_state::stack::Stack;
 

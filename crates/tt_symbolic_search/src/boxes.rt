@@ -5,7 +5,7 @@ use crate::origins::{OriginNumber, origin_in};
 use crate::track::Track;
 use std::alloc::{AllocError, Global};
 use std::mem;
-use tt_abs::SortedMap;
+use tt_setting::SortedMap;
 use tt_symbolic_state::State;
 use tt_symbolic_state::cell::{Cell, Range, known, number};
 use tt_symbolic_state::stack::Stack;

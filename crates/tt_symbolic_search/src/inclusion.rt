@@ -3,7 +3,7 @@
 
 use crate::boxes::listed_near;
 use crate::signature::Functions;
-use tt_abs::SortedMap;
+use tt_setting::SortedMap;
 use tt_symbolic_state::State;
 use tt_symbolic_state::cell::{Cell, Range, bounds, difference, divided, known, simplified};
 use tt_symbolic_state::state::OpenCall;

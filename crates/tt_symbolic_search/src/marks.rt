@@ -1,7 +1,7 @@
 //! At which offsets of the programs states are listed.
 
 use std::alloc::{AllocError, Global};
-use tt_abs::{Setting, Spot};
+use tt_setting::{Setting, Spot};
 use tt_symbolic_check::Site;
 
 /// For each offset of the three programs whether states are listed there: a bit each.

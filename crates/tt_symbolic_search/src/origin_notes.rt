@@ -3,7 +3,7 @@
 use crate::origins::OriginNumber;
 use std::alloc::{AllocError, Global};
 use std::collections::HashMap;
-use tt_abs::Spot;
+use tt_setting::Spot;
 use tt_symbolic_check::Site;
 use tt_symbolic_state::State;
 

@@ -18,7 +18,7 @@ use crate::waiting::Waiting;
 use crate::writes::Writes;
 use std::alloc::{AllocError, Global};
 use std::mem;
-use tt_abs::{Kind, Refusal, Setting, StepFault};
+use tt_setting::{Kind, Refusal, Setting, StepFault};
 use tt_code::block_keyword::BlockKeyword;
 use tt_code::{Reason, keyword_of_code};
 use tt_symbolic::kept::Kept;

@@ -15,7 +15,7 @@ use crate::writes::Writes;
 use std::alloc::{AllocError, Global};
 use std::collections::HashMap;
 use std::mem;
-use tt_abs::{Refusal, Setting, StepFault};
+use tt_setting::{Refusal, Setting, StepFault};
 use tt_code::Reason;
 use tt_symbolic::kept::Kept;
 use tt_symbolic_check::{Effort, Insight, Question, Start, too_many_steps};

@@ -9,7 +9,7 @@ use crate::signature::{Functions, signature};
 use crate::track::Track;
 use crate::writes::Writes;
 use std::alloc::{AllocError, Global};
-use tt_abs::SortedMap;
+use tt_setting::SortedMap;
 use tt_symbolic_check::{Start, start_state};
 use tt_symbolic_state::State;
 use tt_symbolic_state::cell::Cell;

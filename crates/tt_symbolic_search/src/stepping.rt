@@ -7,7 +7,7 @@ use crate::origins::{NOWHERE, OriginNumber};
 use crate::track::Track;
 use std::alloc::{AllocError, Global};
 use std::cmp::Ordering;
-use tt_abs::{Setting, StepFault};
+use tt_setting::{Setting, StepFault};
 use tt_code::kinds::{Arithmetic, Control, Operand, Pushed, Row, StackOp};
 use tt_code::{Effect, Graphics, Refinement, entry, refinement};
 use tt_symbolic::step::step;

@@ -2,7 +2,7 @@
 //! font and powers of 2.
 
 use std::alloc::{AllocError, Global};
-use tt_abs::{Kind, Setting};
+use tt_setting::{Kind, Setting};
 
 /// The thresholds of all fonts.
 const USUAL: [i64; 17] = [

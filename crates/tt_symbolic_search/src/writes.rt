@@ -2,7 +2,7 @@
 
 use crate::boxes::Area;
 use std::alloc::{AllocError, Global};
-use tt_abs::{Kind, Setting};
+use tt_setting::{Kind, Setting};
 use tt_code::{Written, written};
 use tt_symbolic::kept::{Kept, keeps};
 use tt_symbolic_state::State;

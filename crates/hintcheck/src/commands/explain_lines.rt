@@ -27,8 +27,8 @@ pub(super) struct ExplainRequest<'a> {
     pub options: ExplainOptions,
 }
 
-/// Explains one program of the font in these bytes, as `explain_program` and
-/// `explain_program_symbolic` do, and returns whether it is accepted.
+/// Explains one program of the font in these bytes by the profile that is asked for, as
+/// `explained_program` and `explained_program_symbolic` do, and returns whether it is accepted.
 pub(super) fn explain_by<O: Sink>(
     alloc: Global,
     bytes: &[u8],
@@ -58,7 +58,7 @@ pub(super) fn explain_by<O: Sink>(
 /// Explains one program of the font file with this name, and returns whether it is accepted.
 ///
 /// # Errors
-/// `Read` and `Unopened` where the file can't be opened or read; the faults of `explain_program`.
+/// `Read` and `Unopened` where the file can't be opened or read; the faults of `explained_program`.
 pub(super) fn explained_of_file<R: Files + AllocGlobal, O: Sink>(
     rt: &R,
     name: &str,

@@ -155,7 +155,7 @@ fn print_explanation<O: Sink>(
 /// accepted; 1 refused, or not checked since one before it is refused.
 ///
 /// # Errors
-/// `ProgramName` and `OffsetWord` as `explain_program`; `Write` exactly where a write to `out`
+/// `ProgramName` and `OffsetWord` as `explained_program`; `Write` exactly where a write to `out`
 /// failed; `OutOfMemory` where memory ran out at the object; after the object, `ScanFault` where it
 /// tells a font file's fault with the status 2, and `ScanUnfinished` where that is 3.
 pub(super) fn explain_in_object<R: Files + AllocGlobal, O: Sink>(

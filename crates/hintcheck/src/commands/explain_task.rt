@@ -20,7 +20,7 @@ use tt_stream::Sink;
 ///
 /// # Errors
 /// In lines `Read` and `Unopened` where the file can't be opened or read, and the faults of
-/// `explain_program`; for an object those of `explain_in_object`.
+/// `explained_program`; for an object those of `explain_in_object`.
 pub(super) fn explain_of_file<R: Files + AllocGlobal, O: Sink>(
     rt: &R,
     name: &str,

@@ -1,41 +1,18 @@
 //! The subcommand `verdict`: the verdict on a font file.
 
-ghost use Rattle.std.specs.Prelude.{◌≡◌, ◌≢◌, IfErr, IfOk, List, Err, Ok, OnOk, ℕ, []};
-ghost use Rattle.hintcheck.specs.Commands.{IsNoWriteFault, ReadsToEnd, TellsFailedRead};
-ghost use Rattle.hintcheck.specs.CommandFaults.{IsFaultOfFontFile, IsFaultOfSource, IsWithin, ReadNoFault};
+ghost use Rattle.std.specs.Prelude.{◌≡◌, ◌≢◌, IfErr, IfOk, List, Err, Ok, ℕ, []};
+ghost use Rattle.hintcheck.specs.Commands.{IsNoWriteFault};
+ghost use Rattle.hintcheck.specs.CommandFaults.{IsFaultOfFontFile, IsWithin};
 ghost use Rattle.hintcheck.specs.MeansSafe.{HoldRefusedBy, HoldSafeBy, IsVerdictBy};
-ghost use Rattle.hintcheck_fonts.specs.FontAnswers.{IsVerdictOn};
 
 use super::faults::CommandFault;
 use super::files::file_bytes;
-use crate::font_file::{verdict_in, verdict_in_budget};
+use crate::font_file::verdict_in_budget;
 use hintcheck_fonts::report::Verdict;
 use hintcheck_words::Profile;
 use std::alloc::Global;
 use std::rt::Files;
 use tt_family::Budget;
-use tt_stream::{Source, read_all};
-
-/// Returns the verdict on all programs of the font whose bytes are all that is left in the source,
-/// which is read to its end.
-///
-/// # Errors
-/// `Read` exactly where a read failed; the faults of `verdict`; `OutOfMemory`.
-pub fn verdict_of<S: Source>(alloc: Global, source: &mut S) -> Result<Verdict, CommandFault>
-    ensures exact { IfOk result (λ v. (bytes : List ℕ)
-        × ReadsToEnd (S.remaining source.old) (S.remaining source.new) bytes
-        × IsVerdictOn bytes v) }
-    ensures failures { TellsFailedRead result (S.failures source.old) (S.failures source.new) }
-    ensures fault { IfErr result IsNoWriteFault }
-    // A fault is the first one of all bytes that were left, except where a read failed or memory
-    // ran out.
-    ensures faults { IfErr result
-        (IsFaultOfSource (S.remaining source.old) (S.remaining source.new)) }
-    ensures none { OnOk result (ReadNoFault (S.remaining source.old) (S.remaining source.new)) }
-{
-    let bytes = read_all(alloc, source)?;
-    Ok(verdict_in(alloc, &bytes)?)
-}
 
 /// Returns the verdict of a profile on the font in these bytes. The strict one makes at most this many
 /// points, and the search of the symbolic one this many steps, where they are bounded.

@@ -1,7 +1,7 @@
 -- The glyphs that may be drawn with hints, as sets and as arrays. (Representation.)
 use Rattle.std.specs.Prelude.{◌≡◌, ◌↔◌, ◌<◌, ℕ, List, Bool, true, length, slice_index, if◌then◌else◌}
 use Rattle.hintcheck_report.specs.declared.refused.Refused.{Refused}
-use Rattle.tt_components.specs.Closed.{is_in}
+use Rattle.hintcheck_c.specs.Representation.Retained.{is_in}
 use Rattle.hintcheck_c.specs.MayHint.{MayHint}
 
 -- the set of the glyphs that may be drawn with hints, where these programs are refused

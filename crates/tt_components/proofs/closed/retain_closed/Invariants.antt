@@ -1,6 +1,0 @@
-use Rattle.tt_font.specs.Files.{font_outlines}
-use Rattle.tt_components.proofs.Retaining.{IsRetained}
-use Rattle.tt_components.proofs.closed.retain_closed.Given as goal
-
-abbrev pub invariant-loop : goal.invariant-loop
-invariant-loop l = IsRetained (font_outlines l.bytes) l.initial.set l.counter l.set
