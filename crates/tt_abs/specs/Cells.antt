@@ -8,6 +8,7 @@ use Rattle.tt_abs.specs.declared.cells.Cell.{Cell}
 use Rattle.tt_abs.specs.declared.cells.Cell.TheVariants.{Known, Unknown}
 use Rattle.tt_setting.specs.declared.zone.ZoneCell.{ZoneCell}
 use Rattle.tt_setting.specs.declared.zone.ZoneCell.TheVariants as zone
+use Rattle.tt_setting.specs.Functions.{CoversFunctions}
 
 -- the cell covers the number
 abbrev pub Covers : Cell → ℤ → Type 0

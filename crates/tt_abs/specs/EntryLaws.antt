@@ -7,8 +7,7 @@ use Rattle.tt_abs.specs.Orders.{OrderLaws, IsLeastAbove}
 use Rattle.tt_setting.specs.Entries.{Ascends, listed}
 use Rattle.tt_setting.specs.EntryLists.{IsEquality, holds_value, common_entries}
 use Rattle.tt_abs.specs.EntryOrders.{EntriesBelow, EntriesInRange, after_entry, missing_entries, entry_order}
-
--- What is listed.
+use Rattle.tt_setting.specs.EntryLaws.{listed-here, listed-there, all-above, number-above, all-filter, Ascends-filter, listed-filter, holds_value-is}
 
 -- One list below another, with and without first entries.
 
@@ -113,26 +112,6 @@ entry_laws IsInRange = record {
 }
 
 -- Entries that pass a test.
-
-    pair : x.0 ≡ n → x.1 ≡ v → x ≡ (n, v)
-    pair a b i = (a i, b i)
-filter_step {V} p x xs rest n v false is above ih = elim (cases_eq x.0 n) [
-  | inl same ↦ (
-    λ l. let lt : x.0 < n = number-above x.0 n v rest above l in absurd (omega arith),
-    λ h. let w : x.1 ≡ v = value (sym (listed-here x xs n same) ∙ h.0) in
-        let t = h.1 in let q : p x ≡ p (n, v) = ap p (pair same w) in cc,
-  )
-  | inr other ↦ (
-    λ l. let h = ih.0 l in (listed-there x xs n other ∙ h.0, h.1),
-    λ h. ih.1 (sym (listed-there x xs n other) ∙ h.0, h.1),
-  )
-]
-  where
-    value : Some x.1 ≡ Some v → x.1 ≡ v
-    value e = cc
-
-    pair : x.0 ≡ n → x.1 ≡ v → x ≡ (n, v)
-    pair a b i = (a i, b i)
 
 -- the entries that both lists have are the least list above both
 pub common_is_least : {V : Type 0} (IsInRange : V → Type 0) (same : V → V → Bool) → IsEquality same

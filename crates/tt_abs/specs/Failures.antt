@@ -27,7 +27,7 @@ use Rattle.tt_abs.specs.declared.cells.Cell.TheVariants as cell
 use Rattle.tt_setting.specs.declared.zone.ZoneCell.{ZoneCell}
 use Rattle.tt_setting.specs.declared.zone.ZoneCell.TheVariants as zone
 use Rattle.tt_setting.specs.declared.failed.Failed.{Failed}
-use Rattle.tt_setting.specs.declared.failed.Failed.TheVariants.{Only, TooFew, NoElement, TooDeep, Unknown, UnknownIn, NoPoint, NoReferencePoint, NoControlValue, NoStorageCell, NoZone, NoContour, NegativeCount, NegativeLoop, LowIndex, NoTarget, NoFunction, Undefined, Running, OtherDepth}
+use Rattle.tt_setting.specs.declared.failed.Failed.TheVariants.{Only, TooFew, NoElement, TooDeep, Unknown, UnknownIn, MayBeOutside, MayBeOutsideIn, NoPoint, NoReferencePoint, NoControlValue, NoStorageCell, NoZone, NoContour, NegativeCount, NegativeLoop, LowIndex, NoTarget, NoFunction, Undefined, Running, OtherDepth}
 use Rattle.tt_setting.specs.declared.failed.Register.{Register}
 use Rattle.tt_setting.specs.declared.failed.Register.TheVariants as register
 use Rattle.tt_setting.specs.declared.failed.Role.{Role}
@@ -150,7 +150,8 @@ IsRoleAt s fs at a r under =
     × IsRoleIn s a (effect_of code) r under
 
 -- What is told of a test that fails is so: of the state before the instruction at the place; of
--- what the instruction takes its elements as; and of the depth that it leaves, which is `left`.
+-- what the instruction takes its elements as; and of the depth that it leaves, which is `left`. Of
+-- ranges nothing is told here: a cell has none.
 abbrev pub TellsWith : Roles → Setting → List Frame → ℕ → Abstract → ℕ → Failed → Type 0
 TellsWith takes s fs at a left (Only r) = ReadsNoNumber r
 TellsWith takes s fs at a left (TooFew depth) = depth ≡ length a.stack
@@ -162,6 +163,8 @@ TellsWith takes s fs at a left (Unknown r under) =
     (below : List Cell) × (drop under a.stack ≡ cell.Unknown ∷ below) × takes r under
 TellsWith takes s fs at a left (UnknownIn register) =
     cell_in register a.registers.graphics ≡ cell.Unknown
+TellsWith takes s fs at a left (MayBeOutside r z under) = ⊥
+TellsWith takes s fs at a left (MayBeOutsideIn register z) = ⊥
 TellsWith takes s fs at a left (NoPoint z number) =
     IsOnStack a.stack number × (is_below_in (zone_size s) z number ≡ false)
     × ((within : Within) × (z ≡ zone_within a.registers.graphics within))

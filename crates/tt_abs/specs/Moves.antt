@@ -25,6 +25,7 @@ use Rattle.tt_setting.specs.Settings.{setting_of, frames_of}
 use Rattle.tt_abs.specs.States.{abstract_of}
 use Rattle.tt_abs.specs.Transfers.{Next, controlled_cells, outcome_on_cells}
 use Rattle.tt_setting.specs.Settings.{instruction_of}
+use Rattle.tt_setting.specs.Refusals.{ForFailed, ForReason}
 
 -- the calls after a move, the innermost first
 abbrev pub frames_after : List Frame → Move → List Frame

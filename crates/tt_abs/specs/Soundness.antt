@@ -9,6 +9,7 @@ use Rattle.tt_setting.specs.Functions.{CoversFunctions}
 use Rattle.tt_abs.specs.Cells.{CoversState}
 use Rattle.tt_abs.specs.StateFlow.{Place}
 use Rattle.tt_abs.specs.States.{abstract_of}
+use Rattle.tt_setting.specs.Functions.{StartsWith}
 
 -- the family's state at the machine's place covers it
 abbrev pub IsCoveredBy : (Place → Option State) → Machine → Type 0

@@ -13,6 +13,7 @@ use Rattle.tt_abs.specs.Contexts.{FramesFit}
 use Rattle.tt_setting.specs.Ranges.{IsSettingInRange}
 use Rattle.tt_abs.specs.States.{abstract_of, start_of, state_order}
 use Rattle.tt_abs.specs.Transfers.{Next, outcome_on_cells}
+use Rattle.tt_setting.specs.Ranges.{AreProgramsShort}
 
 -- a place of a program: the calls that haven't returned, the innermost first, and an offset in the
 -- program that has the innermost one's body, or, without calls, in the main program

@@ -36,6 +36,7 @@ use Rattle.tt_setting.specs.declared.zone.ZoneCell.{ZoneCell}
 use Rattle.tt_setting.specs.declared.zone.ZoneCell.TheVariants as zone
 use Rattle.tt_abs.specs.Cells.{Cells, Abstract}
 use Rattle.tt_setting.specs.Entries.{with_entry}
+use Rattle.tt_setting.specs.Settings.{instruction_of, is_below_in}
 
 -- Operands.
 

@@ -1,7 +1,7 @@
 -- A list that is kept in the other direction: what is cut off, taken out and looked up there.
 use Rattle.std.specs.Prelude.{min, reverse, remove}
-use Rattle.std.proofs.Common.{◌≡◌, ℕ, zero, suc, ◌-◌, ◌<◌, List, [], ◌∷◌, ◌++◌, Some, get_or, refl, sym, ◌∙◌, ap, arith, length, take, drop}
-use Rattle.std.proofs.lemmas.List.{get_or-reverse, length-reverse, length-drop, reverse-append, take-append-drop, take_at, drop_at, drop_min}
+use Rattle.std.proofs.Common.{◌≡◌, ℕ, suc, ◌-◌, ◌<◌, List, ◌++◌, sym, ◌∙◌, ap, arith, length, take, drop}
+use Rattle.std.proofs.lemmas.List.{length-reverse, length-drop, reverse-append, take-append-drop, take_at, drop_at, drop_min}
 
 parts : {A : Type 0} (xs : List A) (k : ℕ) → reverse xs ≡ reverse (drop k xs) ++ reverse (take k xs)
 parts xs k = ap reverse (sym (take-append-drop k xs)) ∙ reverse-append (take k xs) (drop k xs)

@@ -1,14 +1,13 @@
 -- Whether entries are the same, by their numbers and a test of their values.
 use Rattle.std.proofs.Common.{◌≡◌, ℕ, Bool, List, ap, ◌∙◌, arith, refl, sym}
 use Rattle.std.specs.Prelude.{nat_eq, ◌&&◌, ◌↔◌}
-use Rattle.std.specs.Int.Bits.{bit_or, bit_xor, or_zero_l}
+use Rattle.std.specs.Int.Bits.{bit_or, bit_xor, or_zero_l, xor_add_and, xor_self}
 use Rattle.std.specs.Bool.{Decides}
 use Rattle.std.specs.Cmp.Lexicographic.{pointwise}
 use Rattle.std.proofs.lemmas.Bool.Decides.{Decides-and, Decides-eqb, Decides-like}
-use Rattle.std.proofs.lemmas.Nat.{le_or_l, le_or_r}
+use Rattle.std.proofs.lemmas.Nat.{and_le_l, and_le_r, le_or_l, le_or_r}
 use Rattle.std.proofs.lemmas.Slice.Eq.{slice_eq-Decides}
 use Rattle.tt_setting.specs.EntryLists.{IsEquality}
-use Rattle.tt_setting.proofs.SameEntries.{no_difference}
 
 -- the differences of numbers, gathered by their bits, are none exactly if there is none yet and the two are equal
 pub no_difference : (d a b : ℕ) → (bit_or d (bit_xor a b) ≡ 0) ↔ ((d ≡ 0) × (a ≡ b))

@@ -2,7 +2,7 @@
 -- the entries that pass a test.
 use Rattle.std.specs.Prelude.{◌≡◌, ℕ, ◌<◌, ◌↔◌, Bool, true, false, cond, not, nat_eq, nat_lt, if◌then◌else◌, List, [], ◌∷◌, Option, None, Some}
 use Rattle.std.specs.List.{AllByRecursion, filter}
-use Rattle.std.proofs.Common.{refl, sym, ◌∙◌, ap, subst, arith, inl, inr}
+use Rattle.std.proofs.Common.{refl, sym, ◌∙◌, ap, arith, inl, inr}
 use Rattle.std.proofs.lemmas.Bool.{cases_eq, eqb-true, eqb-false, eq-eqb, ne_eqb}
 use Rattle.tt_code.specs.Control.{body_named}
 use Rattle.tt_setting.specs.Entries.{Ascends, listed, with_entry, without_entry}
@@ -87,6 +87,26 @@ filter_step {V} p x xs rest n v true is above ih = elim (cases_eq x.0 n) [
   where
     value : Some x.1 ≡ Some v → x.1 ≡ v
     value e = cc
+
+    pair : x.0 ≡ n → x.1 ≡ v → x ≡ (n, v)
+    pair a b i = (a i, b i)
+filter_step {V} p x xs rest n v false is above ih = elim (cases_eq x.0 n) [
+  | inl same ↦ (
+    λ l. let lt : x.0 < n = number-above x.0 n v rest above l in absurd (omega arith),
+    λ h. let w : x.1 ≡ v = value (sym (listed-here x xs n same) ∙ h.0) in
+        let t = h.1 in let q : p x ≡ p (n, v) = ap p (pair same w) in cc,
+  )
+  | inr other ↦ (
+    λ l. let h = ih.0 l in (listed-there x xs n other ∙ h.0, h.1),
+    λ h. ih.1 (sym (listed-there x xs n other) ∙ h.0, h.1),
+  )
+]
+  where
+    value : Some x.1 ≡ Some v → x.1 ≡ v
+    value e = cc
+
+    pair : x.0 ≡ n → x.1 ≡ v → x ≡ (n, v)
+    pair a b i = (a i, b i)
 
 -- an entry is listed among those that pass a test exactly if it is listed and passes it
 pub listed-filter : {V : Type 0} (p : ℕ × V → Bool) (a : List (ℕ × V)) → Ascends a → (n : ℕ) (v : V)

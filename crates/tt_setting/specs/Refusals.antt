@@ -6,7 +6,7 @@ use Rattle.tt_code.specs.declared.reason.Reason.{Reason}
 use Rattle.tt_code.specs.declared.reason.Reason.TheVariants as reason
 use Rattle.tt_setting.specs.declared.exhausted.Exhausted.TheVariants.{Budget, Memory}
 use Rattle.tt_setting.specs.declared.failed.Failed.{Failed}
-use Rattle.tt_setting.specs.declared.failed.Failed.TheVariants.{Only, TooFew, NoElement, TooDeep, Unknown, UnknownIn, NoPoint, NoReferencePoint, NoControlValue, NoStorageCell, NoZone, NoContour, NegativeCount, NegativeLoop, LowIndex, NoTarget, NoFunction, Undefined, Running, OtherDepth}
+use Rattle.tt_setting.specs.declared.failed.Failed.TheVariants.{Only, TooFew, NoElement, TooDeep, Unknown, UnknownIn, MayBeOutside, MayBeOutsideIn, NoPoint, NoReferencePoint, NoControlValue, NoStorageCell, NoZone, NoContour, NegativeCount, NegativeLoop, LowIndex, NoTarget, NoFunction, Undefined, Running, OtherDepth}
 use Rattle.tt_setting.specs.declared.failed.Register.{Register}
 use Rattle.tt_setting.specs.declared.failed.Register.TheVariants as register
 use Rattle.tt_setting.specs.declared.refusal.Refusal.{Refusal}
@@ -23,6 +23,8 @@ reason_of (NoElement index) = reason.Underflow
 reason_of (TooDeep depth) = reason.Overflow
 reason_of (Unknown role under) = reason.UnknownOperand
 reason_of (UnknownIn register) = reason.UnknownOperand
+reason_of (MayBeOutside role z under) = reason.UnknownOperand
+reason_of (MayBeOutsideIn register z) = reason.UnknownOperand
 reason_of (NoPoint z number) = reason.Point
 reason_of (NoReferencePoint register z number) = reason.Point
 reason_of (NoControlValue index) = reason.Cvt

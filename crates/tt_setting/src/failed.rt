@@ -85,6 +85,18 @@ pub enum Failed {
     },
     /// A number of the graphics state isn't known.
     UnknownIn(Register),
+    /// The element under this many others may be any number of a range, which isn't all in bounds.
+    /// The zone counts for points and contours; for others it is either one.
+    MayBeOutside {
+        role: Role,
+        zone: ZoneCell,
+        under: u32,
+    },
+    /// A reference point may be any number of a range, and the zone hasn't a point of each of them.
+    MayBeOutsideIn {
+        register: Register,
+        zone: ZoneCell,
+    },
     /// The zone has no such point, or one of the two that it may be hasn't.
     NoPoint {
         zone: ZoneCell,
@@ -159,7 +171,10 @@ impl Failed {
             Failed::Only(reason) => reason,
             Failed::TooFew { .. } | Failed::NoElement { .. } => Reason::Underflow,
             Failed::TooDeep { .. } => Reason::Overflow,
-            Failed::Unknown { .. } | Failed::UnknownIn(_) => Reason::UnknownOperand,
+            Failed::Unknown { .. }
+            | Failed::UnknownIn(_)
+            | Failed::MayBeOutside { .. }
+            | Failed::MayBeOutsideIn { .. } => Reason::UnknownOperand,
             Failed::NoPoint { .. } | Failed::NoReferencePoint { .. } => Reason::Point,
             Failed::NoControlValue { .. } => Reason::Cvt,
             Failed::NoStorageCell { .. } => Reason::Storage,

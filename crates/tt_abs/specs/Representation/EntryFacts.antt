@@ -11,6 +11,7 @@ use Rattle.tt_abs.specs.declared.cells.Cell.TheVariants.{Known, Unknown}
 use Rattle.tt_setting.specs.Entries.{listed, with_entry, without_entry}
 use Rattle.tt_abs.specs.StorageCells.{known_or_not, storage_of, with_cell}
 use Rattle.tt_setting.specs.EntryLaws.{listed-here, listed-there}
+use Rattle.tt_setting.specs.EntryLaws.{listed-with, listed-without}
 
 -- what holds for all values holds for each value that is listed
 pub listed-all : {V : Type 0} (P : V → Type 0) (es : List (ℕ × V)) (n : ℕ) (v : V)

@@ -1,4 +1,4 @@
-use Rattle.std.proofs.Common.{◌≡◌, subst, sym, ap, ◌∙◌, ℕ, List}
+use Rattle.std.proofs.Common.{subst, sym, ap, ◌∙◌, ℕ, List}
 use Rattle.tt_setting.specs.Entries.{Ascends}
 use Rattle.tt_setting.specs.EntryLists.{common_entries}
 use Rattle.tt_setting.specs.EntryLaws.{Ascends-filter}
