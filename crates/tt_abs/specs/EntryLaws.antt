@@ -1,11 +1,11 @@
 -- What a sorted map has, and the laws of the order on sorted maps.
-use Rattle.std.specs.Prelude.{◌≡◌, ℕ, ◌<◌, ◌≤◌, ◌⊎◌, ◌↔◌, Bool, true, false, cond, ◌&&◌, nat_eq, if◌then◌else◌, List, [], ◌∷◌, Option, None, Some, length}
-use Rattle.std.specs.List.{AllByRecursion, filter}
+use Rattle.std.specs.Prelude.{◌≡◌, ℕ, ◌<◌, ◌≤◌, ◌⊎◌, ◌↔◌, Bool, true, false, ◌&&◌, nat_eq, if◌then◌else◌, List, [], ◌∷◌, Some, length}
+use Rattle.std.specs.List.{AllByRecursion}
 use Rattle.std.proofs.Common.{refl, sym, ◌∙◌, ap, subst, arith, inl, inr}
-use Rattle.std.proofs.lemmas.Bool.{cases_eq, eqb-true, eq-eqb, ne_eqb, and_parts, and_from}
+use Rattle.std.proofs.lemmas.Bool.{cases_eq, eqb-true, eq-eqb, and_parts, and_from}
 use Rattle.tt_abs.specs.Orders.{OrderLaws, IsLeastAbove}
 use Rattle.tt_setting.specs.Entries.{Ascends, listed}
-use Rattle.tt_setting.specs.EntryLists.{IsEquality, holds_value, common_entries}
+use Rattle.tt_setting.specs.EntryLists.{IsEquality, common_entries}
 use Rattle.tt_abs.specs.EntryOrders.{EntriesBelow, EntriesInRange, after_entry, missing_entries, entry_order}
 use Rattle.tt_setting.specs.EntryLaws.{listed-here, listed-there, all-above, number-above, all-filter, Ascends-filter, listed-filter, holds_value-is}
 
