@@ -27,7 +27,7 @@ use Rattle.tt_abs.specs.declared.cells.Cell.TheVariants as cell
 use Rattle.tt_abs.specs.declared.cells.ZoneCell.{ZoneCell}
 use Rattle.tt_abs.specs.declared.cells.ZoneCell.TheVariants as zone
 use Rattle.tt_abs.specs.declared.failed.Failed.{Failed}
-use Rattle.tt_abs.specs.declared.failed.Failed.TheVariants.{Only, TooFew, NoElement, TooDeep, Unknown, UnknownIn, NoPoint, NoReferencePoint, NoControlValue, NoStorageCell, NoZone, NoContour, NegativeCount, NegativeLoop, LowIndex, NoTarget, NoFunction, Undefined, Running, OtherDepth}
+use Rattle.tt_abs.specs.declared.failed.Failed.TheVariants.{Only, TooFew, NoElement, TooDeep, Unknown, UnknownIn, MayBeOutside, MayBeOutsideIn, NoPoint, NoReferencePoint, NoControlValue, NoStorageCell, NoZone, NoContour, NegativeCount, NegativeLoop, LowIndex, NoTarget, NoFunction, Undefined, Running, OtherDepth}
 use Rattle.tt_abs.specs.declared.failed.Register.{Register}
 use Rattle.tt_abs.specs.declared.failed.Register.TheVariants as register
 use Rattle.tt_abs.specs.declared.failed.Role.{Role}
@@ -43,6 +43,8 @@ reason_of (NoElement index) = reason.Underflow
 reason_of (TooDeep depth) = reason.Overflow
 reason_of (Unknown role under) = reason.UnknownOperand
 reason_of (UnknownIn register) = reason.UnknownOperand
+reason_of (MayBeOutside role z under) = reason.UnknownOperand
+reason_of (MayBeOutsideIn register z) = reason.UnknownOperand
 reason_of (NoPoint z number) = reason.Point
 reason_of (NoReferencePoint register z number) = reason.Point
 reason_of (NoControlValue index) = reason.Cvt
@@ -190,6 +192,8 @@ TellsWith takes s fs at a left (Unknown r under) =
     (below : List Cell) × (drop under a.stack ≡ cell.Unknown ∷ below) × takes r under
 TellsWith takes s fs at a left (UnknownIn register) =
     cell_in register a.registers.graphics ≡ cell.Unknown
+TellsWith takes s fs at a left (MayBeOutside r z under) = ⊥
+TellsWith takes s fs at a left (MayBeOutsideIn register z) = ⊥
 TellsWith takes s fs at a left (NoPoint z number) =
     IsOnStack a.stack number × (is_below_in (zone_size s) z number ≡ false)
     × ((within : Within) × (z ≡ zone_within a.registers.graphics within))

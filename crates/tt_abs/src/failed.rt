@@ -48,7 +48,7 @@ pub enum Register {
 
 impl Register {
     /// Returns a reference point as a number of the graphics state.
-    pub(crate) fn of(reference: Reference) -> Register
+    pub fn of(reference: Reference) -> Register
         ensures { result ≡ register_of reference }
     {
         match reference {
@@ -85,6 +85,20 @@ pub enum Failed {
     },
     /// A number of the graphics state isn't known.
     UnknownIn(Register),
+    /// The element under this many others may be any number of a range, and nothing has some of these
+    /// numbers: no point or contour of the zone, no control value, or no storage cell. Only the
+    /// symbolic profile tells it.
+    MayBeOutside {
+        role: Role,
+        zone: ZoneCell,
+        under: u32,
+    },
+    /// A reference point may be any number of a range, and the zone has no point with some of these
+    /// numbers. Only the symbolic profile tells it.
+    MayBeOutsideIn {
+        register: Register,
+        zone: ZoneCell,
+    },
     /// The zone has no such point, or one of the two that it may be hasn't.
     NoPoint {
         zone: ZoneCell,
@@ -159,7 +173,10 @@ impl Failed {
             Failed::Only(reason) => reason,
             Failed::TooFew { .. } | Failed::NoElement { .. } => Reason::Underflow,
             Failed::TooDeep { .. } => Reason::Overflow,
-            Failed::Unknown { .. } | Failed::UnknownIn(_) => Reason::UnknownOperand,
+            Failed::Unknown { .. }
+            | Failed::UnknownIn(_)
+            | Failed::MayBeOutside { .. }
+            | Failed::MayBeOutsideIn { .. } => Reason::UnknownOperand,
             Failed::NoPoint { .. } | Failed::NoReferencePoint { .. } => Reason::Point,
             Failed::NoControlValue { .. } => Reason::Cvt,
             Failed::NoStorageCell { .. } => Reason::Storage,
