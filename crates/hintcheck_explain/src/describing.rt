@@ -102,38 +102,68 @@ impl<'a> Scene<'a> {
     }
 }
 
+/// Returns what an index that is taken as this has to be below, if that is one number.
+fn bound_of(setting: &Setting<'_>, role: Role, zone: ZoneCell) -> Option<u32> {
+    let limits = setting.limits;
+    match role {
+        Role::Point => Some(setting.points_in(zone)),
+        Role::ControlValue => Some(setting.cvt),
+        Role::StorageCell => Some(u32::from(limits.storage)),
+        Role::Contour => Some(setting.contours_in(zone)),
+        Role::Function => Some(u32::from(limits.functions)),
+        Role::Zone | Role::Count | Role::StackIndex | Role::Distance | Role::Turns => None,
+    }
+}
+
 /// An index that is out of range.
 #[derive(Clone, Copy)]
-pub(crate) struct Beyond {
+struct Beyond {
     role: Role,
-    pub number: i32,
+    number: i32,
     /// What it has to be below.
-    pub bound: u32,
+    bound: u32,
 }
 
 impl Beyond {
     /// Returns the index that is out of range, if that is why this test fails.
-    pub(crate) fn of(setting: &Setting<'_>, failed: Failed) -> Option<Beyond> {
-        let limits = setting.limits;
-        let (role, number, bound) = match failed {
-            Failed::NoPoint { zone, number } => (Role::Point, number, setting.points_in(zone)),
-            Failed::NoReferencePoint { zone, number, .. } => {
-                (Role::Point, number, setting.points_in(zone))
+    fn of(setting: &Setting<'_>, failed: Failed) -> Option<Beyond> {
+        let (role, zone, number) = match failed {
+            Failed::NoPoint { zone, number } | Failed::NoReferencePoint { zone, number, .. } => {
+                (Role::Point, zone, number)
             }
-            Failed::NoControlValue { index } => (Role::ControlValue, index, setting.cvt),
-            Failed::NoStorageCell { index } => {
-                (Role::StorageCell, index, u32::from(limits.storage))
-            }
-            Failed::NoContour { zone, number } => {
-                (Role::Contour, number, setting.contours_in(zone))
-            }
-            Failed::NoFunction { number } => (Role::Function, number, u32::from(limits.functions)),
+            Failed::NoControlValue { index } => (Role::ControlValue, ZoneCell::Either, index),
+            Failed::NoStorageCell { index } => (Role::StorageCell, ZoneCell::Either, index),
+            Failed::NoContour { zone, number } => (Role::Contour, zone, number),
+            Failed::NoFunction { number } => (Role::Function, ZoneCell::Either, number),
             _ => return None,
         };
         Some(Beyond {
             role,
             number,
-            bound,
+            bound: bound_of(setting, role, zone)?,
+        })
+    }
+}
+
+/// An index that may be out of range.
+#[derive(Clone, Copy)]
+pub(crate) struct Outside {
+    pub role: Role,
+    /// What it has to be below.
+    pub bound: u32,
+}
+
+impl Outside {
+    /// Returns the index that may be out of range, if that is why this test fails.
+    pub(crate) fn of(setting: &Setting<'_>, failed: Failed) -> Option<Outside> {
+        let (role, zone) = match failed {
+            Failed::MayBeOutside { role, zone, .. } => (role, zone),
+            Failed::MayBeOutsideIn { zone, .. } => (Role::Point, zone),
+            _ => return None,
+        };
+        Some(Outside {
+            role,
+            bound: bound_of(setting, role, zone)?,
         })
     }
 }
@@ -240,7 +270,7 @@ impl Scene<'_> {
     fn write_number<W: fmt::Write>(self, failed: Failed, f: &mut fmt::Formatter<W>) -> fmt::Result {
         let name = self.name;
         match failed {
-            Failed::Unknown { role, .. } => write!(
+            Failed::Unknown { role, .. } | Failed::MayBeOutside { role, .. } => write!(
                 f,
                 "{name} uses the number on the stack as {}, and it isn't known here.",
                 role_text(role)
@@ -248,7 +278,7 @@ impl Scene<'_> {
             Failed::UnknownIn(Register::Loop) => {
                 write!(f, "{name} uses the loop number, and it isn't known here.")
             }
-            Failed::UnknownIn(register) => write!(
+            Failed::UnknownIn(register) | Failed::MayBeOutsideIn { register, .. } => write!(
                 f,
                 "{name} uses {} as the number of a point, and it isn't known here.",
                 Element::of_register(register)

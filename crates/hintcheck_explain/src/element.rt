@@ -49,8 +49,12 @@ impl Element {
     /// it fails. The stack has this depth.
     pub(crate) fn unknown(failed: Failed, depth: usize) -> Option<Element> {
         match failed {
-            Failed::Unknown { under, .. } => Element::under(depth, usize::try_from(under).ok()?),
-            Failed::UnknownIn(register) => Some(Element::of_register(register)),
+            Failed::Unknown { under, .. } | Failed::MayBeOutside { under, .. } => {
+                Element::under(depth, usize::try_from(under).ok()?)
+            }
+            Failed::UnknownIn(register) | Failed::MayBeOutsideIn { register, .. } => {
+                Some(Element::of_register(register))
+            }
             _ => None,
         }
     }

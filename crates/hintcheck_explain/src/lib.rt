@@ -29,7 +29,6 @@ mod refusal;
 mod route;
 mod stepping;
 mod symbolic;
-mod symbolic_case;
 mod trouble;
 mod unread;
 mod view;

@@ -52,8 +52,7 @@ pub(crate) fn making_by_strict(code: u8) -> &'static str {
 pub(crate) fn making_by_symbolic(code: u8) -> &'static str {
     match entry(code) {
         Effect::Arithmetic(_) => "computes it, of numbers that aren't all known.",
-        _ if is_computed_by_symbols(code) =>
-            "computes it, of numbers that aren't all known.",
+        _ if is_computed_by_symbols(code) => "computes it, of numbers that aren't all known.",
         _ => "makes it, which gives a number that isn't known before the program runs.",
     }
 }

@@ -12,8 +12,7 @@ use crate::explored_program::{code_of, instruction_at};
 use crate::knowledge::{StateText, tell_state};
 use crate::legend::Legend;
 use crate::origin_text::SymbolOriginText;
-use crate::symbolic_case::trouble_of;
-use crate::trouble::Trouble;
+use crate::trouble::{Trouble, trouble_of};
 use crate::view::{View, symbolic_cell};
 use hintcheck_report::{AnswerFault, Place, Refused};
 use std::alloc::Global;
@@ -21,7 +20,7 @@ use tt_setting::{Setting, Spot};
 use tt_setting::Name;
 use tt_code::Reason;
 use tt_stream::{PrintFailed, Sink};
-use tt_symbolic_check::{Insight, KnownState, Site};
+use tt_symbolic_check::{Insight, KnownState, RefusedState, Site};
 
 /// A program that is explained: its name, what it is checked against, and what the search tells of
 /// it.
@@ -52,7 +51,7 @@ impl<'a> Searched<'a> {
     }
 
     /// Returns the state that is refused, if the search tells it.
-    fn refused(&self) -> Option<&'a KnownState> {
+    fn refused(&self) -> Option<&'a RefusedState> {
         self.insight?.refused.as_ref()
     }
 }
@@ -174,19 +173,21 @@ fn tell_origin<O: Sink>(
 fn tell_case<O: Sink>(
     alloc: Global,
     searched: Searched<'_>,
-    known: &KnownState,
+    refused: &RefusedState,
     reason: Reason,
     out: &mut O,
 ) -> Result<(), AnswerFault>
     ensures failures { TellsFailure result (O.failures out.old) (O.failures out.new) }
 {
+    let known = &refused.known;
     let state = &known.state;
-    let trouble = trouble_of(alloc, searched.setting, state, reason)?;
+    let view = View::Symbolic(state);
+    let trouble = trouble_of(searched.setting, view, refused.failed, reason);
     tell_cause(
         searched.setting,
         instruction_at(searched.setting, Site::of(state)),
         state.offset,
-        View::Symbolic(state),
+        view,
         reason,
         trouble,
         out,
@@ -206,7 +207,7 @@ fn tell_refusal<O: Sink>(
     ensures failures { TellsFailure result (O.failures out.old) (O.failures out.new) }
 {
     match searched.refused() {
-        Some(known) => tell_case(alloc, searched, known, refused.reason, out)?,
+        Some(state) => tell_case(alloc, searched, state, refused.reason, out)?,
         None => tell_cause_of_program(searched.setting, refused.reason, out)?,
     }
     let listing = searched.listing(refused.place);

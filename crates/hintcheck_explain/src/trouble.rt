@@ -1,8 +1,14 @@
 //! Why a program is refused, with the numbers of the case.
 
+ghost use Rattle.std.specs.Prelude.{IsTrue};
+ghost use Rattle.hintcheck_explain.specs.Representation.Causes.{HasReason};
+
+use crate::describing::Outside;
 use crate::element::Element;
+use crate::view::{Known, View};
 use hintcheck_report::Place;
-use tt_setting::{Failed, Role};
+use tt_setting::{Failed, Role, Setting};
+use tt_code::Reason;
 use tt_family::PointKey;
 
 /// How a stack comes to a place: from which instruction, and how deep it is.
@@ -51,5 +57,51 @@ impl Trouble {
             Trouble::Range { element, .. } => Some(element),
             _ => None,
         }
+    }
+}
+
+/// Returns the index that may be out of range, with the numbers that it may be, if that is why this
+/// test fails and they are told here.
+fn range_outside(setting: &Setting<'_>, view: View<'_>, failed: Failed) -> Option<Trouble> {
+    let Outside { role, bound } = Outside::of(setting, failed)?;
+    let element = Element::unknown(failed, view.depth())?;
+    match view.known(element) {
+        Known::Within(low, high) => Some(Trouble::Range {
+            element,
+            role,
+            low,
+            high,
+            bound,
+        }),
+        Known::Number(_) | Known::Nothing => None,
+    }
+}
+
+/// Whether a program is refused for this reason where this is the trouble.
+fn is_reason(reason: Reason, trouble: Trouble) -> bool
+    ensures { IsTrue result → HasReason reason trouble }
+{
+    match trouble {
+        Trouble::Failed(failed) => failed.reason() == reason,
+        Trouble::Range { .. } => reason == Reason::UnknownOperand,
+        _ => true,
+    }
+}
+
+/// Returns the trouble where a program is refused for this reason, since this test fails on what is
+/// known.
+pub(crate) fn trouble_of(
+    setting: &Setting<'_>,
+    view: View<'_>,
+    failed: Failed,
+    reason: Reason,
+) -> Trouble
+    ensures { HasReason reason result }
+{
+    let trouble = range_outside(setting, view, failed).unwrap_or(Trouble::Failed(failed));
+    if is_reason(reason, trouble) {
+        trouble
+    } else {
+        Trouble::Other
     }
 }

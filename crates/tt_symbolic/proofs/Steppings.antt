@@ -239,6 +239,7 @@ control_ordinary code op e = go (refinement_of code) (of_line code)
   where
     not_of : (line : Lists) → effect_of code ≡ Plain line → ⊥
     not_of line f = let g : Plain line ≡ Controls op = sym f ∙ e in cc
+
     go : (kind : Refinement) → IsOfLine code (line_for kind) → kind ≡ Ordinary
     go kinds.ReadsControl h = absurd (not_of read_line h)
     go kinds.WritesControl h = absurd (not_of write_line h)

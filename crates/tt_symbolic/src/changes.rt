@@ -9,10 +9,9 @@ ghost use Rattle.tt_symbolic_state.specs.Shows.{values, zone_number};
 ghost use Rattle.tt_symbolic.specs.Representation.Changing.{Changes, ChangesAll, StoresAt, StoresBetween};
 
 use crate::areas::forget;
-use tt_setting::StepFault;
-use tt_code::Reason;
+use tt_setting::{Failed, StepFault};
 use tt_code::kinds::{NewNumber, Pointer, Reference, Update};
-use tt_symbolic_cells::{reference, set_pointer, set_reference};
+use tt_symbolic_cells::{UNDECIDED, reference, set_pointer, set_reference, too_few};
 use tt_symbolic_state::cell::{Cell, Range, bounds, is_in_machine, known, number};
 use tt_symbolic_state::stack::Stack;
 use tt_symbolic_state::state::{State, Zone};
@@ -20,65 +19,65 @@ use tt_symbolic_state::state::{State, Zone};
 /// Returns the element at a position among the `count` that are taken.
 ///
 /// # Errors
-/// `Underflow`, where there is none.
-pub fn taken(stack: &Stack, count: usize, position: u8) -> Result<Cell, Reason>
+/// `TooFew`, where there is none.
+pub fn taken(stack: &Stack, count: usize, position: u8) -> Result<Cell, Failed>
     ensures { IfOk result (λ c. (v : Valuation)
         → taken_at (pos 1) (take count (values v stack.now)) position ≡ value v c) }
 {
     let place = usize::from(position);
     if place >= count {
-        return Err(Reason::Underflow);
+        return Err(too_few(stack, 0));
     }
     match stack.under(place) {
         Some(cell) => Ok(cell),
-        None => Err(Reason::Underflow),
+        None => Err(too_few(stack, 0)),
     }
 }
 
 /// Returns the zone that a cell names, once its number is tested to be 0 or 1.
-fn zone_of(cell: Cell, ranges: &[Range]) -> Result<Zone, Reason>
+fn zone_of(cell: Cell, ranges: &[Range]) -> Result<Zone, Failed>
     ensures { IfOk result (λ z. (v : Valuation) → Fits ranges.now v
         → zone_of_number (value v cell) ≡ zone_number z) }
 {
     match number(cell, ranges) {
         Some(0) => Ok(Zone::Zero),
         Some(_) => Ok(Zone::One),
-        None => Err(Reason::UnknownOperand),
+        None => Err(UNDECIDED),
     }
 }
 
 /// Returns the index that a cell is, where it is known.
 ///
 /// # Errors
-/// `UnknownOperand`, where it isn't.
-pub fn index_of(cell: Cell, ranges: &[Range]) -> Result<u16, Reason>
+/// `UNDECIDED`, where it isn't.
+pub fn index_of(cell: Cell, ranges: &[Range]) -> Result<u16, Failed>
     ensures { IfOk result (λ i. (v : Valuation) → Fits ranges.now v → value v cell ≡ pos i) }
 {
     match number(cell, ranges) {
         Some(number) => match u16::try_from(number) {
             Ok(index) => Ok(index),
-            Err(_) => Err(Reason::UnknownOperand),
+            Err(_) => Err(UNDECIDED),
         },
-        None => Err(Reason::UnknownOperand),
+        None => Err(UNDECIDED),
     }
 }
 
 /// Returns bounds of an index.
 ///
 /// # Errors
-/// `UnknownOperand`, where it may be negative.
-pub fn index_bounds(cell: Cell, ranges: &[Range]) -> Result<(i64, i64), Reason>
+/// `UNDECIDED`, where it may be negative.
+pub fn index_bounds(cell: Cell, ranges: &[Range]) -> Result<(i64, i64), Failed>
     ensures { IfOk result (λ b. (v : Valuation) → Fits ranges.now v
         → (pos 0 ≤ℤ value v cell) × (b.0 ≤ℤ value v cell) × (value v cell ≤ℤ b.1)) }
 {
     match bounds(cell, ranges) {
         Some((low, high)) => {
             if low < 0 {
-                return Err(Reason::UnknownOperand);
+                return Err(UNDECIDED);
             }
             Ok((low, high))
         }
-        None => Err(Reason::UnknownOperand),
+        None => Err(UNDECIDED),
     }
 }
 
@@ -161,7 +160,7 @@ fn store(state: &mut State, count: usize, at: u8, position: u8) -> Result<(), St
     let cell = taken(&state.stack, count, position)?;
     let ranges = state.ranges.as_slice();
     if !is_in_machine(cell, ranges) {
-        return Err(StepFault::from(Reason::UnknownOperand));
+        return Err(StepFault::from(UNDECIDED));
     }
     if let Ok(index) = index_of(place, ranges) {
         return store_at(state, index, cell);

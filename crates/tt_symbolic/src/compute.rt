@@ -44,7 +44,7 @@ fn compute_one(state: &mut State, operation: Arithmetic) -> Result<(), StepFault
     requires { takes_only_one operation ≡ true }
     ensures { OnOk result (Computes operation state.old state.new) }
 {
-    let top = pop(state)?;
+    let top = pop(state, 0)?;
     let answer = result_of_one(operation, top, state.ranges.as_slice());
     put_answer(state, answer)
 }
@@ -54,8 +54,8 @@ fn compute_two(state: &mut State, operation: Arithmetic) -> Result<(), StepFault
     requires { takes_only_one operation ≡ false }
     ensures { OnOk result (Computes operation state.old state.new) }
 {
-    let top = pop(state)?;
-    let second = pop(state)?;
+    let top = pop(state, 0)?;
+    let second = pop(state, 1)?;
     let answer = result_of_two(operation, second, top, state.ranges.as_slice());
     put_answer(state, answer)
 }

@@ -11,30 +11,33 @@ ghost use Rattle.tt_symbolic.specs.Representation.Leading.{Closes, GoesTo, IsAt,
 use crate::push::pop;
 use std::alloc::AllocError;
 use tt_setting::setting::body_offset;
-use tt_setting::{Kind, Point, Setting, SortedMap, StepFault};
+use tt_setting::{Failed, Kind, Point, Role, Setting, SortedMap, StepFault};
 use tt_code::Reason;
 use tt_code::kinds::Control;
-use tt_symbolic_cells::truth_of;
+use tt_symbolic_cells::{UNDECIDED, too_deep, truth_of, unknown};
 use tt_symbolic_state::cell::{Cell, Range, bounds, difference, known, number};
 use tt_symbolic_state::state::{OpenCall, State};
 
+/// What is told where an instruction has no end to which it could lead.
+const NO_END: Failed = Failed::Only(Reason::Target);
+
 /// Returns the offset just after an instruction of one byte.
-fn next_offset(point: &Point<'_>) -> Result<u32, Reason>
+fn next_offset(point: &Point<'_>) -> Result<u32, Failed>
     ensures { IfOk result (λ n. n ≡ point.now.offset + 1) }
 {
     match point.offset.checked_add(1) {
         Some(offset) => Ok(offset),
-        None => Err(Reason::Target),
+        None => Err(NO_END),
     }
 }
 
-/// Returns the number that the cell is.
-fn number_of(cell: Cell, ranges: &[Range]) -> Result<i32, Reason>
+/// Returns the number that the cell is, which was under this many others, and is taken as this.
+fn number_of(cell: Cell, ranges: &[Range], role: Role, under: usize) -> Result<i32, Failed>
     ensures { IfOk result (λ k. (v : Valuation) → Fits ranges.now v → value v cell ≡ k) }
 {
     match number(cell, ranges) {
         Some(number) => Ok(number),
-        None => Err(Reason::UnknownOperand),
+        None => Err(unknown(role, under)),
     }
 }
 
@@ -50,9 +53,9 @@ fn branch(setting: &Setting<'_>, point: &Point<'_>, state: &mut State) -> Result
     requires { IsAt point.now state.old }
     ensures { OnOk result (Leads setting.now control.If state.old state.new) }
 {
-    let condition = pop(state)?;
+    let condition = pop(state, 0)?;
     let Some(holds) = truth_of(condition, state.ranges.as_slice()) else {
-        return Err(StepFault::from(Reason::UnknownOperand));
+        return Err(StepFault::from(UNDECIDED));
     };
     if holds {
         let next = next_offset(point)?;
@@ -60,7 +63,7 @@ fn branch(setting: &Setting<'_>, point: &Point<'_>, state: &mut State) -> Result
         return Ok(());
     }
     let Some(after) = setting.program(point).after_if(point.offset) else {
-        return Err(StepFault::from(Reason::Target));
+        return Err(StepFault::from(NO_END));
     };
     go_to(state, after);
     Ok(())
@@ -72,7 +75,7 @@ fn skip_else(setting: &Setting<'_>, point: &Point<'_>, state: &mut State) -> Res
     ensures { OnOk result (Leads setting.now control.Else state.old state.new) }
 {
     let Some(after) = setting.program(point).after_else(point.offset) else {
-        return Err(StepFault::from(Reason::Target));
+        return Err(StepFault::from(NO_END));
     };
     go_to(state, after);
     Ok(())
@@ -86,7 +89,7 @@ fn is_target(setting: &Setting<'_>, point: &Point<'_>, target: u32) -> bool
 }
 
 /// Returns the offset to which a jump by this distance leads.
-fn jump_target(setting: &Setting<'_>, point: &Point<'_>, by: i32) -> Result<u32, Reason>
+fn jump_target(setting: &Setting<'_>, point: &Point<'_>, by: i32) -> Result<u32, Failed>
     ensures { IfOk result (JumpsTo setting.now point.now by) }
 {
     match u32::try_from(i64::from(point.offset) + i64::from(by)) {
@@ -94,10 +97,10 @@ fn jump_target(setting: &Setting<'_>, point: &Point<'_>, by: i32) -> Result<u32,
             if is_target(setting, point, target) {
                 Ok(target)
             } else {
-                Err(Reason::Target)
+                Err(Failed::NoTarget { by })
             }
         }
-        Err(_) => Err(Reason::Target),
+        Err(_) => Err(Failed::NoTarget { by }),
     }
 }
 
@@ -113,10 +116,10 @@ fn jump(setting: &Setting<'_>, point: &Point<'_>, state: &mut State) -> Result<(
     requires { IsAt point.now state.old }
     ensures { OnOk result (Leads setting.now control.Jump state.old state.new) }
 {
-    let distance = pop(state)?;
-    let by = number_of(distance, state.ranges.as_slice())?;
+    let distance = pop(state, 0)?;
+    let by = number_of(distance, state.ranges.as_slice(), Role::Distance, 0)?;
     if !is_within_depth(setting, state) {
-        return Err(StepFault::from(Reason::Overflow));
+        return Err(StepFault::from(too_deep(&state.stack)));
     }
     let target = jump_target(setting, point, by)?;
     go_to(state, target);
@@ -133,14 +136,14 @@ fn jump_if(
     requires { IsAt point.now state.old }
     ensures { OnOk result (JumpsIf setting.now asked state.old state.new) }
 {
-    let condition = pop(state)?;
-    let distance = pop(state)?;
+    let condition = pop(state, 0)?;
+    let distance = pop(state, 1)?;
     match truth_of(condition, state.ranges.as_slice()) {
         Some(holds) => {
             if holds == asked {
-                let by = number_of(distance, state.ranges.as_slice())?;
+                let by = number_of(distance, state.ranges.as_slice(), Role::Distance, 1)?;
                 if !is_within_depth(setting, state) {
-                    return Err(StepFault::from(Reason::Overflow));
+                    return Err(StepFault::from(too_deep(&state.stack)));
                 }
                 let target = jump_target(setting, point, by)?;
                 go_to(state, target);
@@ -151,7 +154,11 @@ fn jump_if(
                 Ok(())
             }
         }
-        None => Err(StepFault::from(Reason::UnknownOperand)),
+        None => {
+            // Which of both ways it goes isn't known; a distance that isn't known either is told first.
+            number_of(distance, state.ranges.as_slice(), Role::Distance, 1)?;
+            Err(StepFault::from(UNDECIDED))
+        }
     }
 }
 
@@ -167,25 +174,25 @@ fn may_define(setting: &Setting<'_>) -> bool
 }
 
 /// Returns the name of a body that the program defines at an offset.
-fn body_name(setting: &Setting<'_>, offset: u32) -> Result<u32, Reason>
+fn body_name(setting: &Setting<'_>, offset: u32) -> Result<u32, Failed>
     ensures { IfOk result (λ n. n ≡ name_of_body (setting_of setting.now).kind offset) }
 {
     match setting.kind {
         Kind::Cvt => match offset.checked_add(1 << 31) {
             Some(name) => Ok(name),
-            None => Err(Reason::Target),
+            None => Err(NO_END),
         },
         _ => Ok(offset),
     }
 }
 
 /// Returns the number of a function.
-fn function_number(number: i32) -> Result<u16, Reason>
+fn function_number(number: i32) -> Result<u16, Failed>
     ensures { IfOk result (λ n. number ≡ pos n) }
 {
     match u16::try_from(number) {
         Ok(function) => Ok(function),
-        Err(_) => Err(Reason::Function),
+        Err(_) => Err(Failed::NoFunction { number }),
     }
 }
 
@@ -197,14 +204,14 @@ fn define(setting: &Setting<'_>, point: &Point<'_>, state: &mut State) -> Result
     if !may_define(setting) {
         return Err(StepFault::from(Reason::Definition));
     }
-    let top = pop(state)?;
-    let number = number_of(top, state.ranges.as_slice())?;
+    let top = pop(state, 0)?;
+    let number = number_of(top, state.ranges.as_slice(), Role::Function, 0)?;
     let function = function_number(number)?;
     if function >= setting.limits.functions {
-        return Err(StepFault::from(Reason::Function));
+        return Err(StepFault::from(Failed::NoFunction { number }));
     }
     let Some(after) = setting.program(point).after_fdef(point.offset) else {
-        return Err(StepFault::from(Reason::Target));
+        return Err(StepFault::from(NO_END));
     };
     let start = next_offset(point)?;
     let body = body_name(setting, start)?;
@@ -214,21 +221,21 @@ fn define(setting: &Setting<'_>, point: &Point<'_>, state: &mut State) -> Result
 }
 
 /// Returns the body of the function of this number.
-fn called(setting: &Setting<'_>, functions: &SortedMap<u32>, number: i32) -> Result<u32, Reason>
+fn called(setting: &Setting<'_>, functions: &SortedMap<u32>, number: i32) -> Result<u32, Failed>
     ensures { IfOk result (λ body. (n : ℕ) × (number ≡ pos n)
         × IsKnownFunction setting.now functions.now n body) }
 {
     match u16::try_from(number) {
         Ok(n) => {
             if n >= setting.limits.functions {
-                return Err(Reason::Function);
+                return Err(Failed::NoFunction { number });
             }
             match functions.get(n) {
                 Some(body) => Ok(body),
-                None => Err(Reason::Function),
+                None => Err(Failed::Undefined { number }),
             }
         }
-        Err(_) => Err(Reason::Function),
+        Err(_) => Err(Failed::NoFunction { number }),
     }
 }
 
@@ -250,12 +257,13 @@ fn push_call(calls: &mut Vec<OpenCall>, call: OpenCall) -> Result<(), AllocError
     Ok(())
 }
 
-/// Opens a call of a body, with as many turns left after the first.
-fn enter(state: &mut State, call: OpenCall) -> Result<(), StepFault>
+/// Opens a call of a body, with as many turns left after the first. The last argument is what is
+/// told where the body is running already.
+fn enter(state: &mut State, call: OpenCall, running: Failed) -> Result<(), StepFault>
     ensures { OnOk result (Opens call state.old state.new) }
 {
     if is_running(state.calls.as_slice(), call.body) {
-        return Err(StepFault::from(Reason::Recursion));
+        return Err(StepFault::from(running));
     }
     push_call(&mut state.calls, call)?;
     state.offset = body_offset(call.body);
@@ -266,24 +274,31 @@ fn enter(state: &mut State, call: OpenCall) -> Result<(), StepFault>
 fn call(setting: &Setting<'_>, state: &mut State) -> Result<(), StepFault>
     ensures { OnOk result (Leads setting.now control.Call state.old state.new) }
 {
-    let top = pop(state)?;
-    let function = number_of(top, state.ranges.as_slice())?;
+    let top = pop(state, 0)?;
+    let function = number_of(top, state.ranges.as_slice(), Role::Function, 0)?;
     let body = called(setting, &state.functions, function)?;
     let open = OpenCall {
         body,
         call: state.offset,
         left: known(0),
     };
-    enter(state, open)
+    enter(state, open, Failed::Running { number: function })
 }
 
-/// Calls a body as many times as a count says.
-fn repeat(point: &Point<'_>, state: &mut State, body: u32, count: Cell) -> Result<(), StepFault>
+/// Calls a body as many times as a count says. The last argument is what is told where the body is
+/// running already.
+fn repeat(
+    point: &Point<'_>,
+    state: &mut State,
+    body: u32,
+    count: Cell,
+    running: Failed,
+) -> Result<(), StepFault>
     requires { point.now.offset ≡ state.old.offset }
     ensures { OnOk result (Repeats body count state.old state.new) }
 {
     let Some((low, high)) = bounds(count, state.ranges.as_slice()) else {
-        return Err(StepFault::from(Reason::UnknownOperand));
+        return Err(StepFault::from(unknown(Role::Turns, 1)));
     };
     if high <= 0 {
         let next = next_offset(point)?;
@@ -291,17 +306,17 @@ fn repeat(point: &Point<'_>, state: &mut State, body: u32, count: Cell) -> Resul
         return Ok(());
     }
     if low <= 0 {
-        return Err(StepFault::from(Reason::UnknownOperand));
+        return Err(StepFault::from(unknown(Role::Turns, 1)));
     }
     let Some(left) = difference(count, known(1)) else {
-        return Err(StepFault::from(Reason::UnknownOperand));
+        return Err(StepFault::from(UNDECIDED));
     };
     let open = OpenCall {
         body,
         call: state.offset,
         left,
     };
-    enter(state, open)
+    enter(state, open, running)
 }
 
 /// Carries out LOOPCALL.
@@ -309,20 +324,21 @@ fn loop_call(setting: &Setting<'_>, point: &Point<'_>, state: &mut State) -> Res
     requires { IsAt point.now state.old }
     ensures { OnOk result (Leads setting.now control.LoopCall state.old state.new) }
 {
-    let top = pop(state)?;
-    let function = number_of(top, state.ranges.as_slice())?;
+    let top = pop(state, 0)?;
+    let function = number_of(top, state.ranges.as_slice(), Role::Function, 0)?;
     let body = called(setting, &state.functions, function)?;
-    let count = pop(state)?;
-    repeat(point, state, body, count)
+    let count = pop(state, 1)?;
+    let running = Failed::Running { number: function };
+    repeat(point, state, body, count, running)
 }
 
 /// Closes the innermost call, and returns it.
-fn close(state: &mut State) -> Result<OpenCall, Reason>
+fn close(state: &mut State) -> Result<OpenCall, Failed>
     ensures { IfOk result (Closes state.old state.new) }
 {
     match state.calls.pop() {
         Some(call) => Ok(call),
-        None => Err(Reason::Target),
+        None => Err(NO_END),
     }
 }
 
@@ -332,27 +348,27 @@ fn end_function(setting: &Setting<'_>, state: &mut State) -> Result<(), StepFaul
 {
     let call = close(state)?;
     let Some((low, high)) = bounds(call.left, state.ranges.as_slice()) else {
-        return Err(StepFault::from(Reason::UnknownOperand));
+        return Err(StepFault::from(UNDECIDED));
     };
     if high <= 0 {
         let Some(next) = call.call.checked_add(1) else {
-            return Err(StepFault::from(Reason::Target));
+            return Err(StepFault::from(NO_END));
         };
         go_to(state, next);
         return Ok(());
     }
     if low <= 0 {
-        return Err(StepFault::from(Reason::UnknownOperand));
+        return Err(StepFault::from(UNDECIDED));
     }
     let Some(left) = difference(call.left, known(1)) else {
-        return Err(StepFault::from(Reason::UnknownOperand));
+        return Err(StepFault::from(UNDECIDED));
     };
     let open = OpenCall {
         body: call.body,
         call: call.call,
         left,
     };
-    enter(state, open)
+    enter(state, open, Failed::Only(Reason::Recursion))
 }
 
 /// Carries out a control instruction at the state's point.

@@ -9,9 +9,8 @@ ghost use Rattle.tt_symbolic.specs.Sound.{Puts};
 use crate::changes::{index_of, taken, update_all};
 use crate::push::put;
 use tt_setting::{Setting, StepFault};
-use tt_code::Reason;
 use tt_code::kinds::{Pushed, Row, Update};
-use tt_symbolic_cells::{take_operands, test_uses};
+use tt_symbolic_cells::{UNDECIDED, take_operands, test_uses};
 use tt_symbolic_state::cell::{Cell, FULL};
 use tt_symbolic_state::state::{State, fresh};
 
@@ -131,7 +130,7 @@ fn finish_pushes(state: &mut State, count: usize, pushes: &[Pushed]) -> Result<(
         [Pushed::Any] => finish_any(state, count),
         [Pushed::Any, Pushed::Any] => finish_two(state, count),
         [Pushed::Stored(position)] => finish_stored(state, count, *position),
-        _ => Err(StepFault::from(Reason::UnknownOperand)),
+        _ => Err(StepFault::from(UNDECIDED)),
     }
 }
 
@@ -148,7 +147,7 @@ fn finish(
         [] => finish_changes(state, count, changes),
         _ => match changes {
             [] => finish_pushes(state, count, pushes),
-            _ => Err(StepFault::from(Reason::UnknownOperand)),
+            _ => Err(StepFault::from(UNDECIDED)),
         },
     }
 }

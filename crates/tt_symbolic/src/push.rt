@@ -3,20 +3,21 @@
 ghost use Rattle.std.specs.Prelude.{IfOk, OnOk};
 ghost use Rattle.tt_symbolic.specs.Sound.{Pops, Pushes};
 
-use tt_setting::StepFault;
-use tt_code::Reason;
-use tt_symbolic_cells::cell_under;
+use tt_setting::{Failed, StepFault};
+use tt_symbolic_cells::{cell_under, too_few};
 use tt_symbolic_state::cell::{Cell, FULL, Range};
 use tt_symbolic_state::state::{State, fresh};
 
-/// Takes the top.
+/// Takes the top, after the instruction took this many others.
 ///
 /// # Errors
-/// `Underflow` where there is none.
-pub fn pop(state: &mut State) -> Result<Cell, Reason>
+/// `TooFew` where there is none, with how many there were before the instruction.
+pub fn pop(state: &mut State, taken: usize) -> Result<Cell, Failed>
     ensures { IfOk result (Pops state.old state.new) }
 {
-    let top = cell_under(&state.stack, 0)?;
+    let Ok(top) = cell_under(&state.stack, 0) else {
+        return Err(too_few(&state.stack, taken));
+    };
     state.stack.cut(1);
     Ok(top)
 }

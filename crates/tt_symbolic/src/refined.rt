@@ -13,10 +13,12 @@ use crate::changes::{index_bounds, index_of};
 use crate::compute::put_answer;
 use crate::plain::{cut, execute_plain, put_any, put_control};
 use crate::push::pop;
-use tt_setting::{Setting, StepFault};
-use tt_code::Reason;
+use tt_setting::{Failed, Role, Setting, StepFault};
 use tt_code::kinds::Row;
-use tt_symbolic_cells::{Exact, answer_of_one, answer_of_two, cell_under, is_index, refusal_of};
+use tt_symbolic_cells::{
+    Exact, Named, UNDECIDED, answer_of_one, answer_of_two, cell_under, failed_index, is_index,
+    unknown, unknown_index,
+};
 use tt_symbolic_state::cell::{Cell, is_in_machine, number};
 use tt_symbolic_state::state::State;
 
@@ -29,7 +31,12 @@ pub fn read_control(setting: &Setting<'_>, state: &mut State) -> Result<(), Step
 {
     let cell = cell_under(&state.stack, 0)?;
     if !is_index(state.ranges.as_slice(), cell, setting.cvt) {
-        return Err(StepFault::from(refusal_of(state.ranges.as_slice(), cell, Reason::Cvt)));
+        return Err(StepFault::from(failed_index(
+            state.ranges.as_slice(),
+            cell,
+            Named::ControlValue,
+            0,
+        )));
     }
     match index_of(cell, state.ranges.as_slice()) {
         Ok(index) => {
@@ -53,7 +60,12 @@ pub fn change_control(setting: &Setting<'_>, state: &mut State) -> Result<(), St
     cell_under(&state.stack, 0)?;
     let place = cell_under(&state.stack, 1)?;
     if !is_index(state.ranges.as_slice(), place, setting.cvt) {
-        return Err(StepFault::from(refusal_of(state.ranges.as_slice(), place, Reason::Cvt)));
+        return Err(StepFault::from(failed_index(
+            state.ranges.as_slice(),
+            place,
+            Named::ControlValue,
+            1,
+        )));
     }
     let (low, high) = index_bounds(place, state.ranges.as_slice())?;
     cut(state, 2);
@@ -66,8 +78,16 @@ fn forget_pair(state: &mut State, pair: u32) -> Result<(), StepFault>
     ensures { OnOk result (ForgetsPair pair state.old state.new) }
 {
     let below = pair as usize;
-    let place = cell_under(&state.stack, below + below + 1)?;
-    let (low, high) = index_bounds(place, state.ranges.as_slice())?;
+    let under = below + below + 1;
+    let place = cell_under(&state.stack, under)?;
+    let Ok((low, high)) = index_bounds(place, state.ranges.as_slice()) else {
+        return Err(StepFault::from(unknown_index(
+            state.ranges.as_slice(),
+            place,
+            Named::ControlValue,
+            under,
+        )));
+    };
     forget(&mut state.controls, low, high);
     Ok(())
 }
@@ -83,7 +103,7 @@ fn forget_pairs(state: &mut State, count: u32) -> Result<(), StepFault>
 }
 
 /// Returns how many pairs are under the top.
-pub(crate) fn pair_count(state: &State) -> Result<u32, Reason>
+pub(crate) fn pair_count(state: &State) -> Result<u32, Failed>
     ensures { IfOk result (λ n. (c : AnyCell)
         × (drop 0 state.now.stack ≡ c ∷ drop 1 state.now.stack)
         × ((v : Valuation) → Fits state.now.ranges.items v → value v c ≡ pos n)) }
@@ -92,9 +112,9 @@ pub(crate) fn pair_count(state: &State) -> Result<u32, Reason>
     match number(top, state.ranges.as_slice()) {
         Some(count) => match u32::try_from(count) {
             Ok(pairs) => Ok(pairs),
-            Err(_) => Err(Reason::Count),
+            Err(_) => Err(Failed::NegativeCount { count }),
         },
-        None => Err(Reason::UnknownOperand),
+        None => Err(unknown(Role::Count, 0)),
     }
 }
 
@@ -124,11 +144,16 @@ pub fn write_control(setting: &Setting<'_>, state: &mut State) -> Result<(), Ste
 {
     let cell = cell_under(&state.stack, 0)?;
     if !is_in_machine(cell, state.ranges.as_slice()) {
-        return Err(StepFault::from(Reason::UnknownOperand));
+        return Err(StepFault::from(UNDECIDED));
     }
     let place = cell_under(&state.stack, 1)?;
     if !is_index(state.ranges.as_slice(), place, setting.cvt) {
-        return Err(StepFault::from(refusal_of(state.ranges.as_slice(), place, Reason::Cvt)));
+        return Err(StepFault::from(failed_index(
+            state.ranges.as_slice(),
+            place,
+            Named::ControlValue,
+            1,
+        )));
     }
     if let Ok(index) = index_of(place, state.ranges.as_slice()) {
         cut(state, 2);
@@ -153,8 +178,8 @@ pub fn compute_exact_of_two(
     requires { exact_line operation ≡ of_two_line }
     ensures { OnOk result (ExactWorks operation (setting_of setting.now) state.old state.new) }
 {
-    let top = pop(state)?;
-    let second = pop(state)?;
+    let top = pop(state, 0)?;
+    let second = pop(state, 1)?;
     let answer = answer_of_two(operation, second, top, state.ranges.as_slice());
     put_answer(state, answer)
 }
@@ -171,7 +196,7 @@ pub fn compute_exact_of_one(
     requires { exact_line operation ≡ of_one_line }
     ensures { OnOk result (ExactWorks operation (setting_of setting.now) state.old state.new) }
 {
-    let top = pop(state)?;
+    let top = pop(state, 0)?;
     let answer = answer_of_one(operation, top, state.ranges.as_slice());
     put_answer(state, answer)
 }

@@ -19,7 +19,7 @@ use crate::refined::{
 };
 use tt_setting::{Point, Setting, StepFault};
 use tt_code::{Effect, Frame, Instr, Reason, Refinement, entry, refinement};
-use tt_symbolic_cells::{Exact, push_data, shuffle};
+use tt_symbolic_cells::{Exact, push_data, shuffle, too_deep};
 use tt_symbolic_state::state::{OpenCall, State};
 
 /// Carries out an instruction that goes on at the next one, by its effect.
@@ -150,7 +150,7 @@ pub(crate) fn perform(
     prove!(u32::from(instr.code()) < 256);
     dispatch(setting, point, state, instr)?;
     if state.stack.len() > usize::from(setting.limits.stack) {
-        return Err(StepFault::from(Reason::Overflow));
+        return Err(StepFault::from(too_deep(&state.stack)));
     }
     Ok(())
 }

@@ -10,10 +10,13 @@ ghost use Rattle.tt_symbolic_state.specs.Values.{Fits, Valuation, value};
 ghost use Rattle.tt_symbolic_state.specs.Shows.{graphics_of, values};
 ghost use Rattle.tt_symbolic_cells.specs.Taking.{Leaves, Takes, below_bound};
 
-use crate::zones::{contours, names_zone, pointer, points_in, points_within, reference};
-use tt_setting::Setting;
+use crate::failures::{Named, failed_index, failed_use, too_few, unknown};
+use crate::zones::{
+    cell_of, contours, names_zone, pointer, points_in, points_within, reference, zone_within,
+};
+use tt_setting::{Failed, Register, Role, Setting};
+use tt_code::Graphics;
 use tt_code::kinds::{Operand, Use};
-use tt_code::{Graphics, Reason};
 use tt_symbolic_state::cell::{Cell, Range, bounds, number};
 use tt_symbolic_state::stack::Stack;
 use tt_symbolic_state::state::Zone;
@@ -29,22 +32,14 @@ pub fn is_index(ranges: &[Range], cell: Cell, bound: u32) -> bool
     }
 }
 
-/// Returns why an index is refused: for its own reason, where it is known.
-pub fn refusal_of(ranges: &[Range], cell: Cell, reason: Reason) -> Reason {
-    match number(cell, ranges) {
-        Some(_) => reason,
-        None => Reason::UnknownOperand,
-    }
-}
-
 /// Takes an index below the bound.
 fn take_below(
     ranges: &[Range],
     stack: &Stack,
     taken: usize,
     bound: u32,
-    reason: Reason,
-) -> Result<usize, Reason>
+    named: Named,
+) -> Result<usize, Failed>
     ensures { IfOk result (λ n. (v : Valuation) → Fits ranges.now v → (r : AnyReason)
         → Takes (below_bound bound r) (values v stack.now) taken n) }
 {
@@ -53,20 +48,20 @@ fn take_below(
             if is_index(ranges, cell, bound) {
                 Ok(taken + 1)
             } else {
-                Err(refusal_of(ranges, cell, reason))
+                Err(failed_index(ranges, cell, named, taken))
             }
         }
-        None => Err(Reason::Underflow),
+        None => Err(too_few(stack, 0)),
     }
 }
 
 /// Takes any cell.
-fn take_any(stack: &Stack, taken: usize) -> Result<usize, Reason>
+fn take_any(stack: &Stack, taken: usize) -> Result<usize, Failed>
     ensures { IfOk result (λ n. (v : Valuation) → Takes take_one (values v stack.now) taken n) }
 {
     match stack.under(taken) {
         Some(_) => Ok(taken + 1),
-        None => Err(Reason::Underflow),
+        None => Err(too_few(stack, 0)),
     }
 }
 
@@ -76,7 +71,7 @@ fn take_zone(
     ranges: &[Range],
     stack: &Stack,
     taken: usize,
-) -> Result<usize, Reason>
+) -> Result<usize, Failed>
     ensures { IfOk result (λ n. (v : Valuation) → Fits ranges.now v → (r : AnyReason)
         → Takes (tested (is_zone (setting_of setting.now)) r) (values v stack.now) taken n) }
 {
@@ -86,26 +81,40 @@ fn take_zone(
                 if names_zone(setting, zone) {
                     Ok(taken + 1)
                 } else {
-                    Err(Reason::Zone)
+                    Err(Failed::NoZone { number: zone })
                 }
             }
-            None => Err(Reason::UnknownOperand),
+            None => Err(unknown(Role::Zone, taken)),
         },
-        None => Err(Reason::Underflow),
+        None => Err(too_few(stack, 0)),
     }
 }
 
-/// Returns the count that the cell is.
-fn count(ranges: &[Range], cell: Cell) -> Result<u32, Reason>
+/// Returns the count that the cell is, which is under this many others.
+fn count(ranges: &[Range], cell: Cell, under: usize) -> Result<u32, Failed>
     ensures { IfOk result (λ n. (v : Valuation) → Fits ranges.now v
         → count_of (value v cell) ≡ Ok n) }
 {
     match number(cell, ranges) {
         Some(number) => match u32::try_from(number) {
             Ok(n) => Ok(n),
-            Err(_) => Err(Reason::Count),
+            Err(_) => Err(Failed::NegativeCount { count: number }),
         },
-        None => Err(Reason::UnknownOperand),
+        None => Err(unknown(Role::Count, under)),
+    }
+}
+
+/// Returns the count that the loop number is.
+fn loop_count(ranges: &[Range], cell: Cell) -> Result<u32, Failed>
+    ensures { IfOk result (λ n. (v : Valuation) → Fits ranges.now v
+        → count_of (value v cell) ≡ Ok n) }
+{
+    match number(cell, ranges) {
+        Some(number) => match u32::try_from(number) {
+            Ok(n) => Ok(n),
+            Err(_) => Err(Failed::NegativeLoop { count: number }),
+        },
+        None => Err(Failed::UnknownIn(Register::Loop)),
     }
 }
 
@@ -116,14 +125,14 @@ fn take_many(
     taken: usize,
     bound: u32,
     count: u32,
-    reason: Reason,
-) -> Result<usize, Reason>
+    named: Named,
+) -> Result<usize, Failed>
     ensures { IfOk result (λ n. (v : Valuation) → Fits ranges.now v → (r : AnyReason)
         → Takes (times count (below_bound bound r)) (values v stack.now) taken n) }
 {
     let mut after = taken;
     for i in 0..count {
-        after = take_below(ranges, stack, after, bound, reason)?;
+        after = take_below(ranges, stack, after, bound, named)?;
     }
     Ok(after)
 }
@@ -134,12 +143,12 @@ fn take_pair(
     stack: &Stack,
     taken: usize,
     bound: u32,
-    reason: Reason,
-) -> Result<usize, Reason>
+    named: Named,
+) -> Result<usize, Failed>
     ensures { IfOk result (λ n. (v : Valuation) → Fits ranges.now v → (r : AnyReason)
         → Takes (pair (below_bound bound r)) (values v stack.now) taken n) }
 {
-    let after = take_below(ranges, stack, taken, bound, reason)?;
+    let after = take_below(ranges, stack, taken, bound, named)?;
     let end = take_any(stack, after)?;
     Ok(end)
 }
@@ -151,14 +160,14 @@ fn take_many_pairs(
     taken: usize,
     bound: u32,
     count: u32,
-    reason: Reason,
-) -> Result<usize, Reason>
+    named: Named,
+) -> Result<usize, Failed>
     ensures { IfOk result (λ n. (v : Valuation) → Fits ranges.now v → (r : AnyReason)
         → Takes (times count (pair (below_bound bound r))) (values v stack.now) taken n) }
 {
     let mut after = taken;
     for i in 0..count {
-        after = take_pair(ranges, stack, after, bound, reason)?;
+        after = take_pair(ranges, stack, after, bound, named)?;
     }
     Ok(after)
 }
@@ -169,18 +178,18 @@ fn take_pairs(
     stack: &Stack,
     taken: usize,
     bound: u32,
-    reason: Reason,
-) -> Result<usize, Reason>
+    named: Named,
+) -> Result<usize, Failed>
     ensures { IfOk result (λ n. (v : Valuation) → Fits ranges.now v → (r : AnyReason)
         → Takes (pairs count_of (below_bound bound r)) (values v stack.now) taken n) }
 {
     match stack.under(taken) {
         Some(cell) => {
-            let n = count(ranges, cell)?;
-            let end = take_many_pairs(ranges, stack, taken + 1, bound, n, reason)?;
+            let n = count(ranges, cell, taken)?;
+            let end = take_many_pairs(ranges, stack, taken + 1, bound, n, named)?;
             Ok(end)
         }
-        None => Err(Reason::Underflow),
+        None => Err(too_few(stack, 0)),
     }
 }
 
@@ -192,7 +201,7 @@ fn take(
     stack: &Stack,
     taken: usize,
     operand: Operand,
-) -> Result<usize, Reason>
+) -> Result<usize, Failed>
     ensures { IfOk result (λ n. (v : Valuation) → Fits ranges.now v
         → Takes (take_operand (setting_of setting.now) (graphics_of v graphics.now) operand)
         (values v stack.now) taken n) }
@@ -205,17 +214,17 @@ fn take(
                 stack,
                 taken,
                 points_within(setting, graphics, within),
-                Reason::Point,
+                Named::Point(zone_within(graphics, within)),
             )
         }
-        Operand::Cvt => take_below(ranges, stack, taken, setting.cvt, Reason::Cvt),
+        Operand::Cvt => take_below(ranges, stack, taken, setting.cvt, Named::ControlValue),
         Operand::Storage => {
             take_below(
                 ranges,
                 stack,
                 taken,
                 u32::from(setting.limits.storage),
-                Reason::Storage,
+                Named::StorageCell,
             )
         }
         Operand::Zone => take_zone(setting, ranges, stack, taken),
@@ -225,18 +234,18 @@ fn take(
                 stack,
                 taken,
                 contours(setting, graphics.zp2),
-                Reason::Contour,
+                Named::Contour(cell_of(graphics.zp2)),
             )
         }
         Operand::LoopPoints(within) => {
-            let n = count(ranges, graphics.loop_number)?;
+            let n = loop_count(ranges, graphics.loop_number)?;
             take_many(
                 ranges,
                 stack,
                 taken,
                 points_within(setting, graphics, within),
                 n,
-                Reason::Point,
+                Named::Point(zone_within(graphics, within)),
             )
         }
         Operand::PointPairs(within) => {
@@ -245,24 +254,24 @@ fn take(
                 stack,
                 taken,
                 points_within(setting, graphics, within),
-                Reason::Point,
+                Named::Point(zone_within(graphics, within)),
             )
         }
-        Operand::CvtPairs => take_pairs(ranges, stack, taken, setting.cvt, Reason::Cvt),
+        Operand::CvtPairs => take_pairs(ranges, stack, taken, setting.cvt, Named::ControlValue),
     }
 }
 
 /// Takes the operands, one after the other, and returns how many cells were taken.
 ///
 /// # Errors
-/// The reason of the first test that can fail, or `UnknownOperand`.
+/// The first test that may fail.
 pub fn take_operands(
     setting: &Setting<'_>,
     graphics: &Graphics<Cell, Zone>,
     ranges: &[Range],
     stack: &Stack,
     operands: &[Operand],
-) -> Result<usize, Reason>
+) -> Result<usize, Failed>
     ensures { IfOk result (λ n. (v : Valuation) → Fits ranges.now v
         → Leaves (take_all (setting_of setting.now) (graphics_of v graphics.now) operands.now
         (values v stack.now)) (drop n (values v stack.now))) }
@@ -277,21 +286,23 @@ pub fn take_operands(
 /// Tests the reference points that are used.
 ///
 /// # Errors
-/// `Point`, where one of them is known and no point; `UnknownOperand`, where one may be none.
+/// The first test that may fail: `NoReferencePoint`, where the reference point is known and no point;
+/// `MayBeOutsideIn` or `UnknownIn`, where it may be none.
 pub fn test_uses(
     setting: &Setting<'_>,
     graphics: &Graphics<Cell, Zone>,
     ranges: &[Range],
     uses: &[Use],
-) -> Result<(), Reason>
+) -> Result<(), Failed>
     ensures { OnOk result ((v : Valuation) → Fits ranges.now v
         → test_all (setting_of setting.now) (graphics_of v graphics.now) uses.now ≡ Ok tt) }
 {
     for used in uses {
         let cell = reference(graphics, used.reference);
-        let bound = points_in(setting, pointer(graphics, used.pointer));
-        if !is_index(ranges, cell, bound) {
-            return Err(refusal_of(ranges, cell, Reason::Point));
+        let zone = pointer(graphics, used.pointer);
+        if !is_index(ranges, cell, points_in(setting, zone)) {
+            let register = Register::of(used.reference);
+            return Err(failed_use(ranges, cell, register, cell_of(zone)));
         }
     }
     Ok(())

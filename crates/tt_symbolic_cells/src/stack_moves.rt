@@ -7,8 +7,9 @@ ghost use Rattle.tt_symbolic_state.specs.Values.{Fits, Valuation, value};
 ghost use Rattle.tt_symbolic_state.specs.declared.cell.Cell.{Cell as AnyCell};
 ghost use Rattle.tt_symbolic_cells.specs.Stacking.{Restacks};
 
+use crate::failures::{too_few, unknown};
 use std::alloc::AllocError;
-use tt_setting::StepFault;
+use tt_setting::{Failed, Role, StepFault};
 use tt_code::Reason;
 use tt_code::kinds::StackOp;
 use tt_symbolic_state::cell::{Cell, Range, known, number};
@@ -17,13 +18,13 @@ use tt_symbolic_state::stack::Stack;
 /// Returns the cell under `taken` others.
 ///
 /// # Errors
-/// `Underflow` where there is no such cell.
-pub fn cell_under(stack: &Stack, taken: usize) -> Result<Cell, Reason>
+/// `TooFew` where there is no such cell.
+pub fn cell_under(stack: &Stack, taken: usize) -> Result<Cell, Failed>
     ensures { IfOk result (λ c. drop taken stack.now ≡ c ∷ drop (taken + 1) stack.now) }
 {
     match stack.under(taken) {
         Some(cell) => Ok(cell),
-        None => Err(Reason::Underflow),
+        None => Err(too_few(stack, 0)),
     }
 }
 
@@ -78,7 +79,7 @@ fn push_depth(stack: &mut Stack, ranges: &[Range]) -> Result<(), StepFault>
 }
 
 /// Reads the index on top: returns how many cells lie above the cell that it names.
-fn indexed(stack: &Stack, ranges: &[Range]) -> Result<usize, Reason>
+fn indexed(stack: &Stack, ranges: &[Range]) -> Result<usize, Failed>
     ensures { IfOk result (λ n. (c : AnyCell) × (drop 0 stack.now ≡ c ∷ drop 1 stack.now)
         × ((v : Valuation) → Fits ranges.now v → value v c ≡ pos (suc n))) }
 {
@@ -86,9 +87,25 @@ fn indexed(stack: &Stack, ranges: &[Range]) -> Result<usize, Reason>
     match number(top, ranges) {
         Some(index) => match usize::try_from(index) {
             Ok(n) if n > 0 => Ok(n - 1),
-            _ => Err(Reason::Count),
+            _ => Err(Failed::LowIndex { index }),
         },
-        None => Err(Reason::UnknownOperand),
+        None => Err(unknown(Role::StackIndex, 0)),
+    }
+}
+
+/// Returns the test that fails where there is no cell under this many others, which an index names.
+fn no_element(above: usize) -> Failed {
+    let index = i32::try_from(above.saturating_add(1)).unwrap_or(i32::MAX);
+    Failed::NoElement { index }
+}
+
+/// Returns the cell under this many others, which an index names.
+fn element(stack: &Stack, above: usize) -> Result<Cell, Failed>
+    ensures { IfOk result (λ c. drop above stack.now ≡ c ∷ drop (above + 1) stack.now) }
+{
+    match stack.under(above) {
+        Some(cell) => Ok(cell),
+        None => Err(no_element(above)),
     }
 }
 
@@ -98,7 +115,7 @@ fn copy_indexed(stack: &mut Stack, ranges: &[Range]) -> Result<(), StepFault>
 {
     let above = indexed(stack, ranges)?;
     stack.cut(1);
-    let cell = cell_under(stack, above)?;
+    let cell = element(stack, above)?;
     stack.push(cell)?;
     Ok(())
 }
@@ -109,9 +126,9 @@ fn move_indexed(stack: &mut Stack, ranges: &[Range]) -> Result<(), StepFault>
 {
     let above = indexed(stack, ranges)?;
     stack.cut(1);
-    let cell = cell_under(stack, above)?;
+    let cell = element(stack, above)?;
     if above >= stack.len() {
-        return Err(StepFault::from(Reason::Underflow));
+        return Err(StepFault::from(no_element(above)));
     }
     stack.remove(above);
     stack.push(cell)?;

@@ -8,7 +8,7 @@ ghost use Rattle.tt_setting.specs.Settings.{setting_of};
 ghost use Rattle.tt_symbolic_state.specs.Values.{Valuation, value};
 ghost use Rattle.tt_symbolic_state.specs.Shows.{graphics_of, zone_number};
 
-use tt_setting::{Kind, Setting};
+use tt_setting::{Kind, Setting, ZoneCell};
 use tt_code::Graphics;
 use tt_code::kinds::{Pointer, Reference, Within};
 use tt_symbolic_state::cell::Cell;
@@ -106,6 +106,32 @@ pub fn points_within(setting: &Setting<'_>, graphics: &Graphics<Cell, Zone>, wit
             let points = points_in(setting, Zone::One);
             points.min(points_in(setting, pointer(graphics, p)))
         }
+    }
+}
+
+/// Returns what is known of a zone that is known.
+pub fn cell_of(zone: Zone) -> ZoneCell {
+    match zone {
+        Zone::Zero => ZoneCell::Zero,
+        Zone::One => ZoneCell::One,
+    }
+}
+
+/// Returns the zone that both are, or either one where they differ.
+fn both_zones(one: Zone, other: Zone) -> ZoneCell {
+    if one == other {
+        cell_of(one)
+    } else {
+        ZoneCell::Either
+    }
+}
+
+/// Returns the zone in which a point is tested, or either one where it is tested in both.
+pub fn zone_within(graphics: &Graphics<Cell, Zone>, within: Within) -> ZoneCell {
+    match within {
+        Within::In(p) => cell_of(pointer(graphics, p)),
+        Within::Both(p, q) => both_zones(pointer(graphics, p), pointer(graphics, q)),
+        Within::GlyphAnd(p) => both_zones(Zone::One, pointer(graphics, p)),
     }
 }
 

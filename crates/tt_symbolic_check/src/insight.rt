@@ -1,7 +1,7 @@
 //! What a search tells of a program for those who explain its answer.
 
 use crate::site::Site;
-use tt_setting::{Kind, Spot};
+use tt_setting::{Failed, Kind, Spot};
 use tt_symbolic_state::cell::Cell;
 use tt_symbolic_state::state::State;
 
@@ -71,6 +71,15 @@ impl KnownState {
     }
 }
 
+/// A state that was refused.
+#[derive(Drop)]
+pub struct RefusedState {
+    /// The state, before the instruction that was refused.
+    pub known: KnownState,
+    /// The test of that instruction that failed.
+    pub failed: Failed,
+}
+
 /// What the search tells of a program: of its last trial, the one that found something, or whose
 /// refusal it answered.
 pub struct Insight {
@@ -83,7 +92,7 @@ pub struct Insight {
     /// How many steps the check may make; 0 after a refusal.
     pub checked: u64,
     /// The state that was refused; none where no instruction is refused.
-    pub refused: Option<KnownState>,
+    pub refused: Option<RefusedState>,
     /// The first states that came to the site that was asked for.
     pub seen: Vec<KnownState>,
     /// Whether more states came there.

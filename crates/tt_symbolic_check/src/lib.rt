@@ -16,7 +16,7 @@ mod walk;
 pub use checking::check;
 pub use copying::{Split, copied, copy_into, lower, raise};
 pub use covering::{covers, has_functions};
-pub use insight::{Insight, KnownState, Question, SymbolOrigin};
+pub use insight::{Insight, KnownState, Question, RefusedState, SymbolOrigin};
 pub use site::{START, Site, too_many_steps};
 pub use splits::{Decision, decision_of, wanted};
 pub use start::{Start, start_state};

@@ -37,4 +37,4 @@ mod waiting;
 mod writes;
 
 pub use search::{Found, Search, USUAL_SEARCH};
-pub use tt_symbolic_check::{Insight, KnownState, Question, SymbolOrigin};
+pub use tt_symbolic_check::{Insight, KnownState, Question, RefusedState, SymbolOrigin};

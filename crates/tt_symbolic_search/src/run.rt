@@ -18,14 +18,14 @@ use crate::waiting::Waiting;
 use crate::writes::Writes;
 use std::alloc::{AllocError, Global};
 use std::mem;
-use tt_setting::{Kind, Refusal, Setting, StepFault};
+use tt_setting::{Failed, Kind, Refusal, Setting, StepFault};
 use tt_code::block_keyword::BlockKeyword;
 use tt_code::{Reason, keyword_of_code};
 use tt_symbolic::kept::Kept;
 use tt_symbolic::step::code_at;
 use tt_symbolic_check::{
-    Insight, Question, START, Site, Start, decision_of, is_at_end, lower, raise, start_state,
-    wanted,
+    Insight, Question, RefusedState, START, Site, Start, decision_of, is_at_end, lower, raise,
+    start_state, wanted,
 };
 
 /// How many steps a state makes beside another one before it is put down.
@@ -75,12 +75,17 @@ impl Stop {
         Stop::new(alloc, START, StepFault::from(Reason::TooManySteps))
     }
 
-    /// Returns the reason for which the program is refused, if it is.
-    pub(crate) fn reason(&self) -> Option<Reason> {
+    /// Returns the test that failed, if the program is refused.
+    pub(crate) fn failed(&self) -> Option<Failed> {
         match &self.fault {
-            StepFault::Refused(failed) => Some(failed.reason()),
+            StepFault::Refused(failed) => Some(*failed),
             StepFault::OutOfMemory(_) => None,
         }
+    }
+
+    /// Returns the reason for which the program is refused, if it is.
+    pub(crate) fn reason(&self) -> Option<Reason> {
+        Some(self.failed()?.reason())
     }
 
     /// Returns the refusal, of the instruction at its place.
@@ -361,19 +366,23 @@ impl Run {
         Ok(())
     }
 
-    /// Takes out what is told of the run to explain it: also of the last state, if that was refused.
+    /// Takes out what is told of the run to explain it: also of the last state, if that was refused
+    /// where this test failed.
     pub(crate) fn insight(
         &mut self,
         alloc: Global,
         origins: &Origins,
-        is_refused: bool,
+        failed: Option<Failed>,
     ) -> Result<Insight, AllocError> {
         let mut seen = Vec::new(alloc);
         for track in mem::replace(&mut self.seen, Vec::new(alloc)) {
             seen.push(known_state(alloc, origins, track)?)?;
         }
-        let refused = match self.last.take() {
-            Some(track) if is_refused => Some(known_state(alloc, origins, track)?),
+        let refused = match (self.last.take(), failed) {
+            (Some(track), Some(failed)) => Some(RefusedState {
+                known: known_state(alloc, origins, track)?,
+                failed,
+            }),
             _ => None,
         };
         Ok(Insight {

@@ -226,8 +226,11 @@ impl Search {
     /// Notes what a run tells, where its answer is to be explained.
     fn note_run(&mut self, run: &mut Run, stop: Option<&Stop>) -> Result<(), AllocError> {
         if self.question.is_some() {
-            let is_refused = stop.is_some() && run.first_write.is_none();
-            let insight = run.insight(self.alloc, &self.merges.origins, is_refused)?;
+            let failed = match stop {
+                Some(stop) if run.first_write.is_none() => stop.failed(),
+                _ => None,
+            };
+            let insight = run.insight(self.alloc, &self.merges.origins, failed)?;
             self.insight = Some(insight);
         }
         Ok(())

@@ -166,10 +166,8 @@ fn origin_of_result(
         Effect::Arithmetic(operation) if takes_one(*operation) => Ok(element_origin(track, 0)),
         Effect::Arithmetic(_) => origin_of_two(merges, track),
         Effect::Plain(line) => match refinement(code) {
-            Refinement::Greatest
-            | Refinement::Least
-            | Refinement::Product
-            | Refinement::Quotient => origin_of_two(merges, track),
+            Refinement::Greatest | Refinement::Least | Refinement::Product | Refinement::Quotient =>
+                origin_of_two(merges, track),
             Refinement::Floor | Refinement::Ceiling => Ok(element_origin(track, 0)),
             Refinement::ReadsControl => Ok(read_origin(merges, track, Area::Controls)),
             Refinement::WritesControl
