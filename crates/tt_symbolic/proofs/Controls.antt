@@ -1,5 +1,7 @@
 -- Control instructions on a state.
 use Rattle.std.proofs.Common.{◌≡◌, ℕ, zero, suc, ◌+◌, ◌<◌, ◌≤◌, ℤ, pos, negsuc, ◌+ℤ◌, ◌-ℤ◌, ◌≤ℤ◌, List, [], ◌∷◌, ◌++◌, reverse, Ok, Some, Bool, true, false, not, nat_lt, nat_le, refl, sym, ◌∙◌, ap, subst, arith, length, get_or}
+use Rattle.std.specs.Prelude.{Option, None, MatchOption}
+use Rattle.std.specs.Option.{option_to_list}
 use mathlib.Core.Bool.{beq}
 use Rattle.std.proofs.lemmas.Int.{ints}
 use Rattle.std.proofs.lemmas.List.{length-map, reverse-append}
@@ -26,6 +28,11 @@ use Rattle.tt_symbolic.specs.Representation.Leading.{Closes, GoesTo, IsAt, IsKno
 use Rattle.tt_symbolic.specs.Sound.{IsShownBy, Pops, Sound, keeps_controls}
 use Rattle.tt_symbolic.proofs.AreaFacts.{eq_other, eq_same, listed_here, listed_there, split_at}
 use Rattle.tt_symbolic.proofs.Works.{moves_fits, moves_shows, pops_shows, pops_fits, same_controls}
+
+-- the frame, if there is one, as the frames of a point
+pub at_frames : (frame : Option Frame) (frames : List Frame) (calls : List OpenCall) → MatchOption frame (frames ≡ []) (λ f. frames ≡ f ∷ []) → SameBody (option_to_list frame) calls → SameBody (reverse frames) calls
+at_frames None frames calls is same = subst (λ (fs : List Frame). SameBody (reverse fs) calls) (sym is) same
+at_frames (Some f) frames calls is same = subst (λ (fs : List Frame). SameBody (reverse fs) calls) (sym is) same
 
 -- What depends on the frames is the same where the same body runs.
 

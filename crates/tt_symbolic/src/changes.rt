@@ -9,8 +9,8 @@ ghost use Rattle.tt_symbolic_state.specs.Shows.{values, zone_number};
 ghost use Rattle.tt_symbolic.specs.Representation.Changing.{Changes, ChangesAll, StoresAt, StoresBetween};
 
 use crate::areas::forget;
-use tt_setting::{Failed, StepFault};
 use tt_code::kinds::{NewNumber, Pointer, Reference, Update};
+use tt_setting::{Failed, StepFault};
 use tt_symbolic_cells::{UNDECIDED, reference, set_pointer, set_reference, too_few};
 use tt_symbolic_state::cell::{Cell, Range, bounds, is_in_machine, known, number};
 use tt_symbolic_state::stack::Stack;

@@ -6,8 +6,8 @@ ghost use Rattle.tt_symbolic_cells.specs.Answers.{IsAnswer, takes_one as takes_o
 ghost use Rattle.tt_symbolic.specs.Sound.{Computes, Puts};
 
 use crate::push::{pop, put};
-use tt_setting::StepFault;
 use tt_code::kinds::Arithmetic;
+use tt_setting::StepFault;
 use tt_symbolic_cells::{Answer, result_of_one, result_of_two, takes_one};
 use tt_symbolic_state::cell::{Range, known};
 use tt_symbolic_state::state::{State, fresh};

@@ -1,8 +1,6 @@
 //! The instructions that lead elsewhere than to the next instruction.
 
 ghost use Rattle.std.specs.Prelude.{◌≡◌, ◌+◌, ◌≤◌, ℕ, ◌++◌, ◌∷◌, [], IfOk, OnOk, length, pos, true};
-ghost use Rattle.tt_code.specs.Control.{may_define as may_define_functions};
-ghost use Rattle.tt_code.specs.Settings.{body_name as name_of_body, is_target as is_jump_target};
 ghost use Rattle.tt_code.specs.declared.kinds.Control.TheVariants as control;
 ghost use Rattle.tt_setting.specs.Settings.{frames_of, setting_of};
 ghost use Rattle.tt_symbolic_state.specs.Values.{Fits, Valuation, value};
@@ -10,10 +8,10 @@ ghost use Rattle.tt_symbolic.specs.Representation.Leading.{Closes, GoesTo, IsAt,
 
 use crate::push::pop;
 use std::alloc::AllocError;
-use tt_setting::setting::body_offset;
-use tt_setting::{Failed, Kind, Point, Role, Setting, SortedMap, StepFault};
 use tt_code::Reason;
 use tt_code::kinds::Control;
+use tt_setting::setting::body_offset;
+use tt_setting::{Failed, Point, Role, Setting, SortedMap, StepFault};
 use tt_symbolic_cells::{UNDECIDED, too_deep, truth_of, unknown};
 use tt_symbolic_state::cell::{Cell, Range, bounds, difference, known, number};
 use tt_symbolic_state::state::{OpenCall, State};
@@ -81,20 +79,13 @@ fn skip_else(setting: &Setting<'_>, point: &Point<'_>, state: &mut State) -> Res
     Ok(())
 }
 
-/// Whether control may jump from the point to an offset.
-fn is_target(setting: &Setting<'_>, point: &Point<'_>, target: u32) -> bool
-    ensures { result ≡ is_jump_target (setting_of setting.now) (frames_of point.now) (pos target) }
-{
-    setting.starts(point, target) || setting.is_end(point, target)
-}
-
 /// Returns the offset to which a jump by this distance leads.
 fn jump_target(setting: &Setting<'_>, point: &Point<'_>, by: i32) -> Result<u32, Failed>
     ensures { IfOk result (JumpsTo setting.now point.now by) }
 {
     match u32::try_from(i64::from(point.offset) + i64::from(by)) {
         Ok(target) => {
-            if is_target(setting, point, target) {
+            if setting.is_target(point, i64::from(target)) {
                 Ok(target)
             } else {
                 Err(Failed::NoTarget { by })
@@ -162,30 +153,6 @@ fn jump_if(
     }
 }
 
-/// Whether the program may define functions.
-fn may_define(setting: &Setting<'_>) -> bool
-    ensures { result ≡ may_define_functions (setting_of setting.now).kind }
-{
-    match setting.kind {
-        Kind::Font => true,
-        Kind::Cvt => true,
-        Kind::Glyph { .. } => false,
-    }
-}
-
-/// Returns the name of a body that the program defines at an offset.
-fn body_name(setting: &Setting<'_>, offset: u32) -> Result<u32, Failed>
-    ensures { IfOk result (λ n. n ≡ name_of_body (setting_of setting.now).kind offset) }
-{
-    match setting.kind {
-        Kind::Cvt => match offset.checked_add(1 << 31) {
-            Some(name) => Ok(name),
-            None => Err(NO_END),
-        },
-        _ => Ok(offset),
-    }
-}
-
 /// Returns the number of a function.
 fn function_number(number: i32) -> Result<u16, Failed>
     ensures { IfOk result (λ n. number ≡ pos n) }
@@ -201,7 +168,7 @@ fn define(setting: &Setting<'_>, point: &Point<'_>, state: &mut State) -> Result
     requires { IsAt point.now state.old }
     ensures { OnOk result (Leads setting.now control.FunctionDefinition state.old state.new) }
 {
-    if !may_define(setting) {
+    if !setting.may_define() {
         return Err(StepFault::from(Reason::Definition));
     }
     let top = pop(state, 0)?;
@@ -214,7 +181,10 @@ fn define(setting: &Setting<'_>, point: &Point<'_>, state: &mut State) -> Result
         return Err(StepFault::from(NO_END));
     };
     let start = next_offset(point)?;
-    let body = body_name(setting, start)?;
+    if start >= 1 << 31 {
+        return Err(StepFault::from(NO_END));
+    }
+    let body = setting.body_name(start);
     state.functions.put(function, body)?;
     state.offset = after;
     Ok(())

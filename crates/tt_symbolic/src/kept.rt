@@ -12,10 +12,10 @@ ghost use Rattle.tt_symbolic.specs.Steps.{StepsTo};
 
 use crate::changes::index_bounds;
 use crate::refined::pair_count;
-use crate::step::{frame_of, innermost, perform};
-use tt_setting::{Point, Setting, StepFault};
+use crate::step::{innermost, perform};
 use tt_code::kinds::Update;
 use tt_code::{Effect, Instr, Reason, Refinement, Written, entry, refinement, written};
+use tt_setting::{Point, Setting, StepFault};
 use tt_symbolic_cells::cell_under;
 use tt_symbolic_state::cell::{Cell, Range};
 use tt_symbolic_state::state::State;
@@ -196,24 +196,12 @@ fn keeps_at(setting: &Setting<'_>, point: &Point<'_>, state: &State, kept: &Kept
 pub fn keeps(setting: &Setting<'_>, state: &State, kept: &Kept<'_>) -> bool
     ensures { result ≡ true → StepsKeep (setting_of setting.now) kept.now state.now }
 {
-    let offset = state.offset;
-    match innermost(state) {
-        None => {
-            let point = Point {
-                frames: &[],
-                offset,
-            };
-            keeps_at(setting, &point, state, kept)
-        }
-        Some(call) => {
-            let frames = [frame_of(call)];
-            let point = Point {
-                frames: &frames,
-                offset,
-            };
-            keeps_at(setting, &point, state, kept)
-        }
-    }
+    let frame = innermost(state);
+    let point = Point {
+        frames: frame.as_slice(),
+        offset: state.offset,
+    };
+    keeps_at(setting, &point, state, kept)
 }
 
 /// Carries out the instruction at the state's point, if one starts there and it writes none of the
@@ -254,22 +242,10 @@ pub fn step_keeping(
     ensures steps { OnOk result (StepsTo setting.now state.old state.new) }
     ensures keeps { OnOk result (StepsKeep (setting_of setting.now) kept.now state.old) }
 {
-    let offset = state.offset;
-    match innermost(state) {
-        None => {
-            let point = Point {
-                frames: &[],
-                offset,
-            };
-            step_keeping_at(setting, &point, kept, state)
-        }
-        Some(call) => {
-            let frames = [frame_of(call)];
-            let point = Point {
-                frames: &frames,
-                offset,
-            };
-            step_keeping_at(setting, &point, kept, state)
-        }
-    }
+    let frame = innermost(state);
+    let point = Point {
+        frames: frame.as_slice(),
+        offset: state.offset,
+    };
+    step_keeping_at(setting, &point, kept, state)
 }

@@ -8,8 +8,8 @@ ghost use Rattle.tt_symbolic.specs.Sound.{Puts};
 
 use crate::changes::{index_of, taken, update_all};
 use crate::push::put;
-use tt_setting::{Setting, StepFault};
 use tt_code::kinds::{Pushed, Row, Update};
+use tt_setting::{Setting, StepFault};
 use tt_symbolic_cells::{UNDECIDED, take_operands, test_uses};
 use tt_symbolic_state::cell::{Cell, FULL};
 use tt_symbolic_state::state::{State, fresh};

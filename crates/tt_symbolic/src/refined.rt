@@ -13,8 +13,8 @@ use crate::changes::{index_bounds, index_of};
 use crate::compute::put_answer;
 use crate::plain::{cut, execute_plain, put_any, put_control};
 use crate::push::pop;
-use tt_setting::{Failed, Role, Setting, StepFault};
 use tt_code::kinds::Row;
+use tt_setting::{Failed, Role, Setting, StepFault};
 use tt_symbolic_cells::{
     Exact, Named, UNDECIDED, answer_of_one, answer_of_two, cell_under, failed_index, is_index,
     unknown, unknown_index,

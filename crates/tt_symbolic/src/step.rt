@@ -1,12 +1,13 @@
 //! What an instruction makes of a symbolic state.
 
-ghost use Rattle.std.specs.Prelude.{◌≡◌, OnOk, Some, true, ℕ};
+ghost use Rattle.std.specs.Prelude.{◌≡◌, OnOk, Some, true, ℕ, reverse};
+ghost use Rattle.std.specs.Option.{option_to_list};
 ghost use Rattle.tt_code.specs.Cut.{code_of};
 ghost use Rattle.tt_setting.specs.Settings.{point_instruction};
 ghost use Rattle.tt_setting.specs.Settings.{setting_of};
 ghost use Rattle.tt_code.specs.declared.kinds.Refinement.TheVariants.{ChangesControls};
 ghost use Rattle.tt_code.specs.Table.{refinement_of};
-ghost use Rattle.tt_symbolic.specs.Representation.Leading.{IsAt, IsInnermost};
+ghost use Rattle.tt_symbolic.specs.Representation.Leading.{IsAt, SameBody};
 ghost use Rattle.tt_symbolic.specs.Sound.{keeps_controls};
 ghost use Rattle.tt_symbolic.specs.Steps.{CarriesOut, Dispatches, StepsTo, always, refined_by};
 
@@ -17,10 +18,10 @@ use crate::refined::{
     change_control, change_controls, compute_exact_of_one, compute_exact_of_two, read_control,
     write_control,
 };
-use tt_setting::{Point, Setting, StepFault};
 use tt_code::{Effect, Frame, Instr, Reason, Refinement, entry, refinement};
+use tt_setting::{Point, Setting, StepFault};
 use tt_symbolic_cells::{Exact, push_data, shuffle, too_deep};
-use tt_symbolic_state::state::{OpenCall, State};
+use tt_symbolic_state::state::State;
 
 /// Carries out an instruction that goes on at the next one, by its effect.
 fn execute_ordinary(
@@ -114,25 +115,18 @@ fn dispatch(
     }
 }
 
-/// Makes a frame of the same body, in its only turn.
-pub(crate) fn frame_of(call: OpenCall) -> Frame
-    ensures { result.body ≡ call.body }
-{
-    Frame {
-        body: call.body,
-        call: call.call,
-        turn: 1,
-        count: 1,
-    }
-}
-
-/// Returns the innermost call that hasn't returned, if there is one.
-pub(crate) fn innermost(state: &State) -> Option<OpenCall>
-    ensures { IsInnermost state.now result }
+/// Returns the innermost call that hasn't returned, as a frame in its only turn, if there is one.
+pub(crate) fn innermost(state: &State) -> Option<Frame>
+    ensures { SameBody (option_to_list result) (reverse state.now.calls.items) }
 {
     match state.calls.as_slice() {
         [] => None,
-        [.., call] => Some(*call),
+        [.., call] => Some(Frame {
+            body: call.body,
+            call: call.call,
+            turn: 1,
+            count: 1,
+        }),
     }
 }
 
@@ -170,55 +164,26 @@ fn step_at(setting: &Setting<'_>, point: &Point<'_>, state: &mut State) -> Resul
 /// the state's content is unspecified.
 ///
 /// # Errors
-/// `Refused` where a machine that the state shows may fault, or where not enough is known;
-/// `OutOfMemory`.
+/// `Refused` where a machine that the state shows may fault, or where not enough is known, with the
+/// first test that fails; `OutOfMemory`.
 pub fn step(setting: &Setting<'_>, state: &mut State) -> Result<(), StepFault>
     ensures { OnOk result (StepsTo setting.now state.old state.new) }
 {
-    let offset = state.offset;
-    match innermost(state) {
-        None => {
-            let point = Point {
-                frames: &[],
-                offset,
-            };
-            step_at(setting, &point, state)
-        }
-        Some(call) => {
-            let frames = [frame_of(call)];
-            let point = Point {
-                frames: &frames,
-                offset,
-            };
-            step_at(setting, &point, state)
-        }
-    }
-}
-
-/// Returns the code of the instruction at a point, if one starts there.
-fn code_there(setting: &Setting<'_>, point: &Point<'_>) -> Option<u8> {
-    let instr = setting.program(point).at(point.offset)?;
-    Some(instr.code())
+    let frame = innermost(state);
+    let point = Point {
+        frames: frame.as_slice(),
+        offset: state.offset,
+    };
+    step_at(setting, &point, state)
 }
 
 /// Returns the code of the instruction where the state is, if one starts there.
 pub fn code_at(setting: &Setting<'_>, state: &State) -> Option<u8> {
-    let offset = state.offset;
-    match innermost(state) {
-        None => {
-            let point = Point {
-                frames: &[],
-                offset,
-            };
-            code_there(setting, &point)
-        }
-        Some(call) => {
-            let frames = [frame_of(call)];
-            let point = Point {
-                frames: &frames,
-                offset,
-            };
-            code_there(setting, &point)
-        }
-    }
+    let frame = innermost(state);
+    let point = Point {
+        frames: frame.as_slice(),
+        offset: state.offset,
+    };
+    let instr = setting.program(&point).at(point.offset)?;
+    Some(instr.code())
 }

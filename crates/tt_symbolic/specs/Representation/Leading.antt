@@ -27,11 +27,6 @@ pub record IsAt (point : Point) (a : State) : Type 0 where
   pub offset_is : point.offset ≡ a.offset
   pub same_body : SameBody (frames_of point) (reverse a.calls.items)
 
--- the call is the state's innermost one, if it has one
-abbrev pub IsInnermost : State → Option OpenCall → Type 0
-IsInnermost a None = a.calls.items ≡ []
-IsInnermost a (Some call) = (outer : List OpenCall) × (a.calls.items ≡ outer ++ call ∷ [])
-
 -- the control instruction is carried out
 abbrev pub Leads : Setting → Control → State → State → Type 0
 Leads setting op old new = Sound (λ m. controlled (setting_of setting) m op) keeps_controls old new

@@ -1,19 +1,6 @@
-use Rattle.std.proofs.Common.{◌∷◌, [], List, reverse, refl, ap, sym, ◌∙◌, subst}
-use Rattle.std.proofs.lemmas.List.{reverse-append}
-use Rattle.tt_symbolic_state.specs.declared.state.OpenCall.{OpenCall}
-use Rattle.tt_symbolic.specs.Representation.Leading.{SameBody}
+use Rattle.std.proofs.Common.{refl}
+use Rattle.tt_symbolic.proofs.Controls.{at_frames}
 use Rattle.tt_symbolic.proofs.kept.keeps.Goals as goal
 
 pub keeps_at-requires : goal.keeps_at-requires
-keeps_at-requires c = record {
-  offset_is = refl;
-  same_body = subst (λ (l : List OpenCall). SameBody [] (reverse l)) (sym (rw c.in-None.is at c.innermost.ensures)) tt;
-}
-
-pub keeps_at-requires-in-Some : goal.keeps_at-requires-in-Some
-keeps_at-requires-in-Some c =
-    let (outer, is) = c.in-Some.ensures in
-    record {
-      offset_is = refl;
-      same_body = subst (λ (l : List OpenCall). SameBody (c.frame_of.result ∷ []) l) (sym (ap reverse is ∙ reverse-append outer (c.in-Some.call ∷ []))) c.frame_of.ensures;
-    }
+keeps_at-requires c = record { offset_is = refl; same_body = at_frames c.innermost.result c.as_slice.result.now _ c.as_slice.ensures c.innermost.ensures }
