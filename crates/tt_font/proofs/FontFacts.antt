@@ -1,14 +1,14 @@
 -- What holds of a font file that is read without a fault.
 use Rattle.std.proofs.Common.{◌≡◌, ℕ, ◌+◌, ◌-◌, ◌*◌, ◌<◌, ◌≤◌, List, [], ◌∷◌, length, take, drop, Bool, true, false, nat_lt, Option, Some, None, refl, arith, length-drop}
-use Rattle.std.specs.Prelude.{nat_le, ◌&&◌, ◌||◌, is_some}
+use Rattle.std.specs.Prelude.{nat_le, ◌||◌, is_some}
 use Rattle.std.specs.Option.{option_map, option_map_or}
 use Rattle.std.proofs.lemmas.Bool.{leb-true, ltb-true}
 use Rattle.std.proofs.lemmas.List.{length-take-le}
 use Rattle.tt_font.specs.declared.fault.FontFault.{FontFault}
 use Rattle.tt_font.specs.declared.fault.FontFault.TheVariants as faults
 use Rattle.tt_font.specs.declared.tag.Tag.{Tag}
-use Rattle.tt_font.specs.declared.tag.Tag.TheVariants.{Cvt, Fpgm, Glyf, Head, Loca, Maxp, Prep}
-use Rattle.tt_font.specs.Conditions.{Condition, first, unless, ends_before, no_sfnt, directory_fault, lies_in, missing, outside, table_fault, optional_table_fault, maxp_is_short, no_maxp_version, maxp_fault, unknown_format, loca_fault, misplaced_entry, glyph_fault, composite_fault, glyphs_fault, refused_glyph}
+use Rattle.tt_font.specs.declared.tag.Tag.TheVariants.{Glyf, Head, Loca, Maxp}
+use Rattle.tt_font.specs.Conditions.{Condition, first, unless, ends_before, no_sfnt, directory_fault, lies_in, missing, outside, table_fault, maxp_is_short, no_maxp_version, maxp_fault, unknown_format, loca_fault, misplaced_entry, glyph_fault, composite_fault, glyphs_fault, refused_glyph}
 use Rattle.tt_font.specs.Directory.{Extent, extent, record_count, table}
 use Rattle.tt_font.specs.FileFaults.{font_fault, table_conditions, tables_fault}
 use Rattle.tt_font.specs.Files.{font_glyph_count, font_glyphs, font_outlines}

@@ -5,12 +5,9 @@ use Rattle.std.specs.Option.{option_map}
 use Rattle.tt_font.specs.declared.fault.FontFault.{FontFault}
 use Rattle.tt_font.specs.declared.fault.FontFault.TheVariants as faults
 use Rattle.tt_font.specs.declared.tag.Tag.{Tag}
-use Rattle.tt_font.specs.declared.tag.Tag.TheVariants.{Cvt, Fpgm, Glyf, Head, Loca, Maxp, Prep}
 use Rattle.tt_font.specs.Conditions.{Condition, IsOutOfMemory, directory_fault, ends_before, first, loca_fault, maxp_fault, maxp_is_short, misplaced_entry, missing, no_maxp_version, no_sfnt, optional_table_fault, outside, table_fault, unknown_format, unless}
-use Rattle.tt_font.specs.Directory.{record_count, table}
-use Rattle.tt_font.specs.Files.{font_glyph_count}
+use Rattle.tt_font.specs.Directory.{record_count}
 use Rattle.tt_font.specs.FileFaults.{table_conditions, tables_fault}
-use Rattle.tt_font.specs.Locations.{loca_format}
 
 abbrev NeverMemory : Condition → Type 0
 NeverMemory c = (fault : FontFault) → c ≡ Some fault → IsOutOfMemory fault → ⊥

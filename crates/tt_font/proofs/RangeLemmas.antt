@@ -8,17 +8,17 @@ use Rattle.std.proofs.lemmas.Option.{get_or_from_slice_get, slice_get_within}
 use Rattle.tt_font.proofs.Placed.{and_right}
 use Rattle.tt_font.specs.Numbers.{u16_at}
 use Rattle.tt_font.specs.Directory.{Extent, extent, table}
-use Rattle.tt_font.specs.Conditions.{Condition, directory_fault, first, lies_in, loca_fault, maxp_fault, optional_table_fault, table_fault, unless}
+use Rattle.tt_font.specs.Conditions.{Condition, first, lies_in, optional_table_fault, unless}
 use Rattle.tt_font.specs.declared.tag.Tag.{Tag}
-use Rattle.tt_font.specs.declared.tag.Tag.TheVariants.{Cvt, Fpgm, Glyf, Head, Loca, Maxp, Prep}
+use Rattle.tt_font.specs.declared.tag.Tag.TheVariants.{Fpgm, Glyf, Maxp, Prep}
 use Rattle.tt_font.specs.declared.fault.FontFault.{FontFault}
 use Rattle.tt_font.specs.declared.fault.FontFault.TheVariants as faults
 use Rattle.tt_font.specs.Components.{last_of, components, has_instructions}
 use Rattle.tt_font.specs.Glyphs.{contour_count, is_composite, program_at, simple_program, composite_program, program_of}
 use Rattle.tt_font.specs.FileFaults.{program_most, table_conditions, tables_fault}
-use Rattle.tt_font.specs.Files.{font_glyph_count, font_glyphs}
-use Rattle.tt_font.specs.Locations.{glyph_bytes, loca_format}
-use Rattle.tt_font.specs.Reading.{FontData, GlyphData, Reads, glyph_at, no_glyph}
+use Rattle.tt_font.specs.Files.{font_glyphs}
+use Rattle.tt_font.specs.Locations.{glyph_bytes}
+use Rattle.tt_font.specs.Reading.{FontData, GlyphData, Reads, font_around, glyph_at, no_glyph}
 use Rattle.tt_code.specs.declared.limits.Limits.{Limits}
 use Rattle.tt_font.specs.Ranges.{AreFewBytes, IsFontInRange}
 
@@ -151,3 +151,15 @@ font_in_range bytes d h none reads = record {
       let G : GlyphData → Type 0 = λ x. AreFewBytes x.program in
       subst G is (subst HasFewBytes glyph.program (program_few (font_glyphs bytes id) (glyph_are_bytes bytes id h)));
 }
+
+pub around_in_range : (limits : Limits) (cvt_count : ℕ) (g : GlyphData) → limits.stack < 2 ^ 16 → AreFewBytes g.program → IsFontInRange (font_around limits cvt_count g)
+around_in_range limits cvt_count g depth few = record {
+  depth = depth;
+  fpgm = record { bytes = tt; few = omega arith };
+  prep = record { bytes = tt; few = omega arith };
+  glyphs = λ id h at. only_few id h at;
+}
+  where
+    only_few : (id : ℕ) (h : GlyphData) → slice_get (g ∷ []) id ≡ Some h → AreFewBytes h.program
+    only_few zero h at = let same : g ≡ h = cc in subst (λ (x : GlyphData). AreFewBytes x.program) same few
+    only_few (suc id) h at = absurd cc

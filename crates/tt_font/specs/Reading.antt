@@ -1,5 +1,5 @@
 -- What the bytes of a font file hold (OpenType specification, "Font tables").
-use Rattle.std.specs.Prelude.{◌≡◌, ℕ, ◌*◌, ◌<◌, ◌≤◌, List, [], length, slice_index_or, Some}
+use Rattle.std.specs.Prelude.{◌≡◌, ℕ, ◌*◌, ◌<◌, ◌≤◌, List, [], ◌∷◌, length, slice_index_or, Some}
 use Rattle.tt_code.specs.declared.limits.Limits.{Limits}
 use Rattle.tt_font.specs.declared.glyph_part.GlyphPart.{GlyphPart}
 use Rattle.tt_font.specs.declared.tag.Tag.TheVariants.{Fpgm, Prep}
@@ -24,6 +24,17 @@ pub record FontData : Type 0 where
   pub prep : List ℕ
   pub glyphs : List GlyphData
   pub component_reads : ℕ
+
+-- the font of this glyph alone, whose font program and CVT program are empty
+abbrev pub font_around : Limits → ℕ → GlyphData → FontData
+font_around limits cvt_count glyph = record {
+  limits = limits;
+  cvt_count = cvt_count;
+  fpgm = [];
+  prep = [];
+  glyphs = glyph ∷ [];
+  component_reads = 0;
+}
 
 -- a glyph without data
 abbrev pub no_glyph : GlyphData

@@ -1,11 +1,12 @@
 //! A whole font file: its limits, its programs and its glyphs (OpenType specification, "Font
 //! tables").
 
-ghost use Rattle.std.specs.Prelude.{◌≡◌, ◌*◌, IfOk, OnOk};
+ghost use Rattle.std.specs.Prelude.{◌≡◌, ◌*◌, ◌<◌, ◌^◌, IfOk, OnOk, length};
 ghost use Rattle.tt_font.specs.ComponentReads.{HasRoom, HasReadAtLeast, HasReadAtMost};
 ghost use Rattle.tt_font.specs.Representation.GlyphTables.{components_in, fault_in};
 ghost use Rattle.tt_font.specs.Representation.GlyphParts.{AreRead};
 ghost use Rattle.tt_font.specs.Conditions.{TestsWithMemory};
+ghost use Rattle.tt_font.specs.Ranges.{AreFewBytes};
 
 use crate::component::ComponentReader;
 use crate::fault::FontFault;
@@ -14,7 +15,7 @@ use crate::glyph_table::GlyphTable;
 use crate::iteration::outline_sizes;
 use crate::programs::{put_together, read_programs};
 use crate::tables::Tables;
-use std::alloc::Global;
+use std::alloc::{AllocError, Global};
 use std::marker::Model;
 use tt_code::Limits;
 
@@ -41,6 +42,14 @@ fn read_glyphs<'a>(
     let programs = read_programs(alloc, glyphs, reader)?;
     let sizes = outline_sizes(alloc, glyphs, reader)?;
     put_together(alloc, &programs, &sizes, glyphs.count)
+}
+
+/// States that a program of fewer than 2^31 bytes is in its range, as is always so.
+fn program_facts(program: &[u8])
+    requires { length program.now < 2 ^ 31 }
+    ensures { AreFewBytes program.now }
+{
+    let _ = program;
 }
 
 /// A font file, read: the limits of its programs, and its programs as slices of the file (OpenType
@@ -89,12 +98,12 @@ impl<'a> Model for Font<'a> {
 }
 
 impl<'a> Font<'a> {
-    ghost use Rattle.std.specs.Prelude.{◌≡◌, None, IfErr, IfOk, length, slice_get};
+    ghost use Rattle.std.specs.Prelude.{◌≡◌, ◌<◌, ◌^◌, None, IfErr, IfOk, length, slice_get};
     ghost use Rattle.std.specs.Option.{option_map};
     ghost use Rattle.tt_font.specs.Conditions.{IsOutOfMemory, TestsWithMemory};
     ghost use Rattle.tt_font.specs.FileFaults.{font_fault, tables_fault};
     ghost use Rattle.tt_font.specs.Ranges.{IsFontInRange};
-    ghost use Rattle.tt_font.specs.Reading.{Reads, ReadsComponents, glyph_data};
+    ghost use Rattle.tt_font.specs.Reading.{Reads, ReadsComponents, font_around, glyph_data};
 
     /// Reads the bytes of a font file. No glyph and no program is copied, and the memory that is
     /// taken grows with the number of glyphs only, once `loca` is known to have an entry for each.
@@ -135,6 +144,35 @@ impl<'a> Font<'a> {
             prep: tables.prep,
             glyphs,
             component_reads: reader.reads(),
+        })
+    }
+
+    /// Makes the font of this glyph alone, whose font program and CVT program are empty.
+    ///
+    /// # Errors
+    ///
+    /// If memory runs out.
+    pub fn around(
+        alloc: Global,
+        limits: Limits,
+        cvt_count: u32,
+        glyph: GlyphPart<'a>,
+    ) -> Result<Font<'a>, AllocError>
+        requires { length glyph.program.now < 2 ^ 31 }
+        ensures { IfOk result (λ font. font
+            ≡ font_around limits cvt_count (glyph_data glyph.entry)) }
+    {
+        prove!(u32::from(limits.stack) < 1 << 16);
+        program_facts(glyph.program);
+        let mut glyphs = Vec::new(alloc);
+        glyphs.push(glyph)?;
+        Ok(Font {
+            limits,
+            cvt_count,
+            fpgm: &[],
+            prep: &[],
+            glyphs,
+            component_reads: 0,
         })
     }
 
