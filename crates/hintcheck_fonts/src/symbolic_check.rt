@@ -1,22 +1,25 @@
 //! The judge that searches and checks a program by symbolic states.
 
-ghost use Rattle.std.specs.Prelude.{◌≡◌, ℕ, List, IfErr, IfOk, IsTrue, OnOk, Some, refl};
+ghost use Rattle.std.specs.Prelude.{◌≡◌, ℕ, List, [], IfErr, IfOk, IsTrue, OnOk, Some, refl};
 ghost use Rattle.tt_setting.specs.Entries.{Ascends};
 ghost use Rattle.tt_setting.specs.Refusals.{IsOfNoBudget, told_reason};
 ghost use Rattle.tt_setting.specs.Settings.{setting_of};
 ghost use Rattle.tt_symbolic_font.specs.Known.{StartGlyphs};
+ghost use Rattle.hintcheck_fonts.specs.FontPrograms.{font_of};
 ghost use Rattle.hintcheck_fonts.specs.ProgramVerdicts.{with_start};
 ghost use Rattle.hintcheck_fonts.specs.SymbolicRefusals.{IsSymbolicAnswer, IsSymbolicRefusal, IsToldInTurn};
 ghost use Rattle.hintcheck_fonts.specs.Representation.FontVerdicts.{ComesToEnd};
-ghost use Rattle.hintcheck_fonts.specs.Representation.SymbolicChecks.{AreCheckedInTurn, IsCheckedBy, IsEnded, IsEndedBy, IsRunnable};
+ghost use Rattle.hintcheck_fonts.specs.Representation.SymbolicChecks.{AreBegun, IsCheckedBy, IsEnded, IsEndedBy, IsRunnable};
 
 use crate::judge::Judge;
+use crate::program::empty_program;
 use crate::report::Name;
 use std::alloc::{AllocError, Global};
 use std::mem;
 use tt_abs::{Kind, Refusal, Setting, SortedMap};
 use tt_code::Reason;
 use tt_family::{Budget, is_short};
+use tt_font::Font;
 use tt_symbolic::{Kept, NOTHING_KEPT};
 use tt_symbolic_check::{Effort, Start};
 use tt_symbolic_font::{Ends, GlyphStarts, check_before_glyphs, start_with};
@@ -155,56 +158,6 @@ fn starts_after(alloc: Global, search: &mut Search, ends: &Ends) -> Result<Glyph
     }
 }
 
-/// Checks the programs of a font of one glyph by what the search finds for each, in so many steps
-/// for all of them together.
-///
-/// # Errors
-/// Those of `Search::find`, of `check_before_glyphs` and of `check_glyph_program`.
-#[tactic(auto, using(crate::proofs::SymbolicAnswers::answer_in_turn, crate::proofs::SymbolicAnswers::memory_in_turn))]
-fn check_found(
-    alloc: Global,
-    search: &mut Search,
-    most_steps: u64,
-    font: &Setting<'_>,
-    cvt: &Setting<'_>,
-    glyph: &Setting<'_>,
-) -> Result<(), Refusal>
-    ensures checked { OnOk result (AreCheckedInTurn (setting_of font.now) (setting_of cvt.now)
-        (setting_of glyph.now)) }
-    ensures told { IfErr result IsToldInTurn }
-    ensures within { IfErr result IsOfNoBudget }
-{
-    let effort = effort_left(search, most_steps);
-    let first = check_to_end(alloc, search, effort, font, &[])?;
-    let functions = first.functions.as_slice();
-    let effort = effort_left(search, most_steps);
-    let second = check_to_end(alloc, search, effort, cvt, functions)?;
-    let starts = starts_after(alloc, search, &second)?;
-    let effort = effort_left(search, most_steps);
-    check_glyph(alloc, search, effort, glyph, &starts)
-}
-
-/// Searches and checks the programs of a font of one glyph, in so many steps for all of them
-/// together.
-///
-/// # Errors
-/// Those of `Search::find`, of `check_before_glyphs` and of `check_glyph_program`.
-pub(crate) fn check_in_turn(
-    alloc: Global,
-    most_steps: u64,
-    font: &Setting<'_>,
-    cvt: &Setting<'_>,
-    glyph: &Setting<'_>,
-) -> Result<(), Refusal>
-    ensures checked { OnOk result (AreCheckedInTurn (setting_of font.now) (setting_of cvt.now)
-        (setting_of glyph.now)) }
-    ensures told { IfErr result IsToldInTurn }
-    ensures within { IfErr result IsOfNoBudget }
-{
-    let mut search = Search::new(alloc);
-    check_found(alloc, &mut search, most_steps, font, cvt, glyph)
-}
-
 /// Returns what the search is asked about a program, where this is to be explained.
 fn question_on(explained: Option<(Name, Question)>, program: Name) -> Option<Question> {
     match explained {
@@ -301,6 +254,38 @@ impl SymbolicCheck {
             }
             Kind::Glyph { .. } => check_glyph(alloc, search, effort, setting, &self.starts),
         }
+    }
+
+    /// Judges the font program and the CVT program of a font in which both are empty, and makes the
+    /// starts of its glyph programs.
+    ///
+    /// # Errors
+    /// Those of `check`.
+    #[tactic(auto, using(crate::proofs::SymbolicAnswers::answer_in_turn, crate::proofs::SymbolicAnswers::memory_in_turn))]
+    pub(crate) fn pass_empty(&mut self, alloc: Global, font: &Font<'_>) -> Result<(), Refusal>
+        ensures begun { OnOk result (AreBegun (font_of font.now [] []) self.new.starts) }
+        ensures told { IfErr result IsToldInTurn }
+    {
+        let empty = empty_program(alloc)?;
+        let for_font = Setting {
+            limits: font.limits(),
+            cvt: font.cvt_count(),
+            kind: Kind::Font,
+            main: &empty,
+            font: &empty,
+            prep: &empty,
+            start: &[],
+        };
+        let for_cvt = Setting {
+            kind: Kind::Cvt,
+            ..for_font
+        };
+        self.check(alloc, &for_font, &[])?;
+        let first = self.take_ends(alloc);
+        self.check(alloc, &for_cvt, first.functions.as_slice())?;
+        let second = self.take_ends(alloc);
+        self.start_glyphs(alloc, &second)?;
+        Ok(())
     }
 
     /// Hands on the answer for a program, and notes where it is refused because it may write what the
