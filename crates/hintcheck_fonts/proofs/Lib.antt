@@ -24,6 +24,10 @@ pub mod FindingSteps
 pub mod SecondFindings
 pub mod FailedReads
 pub mod UpgradeReads
+pub mod EndAnswering
+pub mod Following
+pub mod SymbolicFonts
+pub mod StrictFonts
 pub mod SymbolicStarts
 pub mod SymbolicAnswers
 pub mod SymbolicSteps

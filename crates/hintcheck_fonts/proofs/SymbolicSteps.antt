@@ -8,12 +8,12 @@ use Rattle.tt_code.specs.Cut.{Instruction, size}
 use Rattle.tt_code.specs.Fonts.{Font, cvt_setting, font_setting, glyph_setting}
 use Rattle.tt_code.specs.Settings.{Setting}
 use Rattle.tt_font.specs.Reading.{FontData, GlyphData}
-use Rattle.tt_symbolic_font.proofs.Fonts.{safe}
+use Rattle.hintcheck_fonts.proofs.SymbolicFonts.{safe}
 use Rattle.tt_symbolic_state.specs.CvtMachine.{CvtMachine}
-use Rattle.tt_symbolic_font.specs.Known.{IsGlyphChecked, StartGlyphs, StartsKnowing}
-use Rattle.tt_symbolic_font.specs.Starts.{GlyphPrograms, StartsFontProgram}
-use Rattle.tt_symbolic_font.specs.declared.ends.Ends.{Ends}
-use Rattle.tt_symbolic_font.specs.declared.glyph_starts.GlyphStarts.{GlyphStarts}
+use Rattle.hintcheck_fonts.specs.SymbolicEnds.{IsGlyphChecked, StartGlyphs, StartsKnowing}
+use Rattle.hintcheck_fonts.specs.CvtStarts.{GlyphPrograms, StartsFontProgram}
+use Rattle.hintcheck_fonts.specs.declared.ends.Ends.{Ends}
+use Rattle.hintcheck_fonts.specs.declared.glyph_starts.GlyphStarts.{GlyphStarts}
 use Rattle.hintcheck_fonts.specs.FontPrograms.{cvt_subject, font_of, font_subject, glyph_subject, judgement_on}
 use Rattle.hintcheck_fonts.specs.Representation.ProgramOrder.{CanGoOn, IsJudgedBy, cvt_done, cvt_stops, font_done, font_stops, glyph_done, glyph_stops, next_program, skipped_to}
 use Rattle.hintcheck_fonts.specs.Representation.SessionStages.{ListsOutcome}

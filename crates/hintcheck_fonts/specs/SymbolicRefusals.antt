@@ -16,7 +16,7 @@ use Rattle.tt_setting.specs.declared.name.Name.TheVariants as name
 use Rattle.tt_family.specs.GoodFamilies.{IsShortEnough}
 use Rattle.tt_font.specs.Reading.{GlyphData}
 use Rattle.tt_symbolic_check.specs.Answers.{IsAnswerOfCheck}
-use Rattle.tt_symbolic_font.specs.Answers.{IsAnswerBeforeGlyphs}
+use Rattle.hintcheck_fonts.specs.EndAnswers.{IsAnswerBeforeGlyphs}
 use Rattle.tt_symbolic_search.specs.Answers.{IsAnswerOfSearch}
 use Rattle.hintcheck_fonts.specs.ProgramVerdicts.{IsProgramOf, IsUncut}
 use Rattle.hintcheck_fonts.specs.Programs.{Subject}

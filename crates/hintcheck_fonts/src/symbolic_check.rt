@@ -4,7 +4,7 @@ ghost use Rattle.std.specs.Prelude.{◌≡◌, ℕ, List, [], IfErr, IfOk, IsTru
 ghost use Rattle.tt_setting.specs.Entries.{Ascends};
 ghost use Rattle.tt_setting.specs.Refusals.{IsOfNoBudget, told_reason};
 ghost use Rattle.tt_setting.specs.Settings.{setting_of};
-ghost use Rattle.tt_symbolic_font.specs.Known.{StartGlyphs};
+ghost use Rattle.hintcheck_fonts.specs.SymbolicEnds.{StartGlyphs};
 ghost use Rattle.hintcheck_fonts.specs.FontPrograms.{font_of};
 ghost use Rattle.hintcheck_fonts.specs.ProgramVerdicts.{with_start};
 ghost use Rattle.hintcheck_fonts.specs.SymbolicRefusals.{IsSymbolicAnswer, IsSymbolicRefusal, IsToldInTurn};
@@ -22,7 +22,8 @@ use tt_family::{Budget, is_short};
 use tt_font::Font;
 use tt_symbolic::{Kept, NOTHING_KEPT};
 use tt_symbolic_check::{Effort, Start};
-use tt_symbolic_font::{Ends, GlyphStarts, check_before_glyphs, start_with};
+use crate::ends::{Ends, check_before_glyphs, start_with};
+use crate::glyph_starts::GlyphStarts;
 use tt_symbolic_search::{Insight, Question, Search, USUAL_SEARCH};
 
 /// Judges a program by symbolic states, which are found and checked. What was learnt from one program

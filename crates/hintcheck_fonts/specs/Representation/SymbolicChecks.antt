@@ -5,9 +5,9 @@ use Rattle.tt_code.specs.Fonts.{Font, cvt_setting, font_setting}
 use Rattle.tt_code.specs.Settings.{Setting}
 use Rattle.tt_family.specs.GoodFamilies.{IsShortEnough}
 use Rattle.tt_font.specs.Reading.{FontData, GlyphData}
-use Rattle.tt_symbolic_font.specs.Known.{AreEndsKnowing, IsGlyphChecked, IsSafeKnowing, StartGlyphs}
-use Rattle.tt_symbolic_font.specs.declared.ends.Ends.{Ends}
-use Rattle.tt_symbolic_font.specs.declared.glyph_starts.GlyphStarts.{GlyphStarts}
+use Rattle.hintcheck_fonts.specs.SymbolicEnds.{AreEndsKnowing, IsGlyphChecked, IsSafeKnowing, StartGlyphs}
+use Rattle.hintcheck_fonts.specs.declared.ends.Ends.{Ends}
+use Rattle.hintcheck_fonts.specs.declared.glyph_starts.GlyphStarts.{GlyphStarts}
 use Rattle.hintcheck_fonts.specs.FontPrograms.{cvt_subject, font_of, font_subject, glyph_subject}
 use Rattle.hintcheck_fonts.specs.ProgramVerdicts.{with_start}
 use Rattle.hintcheck_fonts.specs.Programs.{IsCutInto, Subject}
