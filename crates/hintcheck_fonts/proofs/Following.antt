@@ -99,3 +99,17 @@ made ends g states starts tested e s q follows all = record {
   followed = λ i a at. subst (λ (l : List Start). IsFollowed ends.functions l a) s (follows i a (subst (λ (l : List State). slice_get l i ≡ Some a) (sym e) at));
   within = λ i start at. all_found (IsWithin ends.functions g.storage.items g.controls.items) tested all i start (subst (λ (l : List Start). slice_get l i ≡ Some start) (sym q) at);
 }
+
+-- no state is among none
+pub shown_by_none : (states : List State) (m : CvtMachine) → states ≡ [] → IsShownByOne states m → ⊥
+shown_by_none states m none shown =
+    let e : slice_get [] shown.index ≡ Some shown.state = subst (λ (l : List State). slice_get l shown.index ≡ Some shown.state) none shown.found in cc
+
+-- functions that two lists have in common are in each of them
+pub common_left : (a b : List (ℕ × ℕ)) → Ascends a → CoversFunctions (common_entries nat_eq a b) a
+common_left a b ascends n body e =
+    sym (listed-named a n) ∙ (common_is_least (λ v. ⊤) nat_eq Decides-eqb a b (record { ascends = ascends; values = λ n v l. tt })).left n body (listed-named (common_entries nat_eq a b) n ∙ e)
+
+pub common_right : (a b : List (ℕ × ℕ)) → Ascends a → CoversFunctions (common_entries nat_eq a b) b
+common_right a b ascends n body e =
+    sym (listed-named b n) ∙ (common_is_least (λ v. ⊤) nat_eq Decides-eqb a b (record { ascends = ascends; values = λ n v l. tt })).right n body (listed-named (common_entries nat_eq a b) n ∙ e)

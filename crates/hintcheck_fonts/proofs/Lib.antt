@@ -24,7 +24,6 @@ pub mod FindingSteps
 pub mod SecondFindings
 pub mod FailedReads
 pub mod UpgradeReads
-pub mod EndAnswering
 pub mod Following
 pub mod SymbolicFonts
 pub mod StrictFonts

@@ -3,7 +3,7 @@ use Rattle.std.proofs.Common.{◌≡◌, ◌≤◌, ℕ, List, [], ◌∷◌, ar
 use Rattle.std.specs.List.{All}
 use Rattle.tt_code.specs.Cut.{Instruction}
 use Rattle.tt_code.specs.Fonts.{Font}
-use Rattle.tt_code.specs.declared.reason.Reason.TheVariants.{ProgramTooLong}
+use Rattle.tt_code.specs.declared.reason.Reason.TheVariants.{NeverEnds, ProgramTooLong}
 use Rattle.tt_setting.specs.Settings.{setting_of}
 use Rattle.tt_setting.specs.declared.exhausted.Exhausted.TheVariants.{Memory}
 use Rattle.tt_setting.specs.declared.failed.Failed.TheVariants.{Only}
@@ -16,7 +16,7 @@ use Rattle.tt_setting.specs.declared.name.Name.TheVariants as name
 use Rattle.tt_family.specs.GoodFamilies.{IsShortEnough}
 use Rattle.tt_font.specs.Reading.{GlyphData}
 use Rattle.tt_symbolic_check.specs.Answers.{IsAnswerOfCheck}
-use Rattle.hintcheck_fonts.specs.EndAnswers.{IsAnswerBeforeGlyphs}
+use Rattle.hintcheck_fonts.specs.SymbolicEnds.{NeverComesToEnd}
 use Rattle.tt_symbolic_search.specs.Answers.{IsAnswerOfSearch}
 use Rattle.hintcheck_fonts.specs.FontPrograms.{glyph_subject}
 use Rattle.hintcheck_fonts.specs.Representation.ProgramOrder.{IsJudgedBy}
@@ -24,7 +24,7 @@ use Rattle.hintcheck_report.specs.Places.{reported_at}
 use Rattle.tt_setting.specs.Refusals.{reason_of}
 use Rattle.hintcheck_fonts.specs.ProgramVerdicts.{IfRefused, IsProgramOf, IsUncut, no_cut, no_structure, with_start}
 use Rattle.hintcheck_fonts.specs.Programs.{Subject}
-use Rattle.hintcheck_fonts.specs.SymbolicRefusals.{IsRefusedAlone, IsSymbolicAnswer, IsSymbolicRefusal, IsToldInTurn, before_glyphs, checked, judged, out_of_memory, searched, told_in_turn, too_long, uncut, uncut_alone}
+use Rattle.hintcheck_fonts.specs.SymbolicRefusals.{IsRefusedAlone, IsSymbolicAnswer, IsSymbolicRefusal, IsToldInTurn, checked, judged, never_ends, out_of_memory, searched, told_in_turn, too_long, uncut, uncut_alone}
 use Rattle.hintcheck_report.specs.declared.refused.Refused.{Refused as AnyRefused}
 
 pub memory_answers : (s : Setting) (functions : List (ℕ × ℕ)) (refusal : Refusal) → refusal ≡ Exhausted Memory → IsSymbolicAnswer s functions refusal
@@ -33,8 +33,9 @@ memory_answers s functions refusal is = subst (λ (r : Refusal). IsSymbolicAnswe
 pub search_answers : (s : Setting) (functions : List (ℕ × ℕ)) (refusal : Refusal) → IsAnswerOfSearch s refusal → IsSymbolicAnswer s functions refusal
 search_answers s functions refusal answer = searched refusal answer
 
-pub ends_answer : (s : Setting) (functions : List (ℕ × ℕ)) (refusal : Refusal) → IsAnswerBeforeGlyphs s functions refusal → IsSymbolicAnswer s functions refusal
-ends_answer s functions refusal answer = before_glyphs refusal answer
+pub end_answers : (s : Setting) (functions : List (ℕ × ℕ)) (refusal : Refusal) → NeverComesToEnd (setting_of s) functions → refusal ≡ Refused Main 0 (Only NeverEnds)
+    → IsSymbolicAnswer s functions refusal
+end_answers s functions refusal never is = subst (λ (r : Refusal). IsSymbolicAnswer s functions r) (sym is) (never_ends never)
 
 pub check_answers : (s : Setting) (functions : List (ℕ × ℕ)) (refusal : Refusal) → IsAnswerOfCheck s refusal → IsSymbolicAnswer s functions refusal
 check_answers s functions refusal answer = checked refusal answer

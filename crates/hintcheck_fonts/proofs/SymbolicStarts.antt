@@ -11,8 +11,7 @@ use Rattle.tt_symbolic_check.specs.declared.start.Start.{Start}
 use Rattle.hintcheck_fonts.specs.SymbolicEnds.{IsWithin, StartGlyphs, StartsKnowing, StartsThen}
 use Rattle.hintcheck_fonts.specs.declared.ends.Ends.{Ends}
 use Rattle.hintcheck_fonts.specs.declared.glyph_starts.GlyphStarts.{GlyphStarts}
-use Rattle.hintcheck_fonts.proofs.Following.{from_one}
-use Rattle.hintcheck_fonts.proofs.Following.{start_knows}
+use Rattle.hintcheck_fonts.proofs.Following.{from_one, start_knows}
 
 knowing : (end : State) (functions : List (ℕ × ℕ)) (m n : CvtMachine) → IsShown end m.machine m.controls → StartsThen functions m n → StartsKnowing functions n
 knowing end functions m n shown next = record {

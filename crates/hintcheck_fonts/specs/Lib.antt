@@ -16,7 +16,6 @@ pub mod BudgetAnswers
 pub mod CvtStarts
 pub mod SymbolicEnds
 pub mod SymbolicLaws
-pub mod EndAnswers
 pub mod SymbolicRefusals
 pub mod SymbolicVerdicts
 pub mod FontAnswers

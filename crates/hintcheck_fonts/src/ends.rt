@@ -1,18 +1,21 @@
 //! The font program and the CVT program, and what is known at their ends.
 
-ghost use Rattle.std.specs.Prelude.{◌≡◌, IfErr, IfOk, true};
+ghost use Rattle.std.specs.Prelude.{IfErr, IfOk};
+ghost use Rattle.tt_setting.specs.Entries.{Ascends};
 ghost use Rattle.tt_setting.specs.Refusals.{IsOfNoBudget};
 ghost use Rattle.tt_setting.specs.Settings.{setting_of};
-ghost use Rattle.hintcheck_fonts.specs.EndAnswers.{IsAnswerBeforeGlyphs};
-ghost use Rattle.hintcheck_fonts.specs.SymbolicEnds.{AreEndsKnowing, AreKnown, IsSafeKnowing, StartsKnowing};
+ghost use Rattle.hintcheck_fonts.specs.Representation.SymbolicChecks.{IsEnded};
+ghost use Rattle.hintcheck_fonts.specs.SymbolicEnds.{AreKnown, StartsKnowing};
+ghost use Rattle.hintcheck_fonts.specs.SymbolicRefusals.{IsSymbolicAnswer};
 ghost use Rattle.tt_symbolic_check.specs.Starts.{StartsAs};
 ghost use Rattle.tt_symbolic_state.specs.CvtMachine.{CvtMachine};
 
 use std::alloc::{AllocError, Global};
-use tt_setting::{Refusal, Setting, SortedMap};
 use tt_code::Reason;
+use tt_setting::{Refusal, Setting, SortedMap};
 use tt_symbolic::NOTHING_KEPT;
-use tt_symbolic_check::{Effort, Start, check, has_functions};
+use tt_symbolic_check::{Effort, Start, check};
+use tt_symbolic_search::Search;
 use tt_symbolic_state::State;
 
 /// What is known at the end of a font program or a CVT program.
@@ -32,87 +35,77 @@ impl Drop for Ends {
     }
 }
 
+impl Ends {
+    /// What is known at the end of a program that never comes there.
+    pub fn none(alloc: Global) -> Ends {
+        Ends {
+            states: Vec::new(alloc),
+            functions: SortedMap::new(alloc),
+        }
+    }
+}
+
 /// Makes the start with these functions, and any memory.
 ///
 /// # Errors
 /// If memory runs out.
-pub fn start_with(alloc: Global, functions: &SortedMap<u32>) -> Result<Start, AllocError>
+fn start_with(alloc: Global, functions: &[(u16, u32)]) -> Result<Start, AllocError>
+    requires { Ascends functions.now }
     ensures { IfOk result (λ start. (m : CvtMachine) → StartsKnowing functions.now m
         → StartsAs start m) }
 {
     let mut start = Start::unknown(alloc);
-    start.functions.copy_from(functions)?;
+    start.functions.replace(functions)?;
     Ok(start)
 }
 
-/// Whether each of the states has the function, with this body.
-fn have_all(states: &[State], number: u16, body: u32) -> bool {
-    for state in states {
-        if state.functions.get(number) != Some(body) {
-            return false;
-        }
-    }
-    true
-}
-
-/// Returns the functions of the first state that all the others have.
-fn common_functions(alloc: Global, states: &[State]) -> Result<SortedMap<u32>, AllocError> {
-    let mut common = SortedMap::new(alloc);
-    let Some(first) = states.first() else {
-        return Ok(common);
-    };
-    for entry in first.functions.as_slice() {
-        if have_all(states, entry.0, entry.1) {
-            common.put(entry.0, entry.1)?;
-        }
-    }
-    Ok(common)
-}
-
-/// Whether each of the states has these functions.
-fn are_known(functions: &[(u16, u32)], states: &[State]) -> bool
-    ensures { result ≡ true → AreKnown functions.now states.now }
-{
-    for state in states {
-        if !has_functions(&state.functions, functions) {
-            return false;
-        }
-    }
-    true
-}
-
 /// Returns the functions that all of the states have.
+///
+/// # Errors
+/// If memory runs out.
 fn known_functions(alloc: Global, states: &[State]) -> Result<SortedMap<u32>, AllocError>
     ensures { IfOk result (λ functions. AreKnown functions states.now) }
 {
-    let common = common_functions(alloc, states)?;
-    if are_known(common.as_slice(), states) {
-        Ok(common)
-    } else {
-        Ok(SortedMap::new(alloc))
+    let Some(first) = states.first() else {
+        return Ok(SortedMap::new(alloc));
+    };
+    let mut known = first.functions.copied(alloc)?;
+    for state in states {
+        known.keep(&state.functions);
     }
+    Ok(known)
 }
 
-/// Checks a font program or a CVT program, which starts with these functions and any memory, by
-/// listed states. Returns what is known at its end.
+/// Searches and checks a font program or a CVT program, which starts with these functions and any
+/// memory. Returns what is known where it ends.
 ///
 /// # Errors
-/// Those of `check`; and `NeverEnds`, at the program's first byte, where no run comes to the end.
-#[tactic(auto, using(crate::proofs::EndAnswering::memory_answers, crate::proofs::EndAnswering::check_answers))]
-pub fn check_before_glyphs(
+/// Those of `Search::find` and of `check`; and `NeverEnds`, at the program's first byte, where no run
+/// comes to the end.
+#[tactic(auto, using(crate::proofs::SymbolicAnswers::memory_answers, crate::proofs::SymbolicAnswers::search_answers, crate::proofs::SymbolicAnswers::check_answers))]
+pub fn check_to_end(
     alloc: Global,
-    setting: &Setting<'_>,
-    functions: &SortedMap<u32>,
-    listed: &[State],
+    search: &mut Search,
     effort: Effort,
+    setting: &Setting<'_>,
+    functions: &[(u16, u32)],
 ) -> Result<Ends, Refusal>
-    ensures safe { IfOk result (λ ends. IsSafeKnowing (setting_of setting.now) functions.now) }
-    ensures ends { IfOk result (AreEndsKnowing (setting_of setting.now) functions.now) }
-    ensures answer { IfErr result (IsAnswerBeforeGlyphs setting.now functions.now) }
+    requires { Ascends functions.now }
+    ensures ended { IfOk result (IsEnded (setting_of setting.now) functions.now) }
+    ensures answer { IfErr result (IsSymbolicAnswer setting.now functions.now) }
     ensures within { IfErr result IsOfNoBudget }
 {
-    let start = start_with(alloc, functions)?;
-    let states = check(alloc, setting, &NOTHING_KEPT, &[start], listed, effort)?;
+    let starts = [start_with(alloc, functions)?];
+    let found = search.find(setting, &NOTHING_KEPT, &starts, effort)?;
+    let listed = found.listed.as_slice();
+    let states = check(
+        alloc,
+        setting,
+        &NOTHING_KEPT,
+        &starts,
+        listed,
+        found.effort,
+    )?;
     if states.is_empty() {
         return Err(Refusal::in_main(0, Reason::NeverEnds));
     }

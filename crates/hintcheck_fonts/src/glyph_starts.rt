@@ -1,21 +1,25 @@
 //! With what glyph programs start.
 
-ghost use Rattle.std.specs.Prelude.{◌≡◌, ℕ, IfErr, IfOk, IfSome, OnOk, Some, slice_get, true};
+ghost use Rattle.std.specs.Prelude.{◌≡◌, ℕ, List, IfErr, IfOk, IfSome, OnOk, Some, slice_get, true};
 ghost use Rattle.tt_setting.specs.Refusals.{IsOfNoBudget};
 ghost use Rattle.tt_setting.specs.Settings.{setting_of};
 ghost use Rattle.tt_symbolic.specs.Kept.{IsAmong};
-ghost use Rattle.tt_symbolic_check.specs.Answers.{IsAnswerOfCheck};
 ghost use Rattle.tt_symbolic_check.specs.Starts.{StartsAs};
-ghost use Rattle.hintcheck_fonts.specs.SymbolicEnds.{IsFollowed, IsGlyphChecked, ListsAmong, StartGlyphs, StartsThen};
+ghost use Rattle.hintcheck_fonts.specs.Representation.SymbolicChecks.{IsRunnable};
+ghost use Rattle.hintcheck_fonts.specs.SymbolicEnds.{IsFollowed, ListsAmong, StartGlyphs, StartsThen};
+ghost use Rattle.hintcheck_fonts.specs.SymbolicRefusals.{IsSymbolicAnswer};
 ghost use Rattle.tt_symbolic_state.specs.CvtMachine.{CvtMachine};
 ghost use Rattle.tt_symbolic_state.specs.Shows.{IsShown};
 ghost use Rattle.tt_symbolic_state.specs.declared.state.State.{State as AnyState};
 
 use crate::ends::Ends;
 use std::alloc::{AllocError, Global};
+use tt_code::Reason;
+use tt_family::is_short;
 use tt_setting::{Refusal, Setting, SortedMap};
 use tt_symbolic::Kept;
 use tt_symbolic_check::{Effort, Start, check, has_functions};
+use tt_symbolic_search::Search;
 use tt_symbolic_state::{Cell, State};
 
 /// With what glyph programs start, and which memory entries none of them writes.
@@ -110,7 +114,7 @@ impl GlyphStarts {
     ///
     /// # Errors
     /// If memory runs out.
-    pub fn new(
+    fn new(
         alloc: Global,
         ends: &Ends,
         proposed: Vec<Start>,
@@ -142,35 +146,93 @@ impl GlyphStarts {
         }))
     }
 
-    /// Checks a glyph program by listed states: from each of the starts, and so that it writes none
-    /// of the entries that one of them lists.
+    /// Makes no start.
+    pub fn none(alloc: Global) -> GlyphStarts {
+        GlyphStarts {
+            starts: Vec::new(alloc),
+            storage: Vec::new(alloc),
+            controls: Vec::new(alloc),
+        }
+    }
+
+    /// Makes the start of which only the functions are known that all ends have.
     ///
     /// # Errors
-    /// Those of `check`.
-    pub fn check_glyph_program(
-        &self,
-        alloc: Global,
-        setting: &Setting<'_>,
-        listed: &[State],
-        effort: Effort,
-    ) -> Result<(), Refusal>
-        ensures checked { IfOk result (λ done.
-            IsGlyphChecked (setting_of setting.now) self.now) }
-        ensures answer { IfErr result (IsAnswerOfCheck setting.now) }
-        ensures within { IfErr result IsOfNoBudget }
+    /// If memory runs out.
+    pub fn unknown(alloc: Global, ends: &Ends) -> Result<GlyphStarts, AllocError>
+        ensures { IfOk result (StartGlyphs ends.now) }
     {
-        let kept = Kept {
+        let mut start = Start::unknown(alloc);
+        start.functions.copy_from(&ends.functions)?;
+        let mut starts = Vec::new(alloc);
+        starts.push(start)?;
+        Ok(GlyphStarts {
+            starts,
+            storage: Vec::new(alloc),
+            controls: Vec::new(alloc),
+        })
+    }
+
+    /// Lends the entries that no glyph program may write.
+    fn kept(&self) -> Kept<'_>
+        ensures storage { result.storage.now ≡ self.now.storage.items }
+        ensures controls { result.controls.now ≡ self.now.controls.items }
+    {
+        Kept {
             storage: self.storage.as_slice(),
             controls: self.controls.as_slice(),
-        };
-        check(
-            alloc,
-            setting,
-            &kept,
-            self.starts.as_slice(),
-            listed,
-            effort,
-        )?;
-        Ok(())
+        }
+    }
+}
+
+/// Searches and checks a glyph program from these starts, so that it writes none of the entries that
+/// one of them lists.
+///
+/// # Errors
+/// `Refused` too where it is longer than the font allows; those of `Search::find` and of `check`.
+#[tactic(auto, using(crate::proofs::SymbolicAnswers::memory_answers, crate::proofs::SymbolicAnswers::search_answers, crate::proofs::SymbolicAnswers::check_answers))]
+pub fn check_glyph(
+    alloc: Global,
+    search: &mut Search,
+    effort: Effort,
+    setting: &Setting<'_>,
+    starts: &GlyphStarts,
+) -> Result<(), Refusal>
+    ensures runnable { OnOk result (IsRunnable (setting_of setting.now) starts.now) }
+    ensures answer { (functions : List (ℕ × ℕ))
+        → IfErr result (IsSymbolicAnswer setting.now functions) }
+    ensures within { IfErr result IsOfNoBudget }
+{
+    if !is_short(setting) {
+        let most = u32::from(setting.limits.program_size);
+        return Err(Refusal::in_main(most, Reason::ProgramTooLong));
+    }
+    let kept = starts.kept();
+    let list = starts.starts.as_slice();
+    let found = search.find(setting, &kept, list, effort)?;
+    let listed = found.listed.as_slice();
+    check(alloc, setting, &kept, list, listed, found.effort)?;
+    Ok(())
+}
+
+/// Makes the starts of glyph programs after the ends of the CVT program. Where the search proposes
+/// none that follow each of them, nothing but functions is known.
+///
+/// # Errors
+/// If memory runs out.
+pub fn starts_after(
+    alloc: Global,
+    search: &mut Search,
+    ends: &Ends,
+) -> Result<GlyphStarts, AllocError>
+    ensures { IfOk result (StartGlyphs ends.now) }
+{
+    let mut proposed = search.starts_after(ends.states.as_slice())?;
+    for start in &mut proposed {
+        start.functions.copy_from(&ends.functions)?;
+    }
+    match GlyphStarts::new(alloc, ends, proposed)? {
+        Some(starts) => Ok(starts),
+        None => GlyphStarts::unknown(alloc, ends),
     }
 }

@@ -1,7 +1,7 @@
 use Rattle.std.proofs.Common.{◌∙◌, ◌++◌, [], ◌∷◌, List, ap}
 use Rattle.tt_symbolic_check.specs.declared.start.Start.{Start}
 use Rattle.hintcheck_fonts.proofs.SymbolicStarts.{unknown_follows}
-use Rattle.hintcheck_fonts.proofs.symbolic_check.unknown_starts.Goals as goal
+use Rattle.hintcheck_fonts.proofs.glyph_starts.GlyphStarts.unknown.Goals as goal
 
 pub returns : goal.returns
 returns c =

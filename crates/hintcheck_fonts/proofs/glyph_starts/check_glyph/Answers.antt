@@ -1,6 +1,6 @@
 use Rattle.std.proofs.Common.{◌≡◌, Bool, true, false}
 use Rattle.hintcheck_fonts.proofs.SymbolicAnswers.{length_answers}
-use Rattle.hintcheck_fonts.proofs.symbolic_check.check_glyph.Goals as goal
+use Rattle.hintcheck_fonts.proofs.glyph_starts.check_glyph.Goals as goal
 
 both : (b : Bool) → b ≡ false → b ≡ true → ⊥
 both b other is = cc
