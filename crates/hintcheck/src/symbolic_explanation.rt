@@ -13,7 +13,7 @@ use crate::explanation::{explain_uncut, tell_unchecked};
 use crate::font_file::font_in;
 use crate::instruction_list::{Named, named_program};
 use hintcheck_explain::{Asked, Explained, Site, explain_symbolic};
-use hintcheck_fonts::bare_program::empty_program;
+use hintcheck_fonts::program::empty_program;
 use hintcheck_fonts::program::cut;
 use hintcheck_fonts::report::{Name, Refused};
 use hintcheck_fonts::symbolic_check::SymbolicCheck;

@@ -14,7 +14,7 @@ use Rattle.tt_font.specs.Files.{font_glyph_count, font_glyphs, font_outlines}
 use Rattle.tt_font.specs.Ranges.{AreFewBytes, IsFontInRange}
 use Rattle.tt_font.specs.Reading.{FontData, GlyphData, Reads}
 use Rattle.tt_font.proofs.RangeLemmas.{font_in_range}
-use Rattle.tt_symbolic_font.specs.Starts.{GlyphPrograms}
+use Rattle.hintcheck_fonts.specs.CvtStarts.{GlyphPrograms}
 use Rattle.hintcheck_fonts.specs.FontPrograms.{AreRefused, IsSafeFont, IsVerdict, accepted, cvt_refused, cvt_subject, font_of, font_refused, font_subject, glyph_subject, no_glyph_left, none_ended, refused}
 use Rattle.hintcheck_fonts.specs.Programs.{EndsWith, HasGoodFamily, HasLeastFamily}
 use Rattle.hintcheck_fonts.specs.SymbolicVerdicts.{AreOthersThan, IsGlyphSetting, IsSymbolicVerdict}

@@ -11,8 +11,8 @@ use Rattle.tt_font.specs.Files.{font_glyph_count, font_outlines}
 use Rattle.tt_font.specs.Laws.{IsWay}
 use Rattle.tt_font.specs.Outlines.{Outline}
 use Rattle.tt_font.specs.Reading.{FontData, GlyphData, Reads}
-use Rattle.tt_symbolic_font.specs.Laws.{IsFontSafe}
-use Rattle.tt_symbolic_font.specs.Starts.{GlyphPrograms}
+use Rattle.hintcheck_fonts.specs.SymbolicLaws.{IsFontSafe}
+use Rattle.hintcheck_fonts.specs.CvtStarts.{GlyphPrograms}
 use Rattle.hintcheck_fonts.specs.FontPrograms.{IsSafeFont, IsVerdict, cvt_subject, font_of, font_subject}
 use Rattle.hintcheck_fonts.specs.Programs.{IsCutInto}
 use Rattle.hintcheck_fonts.specs.SymbolicVerdicts.{IsGlyphSetting, IsSymbolicVerdict}

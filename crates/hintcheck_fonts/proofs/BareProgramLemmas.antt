@@ -1,48 +1,55 @@
 -- What the list of refused programs tells of the only program.
-use Rattle.std.proofs.Common.{◌≡◌, ℕ, List, [], ◌∷◌, Result, Ok, Err, OnOk, IfOk, sym, subst}
-use Rattle.tt_setting.specs.declared.exhausted.Exhausted.{Exhausted}
+use Rattle.std.proofs.Common.{◌≡◌, ℕ, List, [], ◌∷◌, ◌++◌, Option, Some, None, sym, ◌∙◌, ap, subst}
+use Rattle.std.specs.Prelude.{option_map, slice_get}
 use Rattle.tt_code.specs.Cut.{Instruction}
-use Rattle.tt_code.specs.Settings.{GlyphProgram}
-use Rattle.tt_setting.specs.Refusals.{reason_of}
-use Rattle.tt_setting.specs.declared.refusal.Refusal.{Refusal}
-use Rattle.tt_setting.specs.declared.refusal.Refusal.TheVariants as fault
+use Rattle.tt_font.specs.Reading.{FontData, GlyphData}
 use Rattle.hintcheck_fonts.specs.BarePrograms.{IsJudged}
-use Rattle.hintcheck_fonts.specs.ProgramVerdicts.{IfRefused, IsUncut}
-use Rattle.hintcheck_report.specs.Places.{reported_at}
+use Rattle.hintcheck_fonts.specs.FontPrograms.{font_of, glyph_subject}
 use Rattle.hintcheck_fonts.specs.Programs.{HasLeastFamily, Subject}
-use Rattle.hintcheck_fonts.specs.Representation.Judges.{IsRefusedFor}
-use Rattle.hintcheck_fonts.specs.Representation.ProgramOrder.{TellsOutcome}
+use Rattle.hintcheck_fonts.specs.Representation.Judges.{IsFoundIn, IsRefusedFor}
+use Rattle.hintcheck_fonts.specs.Representation.ProgramOrder.{IsAnswerBy, IsJudgedBy, IsOutcomeBy, glyph_done, glyph_stops, next_program}
 use Rattle.hintcheck_fonts.specs.Representation.SessionStages.{ListsOutcome}
-use Rattle.hintcheck_fonts.specs.Sessions.{refused_as}
+use Rattle.hintcheck_fonts.specs.Sessions.{StageOf, at_glyph}
+use Rattle.hintcheck_fonts.specs.declared.finding.Finding.{Finding}
 use Rattle.hintcheck_report.specs.declared.refused.Refused.{Refused}
 use Rattle.hintcheck_fonts.specs.declared.session.Outcome.{Outcome}
-use Rattle.hintcheck_fonts.proofs.JudgeLaws.{uncut_is_refused}
 
--- what holds where it is accepted
-pub if_ok : {T E : Type 0} (r : Result T E) (P Q : Type 0) → (P → Q) → OnOk r P → IfOk r (λ x. Q)
-if_ok (Ok x) P Q f h = f h
-if_ok (Err e) P Q f h = tt
+-- the program of a glyph, where it is next
 
--- a program that can't be cut
-pub uncut_refusal : (x : Subject) (f : Refusal) → IfRefused x.name f (IsUncut x.name x.bytes) → IfRefused x.name f (IsRefusedFor x)
-uncut_refusal x (fault.Refused spot offset failed) is = uncut_is_refused x (reported_at x.name spot offset (reason_of failed)) is
-uncut_refusal x (fault.Exhausted e) is = tt
+module _ {K : Type 0} (d : FontData) (Accepts : Subject → List K → List Instruction → Type 0) (Ends : Subject → List K → List Instruction → List K → Type 0)
+    (Refuses : Subject → List K → Refused → Type 0) (f p : List Instruction) (known : List K) (id : ℕ) (g : GlyphData) (at : slice_get d.glyphs id ≡ Some g) where
+  abbrev IsJudgedAs : GlyphData → List Refused → Type 0
+  IsJudgedAs h rs = IsJudgedBy (Accepts (glyph_subject (font_of d f p) [] id h) known) (Refuses (glyph_subject (font_of d f p) [] id h) known) rs
 
--- the fault refuses the program, a glyph's, which is listed
-pub judged_refused : (x : Subject) (points contours : ℕ) (f : Refusal) (o : Outcome) (old rs : List Refused) → ((is : List Instruction) → (x.setting is).kind ≡ GlyphProgram points contours)
-    → IfRefused x.name f (IsRefusedFor x) → TellsOutcome x.name f (Ok o) → old ≡ [] → ListsOutcome old o.refused rs → IsJudged x rs
-judged_refused x points contours (fault.Refused spot offset failed) o old rs glyph is told none listed =
-    let q = reported_at x.name spot offset (reason_of failed) in
-    let same : refused_as x.name q ≡ o = cc in
-    let L : Outcome → Type 0 = λ p. ListsOutcome old p.refused rs in
-    let O : List Refused → Type 0 = λ l. ListsOutcome l (refused_as x.name q).refused rs in
-    let one : rs ≡ q ∷ [] = subst O none (subst L (sym same) listed) in
-    let J : List Refused → Type 0 = λ l. IsJudged x l in
-    subst J (sym one) (is.refusal, λ good. is.no_good good points contours (glyph good.instructions))
-judged_refused x points contours (fault.Exhausted e) o old rs glyph is told none listed = absurd (no o e told)
-  where
-    no : (a : Outcome) (b : Exhausted) → ◌≡◌ {A = Result Outcome Exhausted} (Ok a) (Err b) → ⊥
-    no a b e = absurd cc
+  judged_outcome : (t : StageOf K) (o : Outcome) (rs : List Refused) → IsOutcomeBy d Accepts Ends Refuses (at_glyph f p known id) o t → ListsOutcome [] o.refused rs → IsJudgedAs g rs
+  judged_outcome t o rs (glyph_done f' p' known' id' h is there accepts) listed =
+      let same : h ≡ g = let e : Some h ≡ Some g = sym there ∙ at in cc in
+      subst (λ (x : GlyphData). IsJudgedAs x rs) same (subst (IsJudgedAs h) (sym listed) (is, accepts))
+  judged_outcome t o rs (glyph_stops f' p' known' id' h r there refuses) listed =
+      let same : h ≡ g = let e : Some h ≡ Some g = sym there ∙ at in cc in
+      subst (λ (x : GlyphData). IsJudgedAs x rs) same (subst (IsJudgedAs h) (sym listed) refuses)
+
+  pub judged_glyph : (s t : StageOf K) (answer : Option Outcome) (o : Outcome) (old rs : List Refused) → s ≡ at_glyph f p known id → IsAnswerBy d Accepts Ends Refuses s answer t
+      → answer ≡ Some o → old ≡ [] → ListsOutcome old o.refused rs → IsJudgedAs g rs
+  judged_glyph s t answer o old rs here answers is none listed =
+      judged_outcome t o rs (subst (λ (u : StageOf K). IsOutcomeBy d Accepts Ends Refuses u o t) here (subst (λ (a : Option Outcome). IsAnswerBy d Accepts Ends Refuses s a t) is answers))
+      (subst (λ (l : List Refused). ListsOutcome l o.refused rs) none listed)
+
+  -- one is next, so that an answer is its outcome
+  pub glyph_is_next : (s t : StageOf K) (answer : Option Outcome) → s ≡ at_glyph f p known id → IsAnswerBy d Accepts Ends Refuses s answer t → answer ≡ None → ⊥
+  glyph_is_next s t answer here answers is =
+      let none : next_program d s ≡ None = (subst (λ (a : Option Outcome). IsAnswerBy d Accepts Ends Refuses s a t) is answers).0 in
+      let there : next_program d s ≡ Some (glyph_subject (font_of d f p) [] id g) =
+      ap (λ (u : StageOf K). next_program d u) here ∙ ap (option_map (λ (h : GlyphData). glyph_subject (font_of d f p) [] id h)) at in
+      let no : Some (glyph_subject (font_of d f p) [] id g) ≡ None = sym there ∙ none in cc
+
+-- what the search for a family says of it
+pub judged_by_finding : (j : Finding) (d : FontData) (f p : List Instruction) (id : ℕ) (g : GlyphData) (rs : List Refused)
+    → IsJudgedBy (IsFoundIn j (glyph_subject (font_of d f p) [] id g)) (IsRefusedFor (glyph_subject (font_of d f p) [] id g)) rs
+    → IsJudged (glyph_subject (font_of d f p) [] id g) rs
+judged_by_finding j d f p id g [] (is, found) = found.least
+judged_by_finding j d f p id g (r ∷ []) refused = (refused.refusal, λ good. refused.no_good good g.points g.contours refl)
+judged_by_finding j d f p id g (r ∷ q ∷ rs) judged = absurd judged
 
 pub least_where_none : (x : Subject) (rs : List Refused) → IsJudged x rs → rs ≡ [] → HasLeastFamily x
 least_where_none x [] judged e = judged

@@ -24,6 +24,9 @@ pub mod FindingSteps
 pub mod SecondFindings
 pub mod FailedReads
 pub mod UpgradeReads
+pub mod Following
+pub mod SymbolicFonts
+pub mod StrictFonts
 pub mod SymbolicStarts
 pub mod SymbolicAnswers
 pub mod SymbolicSteps

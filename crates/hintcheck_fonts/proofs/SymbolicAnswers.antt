@@ -1,6 +1,9 @@
 -- Why a program isn't accepted by symbolic states, from where it is told to what is reported.
-use Rattle.std.proofs.Common.{◌≡◌, ℕ, List, refl, subst, sym}
-use Rattle.tt_code.specs.declared.reason.Reason.TheVariants.{ProgramTooLong}
+use Rattle.std.proofs.Common.{◌≡◌, ◌≤◌, ℕ, List, [], ◌∷◌, arith, length, refl, subst, sym}
+use Rattle.std.specs.List.{All}
+use Rattle.tt_code.specs.Cut.{Instruction}
+use Rattle.tt_code.specs.Fonts.{Font}
+use Rattle.tt_code.specs.declared.reason.Reason.TheVariants.{NeverEnds, ProgramTooLong}
 use Rattle.tt_setting.specs.Settings.{setting_of}
 use Rattle.tt_setting.specs.declared.exhausted.Exhausted.TheVariants.{Memory}
 use Rattle.tt_setting.specs.declared.failed.Failed.TheVariants.{Only}
@@ -13,11 +16,15 @@ use Rattle.tt_setting.specs.declared.name.Name.TheVariants as name
 use Rattle.tt_family.specs.GoodFamilies.{IsShortEnough}
 use Rattle.tt_font.specs.Reading.{GlyphData}
 use Rattle.tt_symbolic_check.specs.Answers.{IsAnswerOfCheck}
-use Rattle.tt_symbolic_font.specs.Answers.{IsAnswerBeforeGlyphs}
+use Rattle.hintcheck_fonts.specs.SymbolicEnds.{NeverComesToEnd}
 use Rattle.tt_symbolic_search.specs.Answers.{IsAnswerOfSearch}
+use Rattle.hintcheck_fonts.specs.FontPrograms.{glyph_subject}
+use Rattle.hintcheck_fonts.specs.Representation.ProgramOrder.{IsJudgedBy}
+use Rattle.hintcheck_report.specs.Places.{reported_at}
+use Rattle.tt_setting.specs.Refusals.{reason_of}
 use Rattle.hintcheck_fonts.specs.ProgramVerdicts.{IfRefused, IsProgramOf, IsUncut, no_cut, no_structure, with_start}
 use Rattle.hintcheck_fonts.specs.Programs.{Subject}
-use Rattle.hintcheck_fonts.specs.SymbolicRefusals.{IsRefusedAlone, IsSymbolicAnswer, IsSymbolicRefusal, IsToldInTurn, before_glyphs, checked, judged, out_of_memory, searched, told_in_turn, too_long, uncut, uncut_alone}
+use Rattle.hintcheck_fonts.specs.SymbolicRefusals.{IsRefusedAlone, IsSymbolicAnswer, IsSymbolicRefusal, IsToldInTurn, checked, judged, never_ends, out_of_memory, searched, told_in_turn, too_long, uncut, uncut_alone}
 use Rattle.hintcheck_report.specs.declared.refused.Refused.{Refused as AnyRefused}
 
 pub memory_answers : (s : Setting) (functions : List (ℕ × ℕ)) (refusal : Refusal) → refusal ≡ Exhausted Memory → IsSymbolicAnswer s functions refusal
@@ -26,8 +33,9 @@ memory_answers s functions refusal is = subst (λ (r : Refusal). IsSymbolicAnswe
 pub search_answers : (s : Setting) (functions : List (ℕ × ℕ)) (refusal : Refusal) → IsAnswerOfSearch s refusal → IsSymbolicAnswer s functions refusal
 search_answers s functions refusal answer = searched refusal answer
 
-pub ends_answer : (s : Setting) (functions : List (ℕ × ℕ)) (refusal : Refusal) → IsAnswerBeforeGlyphs s functions refusal → IsSymbolicAnswer s functions refusal
-ends_answer s functions refusal answer = before_glyphs refusal answer
+pub end_answers : (s : Setting) (functions : List (ℕ × ℕ)) (refusal : Refusal) → NeverComesToEnd (setting_of s) functions → refusal ≡ Refused Main 0 (Only NeverEnds)
+    → IsSymbolicAnswer s functions refusal
+end_answers s functions refusal never is = subst (λ (r : Refusal). IsSymbolicAnswer s functions r) (sym is) (never_ends never)
 
 pub check_answers : (s : Setting) (functions : List (ℕ × ℕ)) (refusal : Refusal) → IsAnswerOfCheck s refusal → IsSymbolicAnswer s functions refusal
 check_answers s functions refusal answer = checked refusal answer
@@ -68,10 +76,19 @@ pub turn_refuses : (glyph : GlyphData) (refusal : Refusal) → IsToldInTurn refu
 turn_refuses glyph (Refused at offset failed) told = told_in_turn at offset failed told
 turn_refuses glyph (Exhausted by) told = tt
 
-pub cut_refuses : (glyph : GlyphData) (refusal : Refusal) → IfRefused (name.Glyph 0) refusal (IsUncut (name.Glyph 0) glyph.program)
-    → IfRefused (name.Glyph 0) refusal (IsRefusedAlone glyph)
-cut_refuses glyph (Refused at offset failed) told = uncut_alone _ told
-cut_refuses glyph (Exhausted by) told = tt
+-- a judge's refusal of the only glyph's program
+refused_alone : (x : Subject) (g : GlyphData) (r : AnyRefused) → x.name ≡ name.Glyph 0 → x.bytes ≡ g.program → IsSymbolicRefusal x r → IsRefusedAlone g r
+refused_alone x g r named bytes (uncut q is) = uncut_alone q (subst (λ (l : List ℕ). IsUncut (name.Glyph 0) l q) bytes (subst (λ (n : Name). IsUncut n x.bytes q) named is))
+refused_alone x g r named bytes (judged s at offset failed is answer) =
+    subst (λ (n : Name). IsRefusedAlone g (reported_at n at offset (reason_of failed))) (sym named) (told_in_turn at offset failed (s, x.functions, answer))
 
-pub memory_refuses : (glyph : GlyphData) (refusal : Refusal) → refusal ≡ Exhausted Memory → IfRefused (name.Glyph 0) refusal (IsRefusedAlone glyph)
-memory_refuses glyph refusal is = subst (λ (r : Refusal). IfRefused (name.Glyph 0) r (IsRefusedAlone glyph)) (sym is) tt
+pub told_alone : (font : Font) (g : GlyphData) (Accepts : List Instruction → Type 0) (rs : List AnyRefused)
+    → IsJudgedBy Accepts (λ r. IsSymbolicRefusal (glyph_subject font [] 0 g) r) rs → All (IsRefusedAlone g) rs
+told_alone font g Accepts [] judged = tt
+told_alone font g Accepts (r ∷ []) is = (refused_alone (glyph_subject font [] 0 g) g r refl refl is, tt)
+told_alone font g Accepts (r ∷ q ∷ rs) judged = absurd judged
+
+pub one_alone : (Accepts : List Instruction → Type 0) (Refuses : AnyRefused → Type 0) (rs : List AnyRefused) → IsJudgedBy Accepts Refuses rs → length rs ≤ 1
+one_alone Accepts Refuses [] judged = omega arith
+one_alone Accepts Refuses (r ∷ []) is = omega arith
+one_alone Accepts Refuses (r ∷ q ∷ rs) judged = absurd judged

@@ -8,11 +8,10 @@ use Rattle.tt_symbolic_state.specs.Shows.{IsShown}
 use Rattle.tt_symbolic_state.specs.declared.state.State.{State}
 use Rattle.tt_symbolic_check.specs.Starts.{StartsFrom}
 use Rattle.tt_symbolic_check.specs.declared.start.Start.{Start}
-use Rattle.tt_symbolic_font.specs.Known.{IsWithin, StartGlyphs, StartsKnowing, StartsThen}
-use Rattle.tt_symbolic_font.specs.declared.ends.Ends.{Ends}
-use Rattle.tt_symbolic_font.specs.declared.glyph_starts.GlyphStarts.{GlyphStarts}
-use Rattle.tt_symbolic_font.proofs.Checked.{from_one}
-use Rattle.tt_symbolic_font.proofs.Following.{start_knows}
+use Rattle.hintcheck_fonts.specs.SymbolicEnds.{IsWithin, StartGlyphs, StartsKnowing, StartsThen}
+use Rattle.hintcheck_fonts.specs.declared.ends.Ends.{Ends}
+use Rattle.hintcheck_fonts.specs.declared.glyph_starts.GlyphStarts.{GlyphStarts}
+use Rattle.hintcheck_fonts.proofs.Following.{from_one, start_knows}
 
 knowing : (end : State) (functions : List (ℕ × ℕ)) (m n : CvtMachine) → IsShown end m.machine m.controls → StartsThen functions m n → StartsKnowing functions n
 knowing end functions m n shown next = record {

@@ -4,21 +4,20 @@ use Rattle.std.specs.Prelude.{IfSome}
 use Rattle.std.proofs.Math.Nat.{suc-mul}
 use Rattle.tt_setting.specs.declared.name.Name.TheVariants as name
 use Rattle.tt_code.proofs.CutLemmas.{size_is}
-use Rattle.tt_code.specs.Cut.{Instruction, IsCut, size}
-use Rattle.tt_code.specs.Grammar.{IsStructured}
+use Rattle.tt_code.specs.Cut.{Instruction, size}
 use Rattle.tt_code.specs.Fonts.{Font, cvt_setting, font_setting, glyph_setting}
 use Rattle.tt_code.specs.Settings.{Setting}
 use Rattle.tt_font.specs.Reading.{FontData, GlyphData}
-use Rattle.tt_symbolic_font.proofs.Fonts.{safe}
+use Rattle.hintcheck_fonts.proofs.SymbolicFonts.{safe}
 use Rattle.tt_symbolic_state.specs.CvtMachine.{CvtMachine}
-use Rattle.tt_symbolic_font.specs.Known.{IsGlyphChecked, StartGlyphs, StartsKnowing}
-use Rattle.tt_symbolic_font.specs.Starts.{GlyphPrograms, StartsFontProgram}
-use Rattle.tt_symbolic_font.specs.declared.ends.Ends.{Ends}
-use Rattle.tt_symbolic_font.specs.declared.glyph_starts.GlyphStarts.{GlyphStarts}
+use Rattle.hintcheck_fonts.specs.SymbolicEnds.{IsGlyphChecked, StartGlyphs, StartsKnowing}
+use Rattle.hintcheck_fonts.specs.CvtStarts.{GlyphPrograms, StartsFontProgram}
+use Rattle.hintcheck_fonts.specs.declared.ends.Ends.{Ends}
+use Rattle.hintcheck_fonts.specs.declared.glyph_starts.GlyphStarts.{GlyphStarts}
 use Rattle.hintcheck_fonts.specs.FontPrograms.{cvt_subject, font_of, font_subject, glyph_subject, judgement_on}
-use Rattle.hintcheck_fonts.specs.Representation.ProgramOrder.{CanGoOn, cvt_done, cvt_stops, font_done, font_stops, glyph_done, glyph_stops, next_program, skipped_to}
+use Rattle.hintcheck_fonts.specs.Representation.ProgramOrder.{CanGoOn, IsJudgedBy, cvt_done, cvt_stops, font_done, font_stops, glyph_done, glyph_stops, next_program, skipped_to}
 use Rattle.hintcheck_fonts.specs.Representation.SessionStages.{ListsOutcome}
-use Rattle.hintcheck_fonts.specs.Representation.SymbolicChecks.{AnswersBySymbols, AreCheckedInTurn, AreEnded, AreUnchecked, AreUncheckedTill, IsAfterCvt, IsAfterFont, IsCheckedBy, IsEnded, TellsRefused, accepted, no_glyph_left, refused}
+use Rattle.hintcheck_fonts.specs.Representation.SymbolicChecks.{AnswersBySymbols, AreBegun, AreEnded, AreUnchecked, AreUncheckedTill, IsAfterCvt, IsAfterFont, IsCheckedBy, IsEnded, IsRunnable, TellsRefused, accepted, no_glyph_left, refused}
 use Rattle.hintcheck_fonts.specs.Sessions.{Stage, after_font, at_glyph, at_start, over}
 use Rattle.hintcheck_fonts.specs.SymbolicRefusals.{IsSymbolicRefusal}
 use Rattle.hintcheck_fonts.specs.SymbolicVerdicts.{AreOthersThan, IsGlyphSetting, IsSafeAlone, IsSymbolicVerdict, cvt_refused, font_refused, none_ended, only_program}
@@ -290,21 +289,23 @@ only_checked : (s t : Setting) (starts : GlyphStarts) (id : ℕ) → IsGlyphChec
 only_checked s t starts zero checked e = let same : s ≡ t = cc in subst (λ (x : Setting). IsGlyphChecked x starts) same checked
 only_checked s t starts (suc id) checked e = absurd cc
 
-pub safe_alone : (font : Font) (g : GlyphData) (is : List Instruction) → IsCut g.program is → IsStructured is
-    → AreCheckedInTurn (font_setting font) (cvt_setting font) (glyph_setting font g.points g.contours is) → IsSafeAlone font g
-safe_alone font g is cut structured h =
+pub safe_alone : (font : Font) (g : GlyphData) (j : SymbolicCheck) (starts : GlyphStarts) (Refuses : Refused → Type 0) (rs : List Refused) → AreBegun font starts → j.starts ≡ starts
+    → IsJudgedBy (λ is. IsCheckedBy j (glyph_subject font [] 0 g) [] is) Refuses rs → rs ≡ [] → IsSafeAlone font g
+safe_alone font g j starts Refuses (r ∷ rs) h same judged none = absurd cc
+safe_alone font g j starts Refuses [] h same (is, checked) none =
     let s : Setting = glyph_setting font g.points g.contours is in
-    let e : size is ≡ length g.program = size_is is ∙ ap length cut.joined in
-    let short : size is ≤ font.limits.program_size = h.runnable.short in
+    let run : IsRunnable s starts = subst (λ (t : GlyphStarts). IsRunnable s t) same (checked.runnable (λ no. no)) in
+    let e : size is ≡ length g.program = size_is is ∙ ap length checked.cut.is_cut.joined in
+    let short : size is ≤ font.limits.program_size = run.short in
     record {
       setting = s;
-      is_setting = record { short = omega arith; instructions = is; is_cut = cut; structured = structured; setting = refl };
-      safe = safe font (only_program s) h.first h.second h.starts (record {
+      is_setting = record { short = omega arith; instructions = is; is_cut = checked.cut.is_cut; structured = checked.cut.structured; setting = refl };
+      safe = safe font (only_program s) h.first h.second starts (record {
         font_safe = h.font_ended.safe;
         font_ends = h.font_ended.shown;
         cvt_safe = h.cvt_ended.safe;
         cvt_ends = h.cvt_ended.shown;
         glyph_starts = h.begun;
-        glyphs = λ id t may. only_checked s t h.starts id h.runnable.checked may;
+        glyphs = λ id t may. only_checked s t starts id run.checked may;
       });
     }

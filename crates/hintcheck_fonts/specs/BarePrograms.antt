@@ -1,7 +1,6 @@
 -- How one glyph program is judged.
 use Rattle.std.specs.Prelude.{ℕ, List, [], ◌∷◌}
 use Rattle.tt_code.specs.Fonts.{Font}
-use Rattle.tt_code.specs.declared.limits.Limits.{Limits}
 use Rattle.tt_font.specs.Reading.{GlyphData}
 use Rattle.tt_font.specs.declared.fault.FontFault.{FontFault}
 use Rattle.tt_font.specs.declared.fault.FontFault.TheVariants.{OutOfMemory}
@@ -13,10 +12,6 @@ use Rattle.hintcheck_report.specs.declared.refused.Refused.{Refused}
 abbrev pub IsMemory : FontFault → Type 0
 IsMemory (OutOfMemory e) = Unit {0}
 IsMemory _ = ⊥
-
--- a font without a font program or a CVT program
-abbrev pub font_around : Limits → ℕ → Font
-font_around limits cvt = record { limits = limits; cvt = cvt; font_program = []; cvt_program = [] }
 
 -- the glyph with these numbers of points and contours and with this program
 abbrev pub glyph_with : ℕ → ℕ → List ℕ → GlyphData

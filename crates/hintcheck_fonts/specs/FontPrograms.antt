@@ -5,7 +5,7 @@ use Rattle.tt_code.specs.Grammar.{IsStructured}
 use Rattle.tt_code.specs.Runs.{NeverFaults}
 use Rattle.tt_code.specs.Fonts.{Font, font_setting, cvt_setting, glyph_setting, StartsFontProgram, StartsCvtProgram, StartsGlyphProgram}
 use Rattle.tt_font.specs.Maxp.{limits_of}
-use Rattle.tt_font.specs.Reading.{FontData, GlyphData, Reads}
+use Rattle.tt_font.specs.Reading.{FontData, GlyphData, Reads, font_around}
 pub use Rattle.tt_font.specs.Ranges.{AreFewBytes, IsFontInRange}
 use Rattle.hintcheck_fonts.specs.Programs.{Subject, EndsWith, HasLeastFamily, IsRefusal}
 use Rattle.hintcheck_fonts.specs.Verdicts.{Judgement}
@@ -19,8 +19,7 @@ font_of d f p = record { limits = d.limits; cvt = d.cvt_count; font_program = f;
 -- a font with only one glyph and without a font program or a CVT program, by the fields of a `maxp`
 -- table and the number of control values
 abbrev pub one_glyph_font : List ℕ → ℕ → GlyphData → FontData
-one_glyph_font maxp cvt glyph =
-    record { limits = limits_of maxp; cvt_count = cvt; fpgm = []; prep = []; glyphs = glyph ∷ []; component_reads = 0 }
+one_glyph_font maxp cvt glyph = font_around (limits_of maxp) cvt glyph
 
 -- The glyph's program is no longer than maxSizeOfInstructions, it can be cut, its instructions are
 -- structured, and for every number of steps and every value that is measured, stored or computed,

@@ -13,6 +13,9 @@ pub mod Sessions
 pub mod FindingSessions
 pub mod FailedReads
 pub mod BudgetAnswers
+pub mod CvtStarts
+pub mod SymbolicEnds
+pub mod SymbolicLaws
 pub mod SymbolicRefusals
 pub mod SymbolicVerdicts
 pub mod FontAnswers

@@ -1,7 +1,7 @@
 -- Why the verdict by symbolic states refuses a program. Only the search and the check refuse for a
 -- reason that the program's bytes alone don't tell; where memory runs out, that is the answer. (Own.)
 use Rattle.std.specs.Prelude.{ℕ, List}
-use Rattle.tt_code.specs.declared.reason.Reason.TheVariants.{ProgramTooLong}
+use Rattle.tt_code.specs.declared.reason.Reason.TheVariants.{NeverEnds, ProgramTooLong}
 use Rattle.tt_setting.specs.Refusals.{reason_of}
 use Rattle.tt_setting.specs.Settings.{setting_of}
 use Rattle.tt_setting.specs.declared.exhausted.Exhausted.TheVariants.{Memory}
@@ -16,7 +16,7 @@ use Rattle.tt_setting.specs.declared.name.Name.TheVariants as name
 use Rattle.tt_family.specs.GoodFamilies.{IsShortEnough}
 use Rattle.tt_font.specs.Reading.{GlyphData}
 use Rattle.tt_symbolic_check.specs.Answers.{IsAnswerOfCheck}
-use Rattle.tt_symbolic_font.specs.Answers.{IsAnswerBeforeGlyphs}
+use Rattle.hintcheck_fonts.specs.SymbolicEnds.{NeverComesToEnd}
 use Rattle.tt_symbolic_search.specs.Answers.{IsAnswerOfSearch}
 use Rattle.hintcheck_fonts.specs.ProgramVerdicts.{IsProgramOf, IsUncut}
 use Rattle.hintcheck_fonts.specs.Programs.{Subject}
@@ -24,14 +24,14 @@ use Rattle.hintcheck_report.specs.Places.{reported_at}
 use Rattle.hintcheck_report.specs.declared.refused.Refused.{Refused as AnyRefused}
 
 -- Why the program of this setting, which starts with these functions, isn't accepted: the search
--- gave this answer; or the check of what it found, before the glyph programs or of one of these; or
--- it is a glyph program longer than maxSizeOfInstructions; or memory ran out.
+-- gave this answer, or the check of what it found; or no run of a font program or a CVT program
+-- comes to its end; or it is a glyph program longer than maxSizeOfInstructions; or memory ran out.
 pub data IsSymbolicAnswer (s : Setting) (functions : List (ℕ × ℕ)) : Refusal → Type 0 where
   searched : (refusal : Refusal) → IsAnswerOfSearch s refusal
       → IsSymbolicAnswer s functions refusal
-  before_glyphs : (refusal : Refusal) → IsAnswerBeforeGlyphs s functions refusal
-      → IsSymbolicAnswer s functions refusal
   checked : (refusal : Refusal) → IsAnswerOfCheck s refusal → IsSymbolicAnswer s functions refusal
+  never_ends : NeverComesToEnd (setting_of s) functions
+      → IsSymbolicAnswer s functions (Refused Main 0 (Only NeverEnds))
   too_long : (IsShortEnough (setting_of s) (setting_of s).kind → ⊥)
       → IsSymbolicAnswer s functions (Refused Main s.limits.program_size (Only ProgramTooLong))
   out_of_memory : IsSymbolicAnswer s functions (Exhausted Memory)

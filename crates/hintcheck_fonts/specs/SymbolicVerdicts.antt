@@ -6,10 +6,10 @@ use Rattle.tt_code.specs.Fonts.{Font, font_setting, glyph_setting}
 use Rattle.tt_code.specs.Grammar.{IsStructured}
 use Rattle.tt_code.specs.Settings.{Setting}
 use Rattle.tt_font.specs.Reading.{FontData, GlyphData}
-use Rattle.tt_symbolic_font.specs.Known.{AreEndsKnowing}
-use Rattle.tt_symbolic_font.specs.Laws.{IsFontSafe}
-use Rattle.tt_symbolic_font.specs.Starts.{GlyphPrograms, StartsFontProgram}
-use Rattle.tt_symbolic_font.specs.declared.ends.Ends.{Ends}
+use Rattle.hintcheck_fonts.specs.SymbolicEnds.{AreEndsKnowing}
+use Rattle.hintcheck_fonts.specs.SymbolicLaws.{IsFontSafe}
+use Rattle.hintcheck_fonts.specs.CvtStarts.{GlyphPrograms, StartsFontProgram}
+use Rattle.hintcheck_fonts.specs.declared.ends.Ends.{Ends}
 use Rattle.tt_symbolic_state.specs.CvtMachine.{CvtNeverFaults}
 use Rattle.hintcheck_fonts.specs.FontPrograms.{cvt_subject, font_of, font_subject, glyph_subject, judgement_on}
 use Rattle.hintcheck_fonts.specs.Programs.{IsCutInto}

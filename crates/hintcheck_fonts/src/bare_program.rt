@@ -1,89 +1,56 @@
 //! The verdict on one program.
 
-ghost use Rattle.std.specs.Prelude.{◌≡◌, ◌≤◌, ◌<◌, ◌^◌, ◌⊎◌, ◌↔◌, [], All, IfErr, IfOk, None, OnOk, length};
+ghost use Rattle.std.specs.Prelude.{◌≡◌, ◌≤◌, ◌<◌, ◌^◌, ◌⊎◌, ◌↔◌, [], All, IfErr, IfOk, None, OnOk, Some, length, slice_get};
 ghost use Rattle.hintcheck_fonts.specs.BudgetAnswers.{BareTellsTableFault, VerdictTellsBudget};
-ghost use Rattle.hintcheck_fonts.specs.FontPrograms.{IsSafeGlyph, glyph_subject};
-ghost use Rattle.hintcheck_fonts.specs.BarePrograms.{IsJudged, IsMemory, bare_font, bare_subject, font_around, glyph_with};
-ghost use Rattle.hintcheck_fonts.specs.ProgramVerdicts.{IfRefused};
-ghost use Rattle.hintcheck_fonts.specs.Programs.{HasGoodFamily, HasLeastFamily, IsRefusal};
-ghost use Rattle.hintcheck_fonts.specs.Representation.Judges.{IsRefusedFor};
-ghost use Rattle.tt_setting.specs.declared.name.Name.TheVariants as name;
-ghost use Rattle.tt_code.specs.Faults.{IsMemory as IsMemoryAlone};
-ghost use Rattle.tt_setting.specs.Budgets.{EndTellsBudget, Spends, TellsBudget};
-ghost use Rattle.tt_font.specs.Reading.{GlyphData, glyph_data};
+ghost use Rattle.hintcheck_fonts.specs.FontPrograms.{IsFontInRange, IsSafeGlyph, font_of, glyph_subject};
+ghost use Rattle.hintcheck_fonts.specs.BarePrograms.{IsJudged, IsMemory, bare_font, bare_subject, glyph_with};
+ghost use Rattle.hintcheck_fonts.specs.Programs.{HasGoodFamily, IsRefusal};
+ghost use Rattle.hintcheck_fonts.specs.Representation.ProgramOrder.{IsJudgedBy};
+ghost use Rattle.tt_setting.specs.Budgets.{EndTellsBudget, Spends};
+ghost use Rattle.tt_font.specs.Reading.{GlyphData, font_around, glyph_data};
 ghost use Rattle.tt_font.specs.Conditions.{maxp_fault};
 
 use crate::finding::Finding;
 use crate::font::list_outcome;
 use crate::judge::Judge;
-use crate::program::{Search, cut};
-use crate::programs::refused as refused_outcome;
-use crate::report::{Name, Refused, Verdict};
+use crate::program::Search;
+use crate::programs::Programs;
+use crate::report::{Refused, Verdict};
 use hintcheck_report::AnswerFault;
-use std::alloc::{AllocError, Global};
-use tt_abs::{Exhausted, Kind, Refusal, Setting};
-use tt_code::{CodeFault, Limits, Program};
+use std::alloc::Global;
+use tt_abs::Exhausted;
+use tt_code::Limits;
 use tt_family::Budget;
-use tt_font::{FontFault, GlyphPart, read_maxp};
+use tt_font::{Font, FontFault, GlyphPart, read_maxp};
 
-/// Returns the error of a fault that is out of memory.
-fn memory_error(fault: CodeFault) -> AllocError
-    requires { IsMemoryAlone fault }
-{
-    match fault {
-        CodeFault::OutOfMemory(error) => error,
-        CodeFault::CannotCut(_) => unreachable!(),
-        CodeFault::Structure(_) => unreachable!(),
-    }
-}
-
-/// Returns the program without instructions.
-pub fn empty_program(alloc: Global) -> Result<Program<'static>, AllocError>
-    ensures { IfOk result (λ program. program ≡ []) }
-{
-    match Program::cut(alloc, &[]) {
-        Ok(program) => Ok(program),
-        // No instruction passes the end of an empty program, and its structure is right.
-        Err(fault) => Err(memory_error(fault)),
-    }
-}
-
-/// Judges a program, which is that of a glyph of a font whose font program and CVT program are
-/// empty.
+/// Returns the first glyph program, `g0`, if this judge refuses it: that of a font whose font
+/// program and CVT program are empty.
 ///
 /// # Errors
-/// `Refused`; `Exhausted`.
-fn judge_bare(
+/// What ended the work without an answer.
+pub(crate) fn refused_glyph<J: Judge<Known = (u16, u32)>>(
     alloc: Global,
-    limits: Limits,
-    cvt: u16,
-    glyph: &GlyphPart<'_>,
+    font: &Font<'_>,
+    judge: &mut J,
     budget: &mut Budget,
-) -> Result<(), Refusal>
-    requires { length glyph.now.program.now < 2 ^ 31 }
-    ensures least { IfOk result (λ _. HasLeastFamily
-        (glyph_subject (font_around limits cvt) [] 0 (glyph_data glyph.now))) }
-    ensures refused { IfErr result (λ fault. IfRefused (name.Glyph 0) fault (IsRefusedFor
-        (glyph_subject (font_around limits cvt) [] 0 (glyph_data glyph.now)))) }
+) -> Result<Vec<Refused>, Exhausted>
+    requires range { IsFontInRange font.now }
+    requires start { J.CanStart font.now.limits [] }
+    ensures judged { (g : GlyphData) → slice_get font.now.glyphs 0 ≡ Some g
+        → IfOk result (λ refused. IsJudgedBy
+        (J.Accepts judge.new (glyph_subject (font_of font.now [] []) [] 0 g) [])
+        (J.Refuses judge.new (glyph_subject (font_of font.now [] []) [] 0 g) [])
+        refused.items) }
+    ensures keeps { J.Keeps judge.old judge.new }
     ensures spends { Spends budget.old budget.new }
-    ensures budget { TellsBudget budget.old budget.new result }
+    ensures budget { EndTellsBudget budget.old budget.new result }
 {
-    let empty = empty_program(alloc)?;
-    let program = cut(alloc, glyph.program)?;
-    let setting = Setting {
-        limits,
-        cvt: u32::from(cvt),
-        kind: Kind::Glyph {
-            points: glyph.points,
-            contours: glyph.contours,
-        },
-        main: &program,
-        font: &empty,
-        prep: &empty,
-        start: &[],
-    };
-    let mut judge = Finding::new(alloc, Search::Verdict);
-    judge.judge(alloc, Name::Glyph(0), &setting, &[], budget)
+    let mut programs = Programs::after_empty(alloc, font)?;
+    let mut refused = Vec::new(alloc);
+    if let Some(outcome) = programs.judge_next(alloc, judge, budget)? {
+        list_outcome(&mut refused, outcome)?;
+    }
+    Ok(refused)
 }
 
 /// Returns the only program, `g0`, if it is refused: that of the glyph of a font whose font program
@@ -92,24 +59,19 @@ fn refused_programs(
     alloc: Global,
     limits: Limits,
     cvt: u16,
-    glyph: &GlyphPart<'_>,
+    glyph: GlyphPart<'_>,
     budget: &mut Budget,
 ) -> Result<Vec<Refused>, Exhausted>
-    requires { length glyph.now.program.now < 2 ^ 31 }
-    ensures judged { IfOk result (λ refused. IsJudged
-        (glyph_subject (font_around limits cvt) [] 0 (glyph_data glyph.now)) refused.items) }
+    requires { length glyph.program.now < 2 ^ 31 }
+    ensures judged { let g : GlyphData = glyph_data glyph.entry in IfOk result (λ refused. IsJudged
+        (glyph_subject (font_of (font_around limits cvt g) [] []) [] 0 g) refused.items) }
     ensures spends { Spends budget.old budget.new }
     ensures budget { EndTellsBudget budget.old budget.new result }
 {
-    match judge_bare(alloc, limits, cvt, glyph, budget) {
-        Ok(()) => Ok(Vec::new(alloc)),
-        Err(fault) => {
-            let outcome = refused_outcome(Name::Glyph(0), fault)?;
-            let mut refused = Vec::new(alloc);
-            list_outcome(&mut refused, outcome)?;
-            Ok(refused)
-        }
-    }
+    let font = Font::around(alloc, limits, u32::from(cvt), glyph)?;
+    font.range_facts();
+    let mut judge = Finding::new(alloc, Search::Verdict);
+    refused_glyph(alloc, &font, &mut judge, budget)
 }
 
 /// Returns the verdict on one glyph program, `g0`, of at most 65,535 bytes, in a font whose font
@@ -184,6 +146,6 @@ pub fn bare_within(
         contours,
         program,
     };
-    let refused = refused_programs(alloc, limits, cvt, &glyph, budget)?;
+    let refused = refused_programs(alloc, limits, cvt, glyph, budget)?;
     Ok(Verdict::new(1, refused))
 }

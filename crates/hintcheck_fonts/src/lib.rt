@@ -5,10 +5,13 @@
 pub mod bare_program;
 pub mod certificate;
 pub mod certificate_upgrade;
+mod ends;
 pub mod finding;
 pub mod font;
 pub mod font_check;
+mod glyph_starts;
 pub mod judge;
+pub mod laws;
 pub mod program;
 pub mod programs;
 pub mod report;

@@ -1,8 +1,9 @@
 //! The verdict on one program: it is cut, a family of abstract states is found for it, and that
 //! family is checked, except where it is found once more to be written.
 
-ghost use Rattle.std.specs.Prelude.{◌≡◌, ℕ, ◌<◌, ◌^◌, List, IfErr, IfOk, OnOk, length, true};
+ghost use Rattle.std.specs.Prelude.{◌≡◌, ℕ, ◌<◌, ◌^◌, List, [], IfErr, IfOk, OnOk, length, true};
 ghost use Rattle.tt_code.specs.Cut.{Instruction, IsCut};
+ghost use Rattle.tt_code.specs.Faults.{IsMemory as IsMemoryAlone};
 ghost use Rattle.tt_code.specs.Grammar.{IsStructured};
 ghost use Rattle.tt_code.specs.Settings.{GlyphProgram};
 ghost use Rattle.tt_setting.specs.Entries.{Ascends};
@@ -16,11 +17,33 @@ ghost use Rattle.hintcheck_fonts.specs.Programs.{Subject};
 ghost use Rattle.hintcheck_fonts.specs.ProgramVerdicts.{IfRefused, IsFaultOfProgram, IsFilledIn, IsForCertificate, IsSubjectOf, IsUncut, NoneIsGoodFor};
 ghost use Rattle.hintcheck_fonts.specs.Representation.Judges.{IsFoundHere};
 
-use std::alloc::Global;
+use std::alloc::{AllocError, Global};
 use tt_abs::{Refusal, Setting};
 use tt_code::{CodeFault, Program, Reason};
 use tt_family::{Budget, Certificate, Listing, check_listing};
 use tt_find::{Finder, ListedStates};
+
+/// Returns the error of a fault that is out of memory.
+fn memory_error(fault: CodeFault) -> AllocError
+    requires { IsMemoryAlone fault }
+{
+    match fault {
+        CodeFault::OutOfMemory(error) => error,
+        CodeFault::CannotCut(_) => unreachable!(),
+        CodeFault::Structure(_) => unreachable!(),
+    }
+}
+
+/// Returns the program without instructions.
+pub fn empty_program(alloc: Global) -> Result<Program<'static>, AllocError>
+    ensures { IfOk result (λ program. program ≡ []) }
+{
+    match Program::cut(alloc, &[]) {
+        Ok(program) => Ok(program),
+        // No instruction passes the end of an empty program, and its structure is right.
+        Err(fault) => Err(memory_error(fault)),
+    }
+}
 
 /// Cuts the bytes of a program, at most 2^31 - 1, into its instructions.
 ///

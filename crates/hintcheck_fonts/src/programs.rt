@@ -10,13 +10,13 @@ ghost use Rattle.hintcheck_fonts.specs.ProgramVerdicts.{IfRefused};
 ghost use Rattle.hintcheck_fonts.specs.Programs.{Subject};
 ghost use Rattle.hintcheck_fonts.specs.Representation.FontVerdicts.{ComesToEnd};
 ghost use Rattle.hintcheck_fonts.specs.Representation.ProgramOrder.{CanGoOn, IsAcceptedTo, IsAnswerBy, IsGlyphNext, IsNext, IsOfKindNext, IsSettingOf, TellsOutcome, next_program, skipped_to, stage_after, stage_in, stage_of, start_at};
-ghost use Rattle.hintcheck_fonts.specs.Sessions.{accepted_as, at_start, over};
+ghost use Rattle.hintcheck_fonts.specs.Sessions.{accepted_as, at_glyph, at_start, over};
 
 use crate::judge::Judge;
-use crate::program::cut;
+use crate::program::{cut, empty_program};
 use crate::report::{Name, Refused};
 use crate::session::Outcome;
-use std::alloc::Global;
+use std::alloc::{AllocError, Global};
 use std::mem;
 use tt_abs::{Exhausted, Kind, Refusal, Setting};
 use tt_code::Program;
@@ -139,6 +139,27 @@ impl<'a, K: Drop> Programs<'a, K> {
             before: Before::Nothing,
             glyph: 0,
         }
+    }
+
+    /// Makes the programs of a font whose font program and CVT program are empty, of which the first
+    /// glyph program is next. Nothing is known where the CVT program ends.
+    ///
+    /// # Errors
+    /// If memory runs out.
+    pub(crate) fn after_empty(alloc: Global, font: &'a Font<'a>) -> Result<Self, AllocError>
+        ensures font { IfOk result (λ programs. programs.font.now ≡ font.now) }
+        ensures stage { IfOk result (λ programs. stage_of programs ≡ at_glyph [] [] [] 0) }
+    {
+        let fpgm = empty_program(alloc)?;
+        let prep = Ended {
+            program: empty_program(alloc)?,
+            known: Vec::new(alloc),
+        };
+        Ok(Programs {
+            font,
+            before: Before::Both(fpgm, prep),
+            glyph: 0,
+        })
     }
 
     /// Returns the program that is next, if one is left.

@@ -1,70 +1,51 @@
 //! The verdict on one program by symbolic states.
 
-ghost use Rattle.std.specs.Prelude.{◌≡◌, ◌≤◌, ◌<◌, ◌^◌, ◌⊎◌, [], IfErr, IfOk, None, OnOk, length};
+ghost use Rattle.std.specs.Prelude.{◌≡◌, ◌≤◌, ◌<◌, ◌^◌, ◌⊎◌, [], IfErr, IfOk, None, OnOk, Some, length, slice_get};
 ghost use Rattle.std.specs.List.{All};
 ghost use Rattle.tt_font.specs.Conditions.{maxp_fault};
-ghost use Rattle.tt_font.specs.Reading.{GlyphData, glyph_data};
-ghost use Rattle.hintcheck_fonts.specs.BarePrograms.{IsMemory, bare_font, font_around, glyph_with};
-ghost use Rattle.tt_setting.specs.declared.name.Name.TheVariants as name;
-ghost use Rattle.hintcheck_fonts.specs.ProgramVerdicts.{IfRefused};
+ghost use Rattle.tt_font.specs.Reading.{GlyphData, font_around, glyph_data};
+ghost use Rattle.hintcheck_fonts.specs.BarePrograms.{IsMemory, bare_font, glyph_with};
+ghost use Rattle.hintcheck_fonts.specs.FontPrograms.{IsFontInRange, font_of};
 ghost use Rattle.hintcheck_fonts.specs.SymbolicRefusals.{IsRefusedAlone};
 ghost use Rattle.hintcheck_fonts.specs.SymbolicVerdicts.{IsSafeAlone};
 
-use crate::bare_program::empty_program;
+use crate::bare_program::refused_glyph;
 use crate::font::list_outcome;
-use crate::program::cut;
 use crate::programs::refused as refused_outcome;
 use crate::report::{Name, Refused, Verdict};
-use crate::symbolic_check::check_in_turn;
+use crate::symbolic_check::SymbolicCheck;
 use crate::symbolic_verdict::USUAL_STEPS;
 use std::alloc::{AllocError, Global};
-use tt_abs::{Exhausted, Kind, Refusal, Setting};
+use tt_abs::Exhausted;
 use tt_code::Limits;
-use tt_font::{FontFault, GlyphPart, read_maxp};
+use tt_family::Budget;
+use tt_font::{Font, FontFault, GlyphPart, read_maxp};
 
-/// Judges a program, which is that of a glyph of a font whose font program and CVT program are
-/// empty, in so many steps at most.
+/// Returns the first glyph program, `g0`, if this judge refuses it: that of a font whose font
+/// program and CVT program are empty. These are judged before it, and where one of them is refused,
+/// that is told of the glyph program.
 ///
 /// # Errors
-/// `Refused`; `Exhausted`.
-#[tactic(auto, using(crate::proofs::SymbolicAnswers::memory_refuses, crate::proofs::SymbolicAnswers::turn_refuses, crate::proofs::SymbolicAnswers::cut_refuses))]
-fn judge_bare(
+/// What ended the work without an answer.
+fn refused_after_empty(
     alloc: Global,
-    limits: Limits,
-    cvt: u16,
-    glyph: &GlyphPart<'_>,
-    steps: u64,
-) -> Result<(), Refusal>
-    requires { length glyph.now.program.now < 2 ^ 31 }
-    ensures safe { OnOk result (IsSafeAlone (font_around limits cvt) (glyph_data glyph.now)) }
-    ensures told { IfErr result (λ fault.
-        IfRefused (name.Glyph 0) fault (IsRefusedAlone (glyph_data glyph.now))) }
+    font: &Font<'_>,
+    judge: &mut SymbolicCheck,
+) -> Result<Vec<Refused>, Exhausted>
+    requires { IsFontInRange font.now }
+    ensures safe { (g : GlyphData) → slice_get font.now.glyphs 0 ≡ Some g
+        → IfOk result (λ refused. refused.items ≡ [] → IsSafeAlone (font_of font.now [] []) g) }
+    ensures one { IfOk result (λ refused. length refused.items ≤ 1) }
+    ensures told { (g : GlyphData) → slice_get font.now.glyphs 0 ≡ Some g
+        → IfOk result (λ refused. All (IsRefusedAlone g) refused.items) }
 {
-    let empty = empty_program(alloc)?;
-    let program = cut(alloc, glyph.program)?;
-    let for_font = Setting {
-        limits,
-        cvt: u32::from(cvt),
-        kind: Kind::Font,
-        main: &empty,
-        font: &empty,
-        prep: &empty,
-        start: &[],
-    };
-    let for_cvt = Setting {
-        kind: Kind::Cvt,
-        ..for_font
-    };
-    let setting = Setting {
-        kind: Kind::Glyph {
-            points: glyph.points,
-            contours: glyph.contours,
-        },
-        main: &program,
-        ..for_font
-    };
-    check_in_turn(alloc, steps, &for_font, &for_cvt, &setting)?;
-    Ok(())
+    if let Err(fault) = judge.pass_empty(alloc, font) {
+        let outcome = refused_outcome(Name::Glyph(0), fault)?;
+        let mut refused = Vec::new(alloc);
+        list_outcome(&mut refused, outcome)?;
+        return Ok(refused);
+    }
+    refused_glyph(alloc, font, judge, &mut Budget::unlimited())
 }
 
 /// Returns the only program, `g0`, if it is refused: that of the glyph of a font whose font program
@@ -73,25 +54,20 @@ fn refused_programs(
     alloc: Global,
     limits: Limits,
     cvt: u16,
-    glyph: &GlyphPart<'_>,
+    glyph: GlyphPart<'_>,
     steps: u64,
 ) -> Result<Vec<Refused>, Exhausted>
-    requires { length glyph.now.program.now < 2 ^ 31 }
-    ensures safe { IfOk result (λ refused. refused.items ≡ []
-        → IsSafeAlone (font_around limits cvt) (glyph_data glyph.now)) }
+    requires { length glyph.program.now < 2 ^ 31 }
+    ensures safe { let g : GlyphData = glyph_data glyph.entry in IfOk result (λ refused.
+        refused.items ≡ [] → IsSafeAlone (font_of (font_around limits cvt g) [] []) g) }
     ensures one { IfOk result (λ refused. length refused.items ≤ 1) }
     ensures told { IfOk result (λ refused.
-        All (IsRefusedAlone (glyph_data glyph.now)) refused.items) }
+        All (IsRefusedAlone (glyph_data glyph.entry)) refused.items) }
 {
-    match judge_bare(alloc, limits, cvt, glyph, steps) {
-        Ok(()) => Ok(Vec::new(alloc)),
-        Err(fault) => {
-            let outcome = refused_outcome(Name::Glyph(0), fault)?;
-            let mut refused = Vec::new(alloc);
-            list_outcome(&mut refused, outcome)?;
-            Ok(refused)
-        }
-    }
+    let font = Font::around(alloc, limits, u32::from(cvt), glyph)?;
+    font.range_facts();
+    let mut judge = SymbolicCheck::new(alloc, steps);
+    refused_after_empty(alloc, &font, &mut judge)
 }
 
 /// Returns the verdict on one glyph program by symbolic states, `g0`, of at most 65,535 bytes, in a
@@ -153,7 +129,7 @@ pub fn bare_symbolic_within(
         contours,
         program,
     };
-    match refused_programs(alloc, limits, cvt, &glyph, steps) {
+    match refused_programs(alloc, limits, cvt, glyph, steps) {
         Ok(refused) => Ok(Verdict::new(1, refused)),
         Err(_) => Err(FontFault::OutOfMemory(AllocError)),
     }

@@ -1,25 +1,28 @@
 //! The judge that searches and checks a program by symbolic states.
 
-ghost use Rattle.std.specs.Prelude.{◌≡◌, ℕ, List, IfErr, IfOk, IsTrue, OnOk, Some, refl};
+ghost use Rattle.std.specs.Prelude.{◌≡◌, [], IfErr, IsTrue, OnOk, Some, refl};
 ghost use Rattle.tt_setting.specs.Entries.{Ascends};
 ghost use Rattle.tt_setting.specs.Refusals.{IsOfNoBudget, told_reason};
 ghost use Rattle.tt_setting.specs.Settings.{setting_of};
-ghost use Rattle.tt_symbolic_font.specs.Known.{StartGlyphs};
+ghost use Rattle.hintcheck_fonts.specs.SymbolicEnds.{StartGlyphs};
+ghost use Rattle.hintcheck_fonts.specs.FontPrograms.{font_of};
 ghost use Rattle.hintcheck_fonts.specs.ProgramVerdicts.{with_start};
 ghost use Rattle.hintcheck_fonts.specs.SymbolicRefusals.{IsSymbolicAnswer, IsSymbolicRefusal, IsToldInTurn};
 ghost use Rattle.hintcheck_fonts.specs.Representation.FontVerdicts.{ComesToEnd};
-ghost use Rattle.hintcheck_fonts.specs.Representation.SymbolicChecks.{AreCheckedInTurn, IsCheckedBy, IsEnded, IsEndedBy, IsRunnable};
+ghost use Rattle.hintcheck_fonts.specs.Representation.SymbolicChecks.{AreBegun, IsCheckedBy, IsEnded, IsEndedBy, IsRunnable};
 
+use crate::ends::{Ends, check_to_end};
+use crate::glyph_starts::{GlyphStarts, check_glyph, starts_after};
 use crate::judge::Judge;
+use crate::program::empty_program;
 use crate::report::Name;
 use std::alloc::{AllocError, Global};
 use std::mem;
-use tt_abs::{Kind, Refusal, Setting, SortedMap};
+use tt_abs::{Kind, Refusal, Setting};
 use tt_code::Reason;
-use tt_family::{Budget, is_short};
-use tt_symbolic::{Kept, NOTHING_KEPT};
-use tt_symbolic_check::{Effort, Start};
-use tt_symbolic_font::{Ends, GlyphStarts, check_before_glyphs, start_with};
+use tt_family::Budget;
+use tt_font::Font;
+use tt_symbolic_check::Effort;
 use tt_symbolic_search::{Insight, Question, Search, USUAL_SEARCH};
 
 /// Judges a program by symbolic states, which are found and checked. What was learnt from one program
@@ -65,159 +68,11 @@ fn effort_left(search: &Search, most_steps: u64) -> Effort {
     }
 }
 
-/// Searches and checks a font program or a CVT program, which starts with these functions. Returns
-/// what is known where it ends.
-///
-/// # Errors
-/// Those of `Search::find` and of `check_before_glyphs`.
-#[tactic(auto, using(crate::proofs::SymbolicAnswers::memory_answers, crate::proofs::SymbolicAnswers::search_answers, crate::proofs::SymbolicAnswers::ends_answer))]
-fn check_to_end(
-    alloc: Global,
-    search: &mut Search,
-    effort: Effort,
-    setting: &Setting<'_>,
-    functions: &[(u16, u32)],
-) -> Result<Ends, Refusal>
-    requires { Ascends functions.now }
-    ensures ended { IfOk result (IsEnded (setting_of setting.now) functions.now) }
-    ensures answer { IfErr result (IsSymbolicAnswer setting.now functions.now) }
-    ensures within { IfErr result IsOfNoBudget }
-{
-    let functions = SortedMap::from_slice(alloc, functions)?;
-    let start = start_with(alloc, &functions)?;
-    let found = search.find(setting, &NOTHING_KEPT, &[start], effort)?;
-    check_before_glyphs(
-        alloc,
-        setting,
-        &functions,
-        found.listed.as_slice(),
-        found.effort,
-    )
-}
-
-/// Searches and checks a glyph program from these starts.
-///
-/// # Errors
-/// `Refused` too where it is longer than the font allows; those of `Search::find` and of
-/// `check_glyph_program`.
-#[tactic(auto, using(crate::proofs::SymbolicAnswers::memory_answers, crate::proofs::SymbolicAnswers::search_answers, crate::proofs::SymbolicAnswers::check_answers))]
-fn check_glyph(
-    alloc: Global,
-    search: &mut Search,
-    effort: Effort,
-    setting: &Setting<'_>,
-    starts: &GlyphStarts,
-) -> Result<(), Refusal>
-    ensures runnable { OnOk result (IsRunnable (setting_of setting.now) starts.now) }
-    ensures answer { (functions : List (ℕ × ℕ))
-        → IfErr result (IsSymbolicAnswer setting.now functions) }
-    ensures within { IfErr result IsOfNoBudget }
-{
-    if !is_short(setting) {
-        let most = u32::from(setting.limits.program_size);
-        return Err(Refusal::in_main(most, Reason::ProgramTooLong));
-    }
-    let kept = Kept {
-        storage: starts.storage.as_slice(),
-        controls: starts.controls.as_slice(),
-    };
-    let found = search.find(setting, &kept, starts.starts.as_slice(), effort)?;
-    starts.check_glyph_program(alloc, setting, found.listed.as_slice(), found.effort)
-}
-
-/// Returns the start of which only the functions are known that all ends have.
-fn unknown_starts(alloc: Global, ends: &Ends) -> Result<GlyphStarts, AllocError>
-    ensures { IfOk result (StartGlyphs ends.now) }
-{
-    let mut start = Start::unknown(alloc);
-    start.functions.copy_from(&ends.functions)?;
-    let mut starts = Vec::new(alloc);
-    starts.push(start)?;
-    Ok(GlyphStarts {
-        starts,
-        storage: Vec::new(alloc),
-        controls: Vec::new(alloc),
-    })
-}
-
-/// Makes the starts of glyph programs after the ends of the CVT program. Where the search proposes
-/// none that follow each of them, nothing but functions is known.
-fn starts_after(alloc: Global, search: &mut Search, ends: &Ends) -> Result<GlyphStarts, AllocError>
-    ensures { IfOk result (StartGlyphs ends.now) }
-{
-    let mut proposed = search.starts_after(ends.states.as_slice())?;
-    for start in &mut proposed {
-        start.functions.copy_from(&ends.functions)?;
-    }
-    match GlyphStarts::new(alloc, ends, proposed)? {
-        Some(starts) => Ok(starts),
-        None => unknown_starts(alloc, ends),
-    }
-}
-
-/// Checks the programs of a font of one glyph by what the search finds for each, in so many steps
-/// for all of them together.
-///
-/// # Errors
-/// Those of `Search::find`, of `check_before_glyphs` and of `check_glyph_program`.
-#[tactic(auto, using(crate::proofs::SymbolicAnswers::answer_in_turn, crate::proofs::SymbolicAnswers::memory_in_turn))]
-fn check_found(
-    alloc: Global,
-    search: &mut Search,
-    most_steps: u64,
-    font: &Setting<'_>,
-    cvt: &Setting<'_>,
-    glyph: &Setting<'_>,
-) -> Result<(), Refusal>
-    ensures checked { OnOk result (AreCheckedInTurn (setting_of font.now) (setting_of cvt.now)
-        (setting_of glyph.now)) }
-    ensures told { IfErr result IsToldInTurn }
-    ensures within { IfErr result IsOfNoBudget }
-{
-    let effort = effort_left(search, most_steps);
-    let first = check_to_end(alloc, search, effort, font, &[])?;
-    let functions = first.functions.as_slice();
-    let effort = effort_left(search, most_steps);
-    let second = check_to_end(alloc, search, effort, cvt, functions)?;
-    let starts = starts_after(alloc, search, &second)?;
-    let effort = effort_left(search, most_steps);
-    check_glyph(alloc, search, effort, glyph, &starts)
-}
-
-/// Searches and checks the programs of a font of one glyph, in so many steps for all of them
-/// together.
-///
-/// # Errors
-/// Those of `Search::find`, of `check_before_glyphs` and of `check_glyph_program`.
-pub(crate) fn check_in_turn(
-    alloc: Global,
-    most_steps: u64,
-    font: &Setting<'_>,
-    cvt: &Setting<'_>,
-    glyph: &Setting<'_>,
-) -> Result<(), Refusal>
-    ensures checked { OnOk result (AreCheckedInTurn (setting_of font.now) (setting_of cvt.now)
-        (setting_of glyph.now)) }
-    ensures told { IfErr result IsToldInTurn }
-    ensures within { IfErr result IsOfNoBudget }
-{
-    let mut search = Search::new(alloc);
-    check_found(alloc, &mut search, most_steps, font, cvt, glyph)
-}
-
 /// Returns what the search is asked about a program, where this is to be explained.
 fn question_on(explained: Option<(Name, Question)>, program: Name) -> Option<Question> {
     match explained {
         Some((name, question)) if name == program => Some(question),
         _ => None,
-    }
-}
-
-/// What is known of a program that never ends.
-fn no_ends(alloc: Global) -> Ends {
-    Ends {
-        states: Vec::new(alloc),
-        functions: SortedMap::new(alloc),
     }
 }
 
@@ -228,12 +83,8 @@ impl SymbolicCheck {
         SymbolicCheck {
             search: Search::new(alloc),
             most_steps,
-            ends: no_ends(alloc),
-            starts: GlyphStarts {
-                starts: Vec::new(alloc),
-                storage: Vec::new(alloc),
-                controls: Vec::new(alloc),
-            },
+            ends: Ends::none(alloc),
+            starts: GlyphStarts::none(alloc),
             may_write_kept: false,
             explained: None,
         }
@@ -253,7 +104,7 @@ impl SymbolicCheck {
     pub(crate) fn take_ends(&mut self, alloc: Global) -> Ends
         ensures { result ≡ self.old.ends }
     {
-        mem::replace(&mut self.ends, no_ends(alloc))
+        mem::replace(&mut self.ends, Ends::none(alloc))
     }
 
     /// Makes the starts of glyph programs after these ends of the CVT program, without the memory
@@ -301,6 +152,38 @@ impl SymbolicCheck {
             }
             Kind::Glyph { .. } => check_glyph(alloc, search, effort, setting, &self.starts),
         }
+    }
+
+    /// Judges the font program and the CVT program of a font in which both are empty, and makes the
+    /// starts of its glyph programs.
+    ///
+    /// # Errors
+    /// Those of `check`.
+    #[tactic(auto, using(crate::proofs::SymbolicAnswers::answer_in_turn, crate::proofs::SymbolicAnswers::memory_in_turn))]
+    pub(crate) fn pass_empty(&mut self, alloc: Global, font: &Font<'_>) -> Result<(), Refusal>
+        ensures begun { OnOk result (AreBegun (font_of font.now [] []) self.new.starts) }
+        ensures told { IfErr result IsToldInTurn }
+    {
+        let empty = empty_program(alloc)?;
+        let for_font = Setting {
+            limits: font.limits(),
+            cvt: font.cvt_count(),
+            kind: Kind::Font,
+            main: &empty,
+            font: &empty,
+            prep: &empty,
+            start: &[],
+        };
+        let for_cvt = Setting {
+            kind: Kind::Cvt,
+            ..for_font
+        };
+        self.check(alloc, &for_font, &[])?;
+        let first = self.take_ends(alloc);
+        self.check(alloc, &for_cvt, first.functions.as_slice())?;
+        let second = self.take_ends(alloc);
+        self.start_glyphs(alloc, &second)?;
+        Ok(())
     }
 
     /// Hands on the answer for a program, and notes where it is refused because it may write what the

@@ -6,7 +6,7 @@ ghost use Rattle.tt_setting.specs.declared.name.Name.TheVariants as name;
 ghost use Rattle.tt_font.specs.Conditions.{TestsWithMemory};
 ghost use Rattle.tt_font.specs.FileFaults.{font_fault};
 ghost use Rattle.tt_font.specs.Reading.{FontData, Reads};
-ghost use Rattle.tt_symbolic_font.specs.Known.{StartGlyphs};
+ghost use Rattle.hintcheck_fonts.specs.SymbolicEnds.{StartGlyphs};
 ghost use Rattle.hintcheck_fonts.specs.FontPrograms.{IsFontInRange, judgement_on};
 ghost use Rattle.hintcheck_fonts.specs.Representation.ProgramOrder.{CanGoOn, skipped_to, stage_of};
 ghost use Rattle.hintcheck_fonts.specs.Representation.SymbolicChecks.{AnswersBySymbols, IsAfterCvt, TellsRefused};
@@ -21,7 +21,7 @@ use crate::symbolic_check::SymbolicCheck;
 use std::alloc::{AllocError, Global};
 use tt_family::Budget;
 use tt_font::{Font, FontFault};
-use tt_symbolic_font::Ends;
+use crate::ends::Ends;
 
 /// How often the glyph programs are taken up again at most, because one of them may write what they
 /// start with.

@@ -1,6 +1,6 @@
 -- The programs of a font in their order, and what comes of each where a judge decides on it.
 -- (Representation: no public clause cites it.)
-use Rattle.std.specs.Prelude.{◌≡◌, ℕ, ◌+◌, ◌<◌, ◌^◌, List, [], Option, Some, None, Result, Ok, Err, option_map, length, slice_get}
+use Rattle.std.specs.Prelude.{◌≡◌, ℕ, ◌+◌, ◌<◌, ◌^◌, List, [], ◌∷◌, Option, Some, None, Result, Ok, Err, option_map, length, slice_get}
 use Rattle.tt_setting.specs.declared.exhausted.Exhausted.{Exhausted}
 use Rattle.tt_code.specs.Cut.{Instruction}
 use Rattle.tt_setting.specs.declared.refusal.Refusal.{Refusal}
@@ -150,3 +150,9 @@ IsAnswerBy d Accepts Ends Refuses stage (Some o) stage' =
     IsOutcomeBy d Accepts Ends Refuses stage o stage'
 IsAnswerBy d Accepts Ends Refuses stage None stage' =
     (next_program d stage ≡ None) × (stage' ≡ over)
+
+-- These are the refused ones of a program alone: none, and it is accepted; or this one.
+abbrev pub IsJudgedBy : (List Instruction → Type 0) → (Refused → Type 0) → List Refused → Type 0
+IsJudgedBy Accepts Refuses [] = (is : List Instruction) × Accepts is
+IsJudgedBy Accepts Refuses (r ∷ []) = Refuses r
+IsJudgedBy Accepts Refuses (r ∷ q ∷ rs) = ⊥

@@ -5,9 +5,9 @@ use Rattle.tt_code.specs.Fonts.{Font, cvt_setting, font_setting}
 use Rattle.tt_code.specs.Settings.{Setting}
 use Rattle.tt_family.specs.GoodFamilies.{IsShortEnough}
 use Rattle.tt_font.specs.Reading.{FontData, GlyphData}
-use Rattle.tt_symbolic_font.specs.Known.{AreEndsKnowing, IsGlyphChecked, IsSafeKnowing, StartGlyphs}
-use Rattle.tt_symbolic_font.specs.declared.ends.Ends.{Ends}
-use Rattle.tt_symbolic_font.specs.declared.glyph_starts.GlyphStarts.{GlyphStarts}
+use Rattle.hintcheck_fonts.specs.SymbolicEnds.{AreEndsKnowing, IsGlyphChecked, IsSafeKnowing, StartGlyphs}
+use Rattle.hintcheck_fonts.specs.declared.ends.Ends.{Ends}
+use Rattle.hintcheck_fonts.specs.declared.glyph_starts.GlyphStarts.{GlyphStarts}
 use Rattle.hintcheck_fonts.specs.FontPrograms.{cvt_subject, font_of, font_subject, glyph_subject}
 use Rattle.hintcheck_fonts.specs.ProgramVerdicts.{with_start}
 use Rattle.hintcheck_fonts.specs.Programs.{IsCutInto, Subject}
@@ -100,13 +100,10 @@ AreUncheckedTill d starts (at_glyph f p known id) rs =
     → AreUnchecked (font_of d f p) starts 0 d.glyphs (rs ++ others)
 AreUncheckedTill d starts stage rs = ⊥
 
--- The programs of these settings, of a font program, of a CVT program and of a glyph, were checked
--- one after the other.
-pub record AreCheckedInTurn (font cvt glyph : Setting) : Type 0 where
+-- The font program and the CVT program were checked, and glyph programs start so after them.
+pub record AreBegun (font : Font) (starts : GlyphStarts) : Type 0 where
   pub first : Ends
   pub second : Ends
-  pub starts : GlyphStarts
-  pub font_ended : IsEnded font [] first
-  pub cvt_ended : IsEnded cvt first.functions second
+  pub font_ended : IsEnded (font_setting font) [] first
+  pub cvt_ended : IsEnded (cvt_setting font) first.functions second
   pub begun : StartGlyphs second starts
-  pub runnable : IsRunnable glyph starts

@@ -1,9 +1,9 @@
 use Rattle.std.proofs.Common.{◌∙◌, ◌+◌, ◌<◌, Bor, subst, sym}
 use Rattle.tt_setting.specs.Entries.{Ascends}
 use Rattle.tt_font.specs.Reading.{FontData}
-use Rattle.tt_symbolic_font.specs.Known.{StartGlyphs}
-use Rattle.tt_symbolic_font.specs.declared.ends.Ends.{Ends}
-use Rattle.tt_symbolic_font.specs.declared.glyph_starts.GlyphStarts.{GlyphStarts}
+use Rattle.hintcheck_fonts.specs.SymbolicEnds.{StartGlyphs}
+use Rattle.hintcheck_fonts.specs.declared.ends.Ends.{Ends}
+use Rattle.hintcheck_fonts.specs.declared.glyph_starts.GlyphStarts.{GlyphStarts}
 use Rattle.hintcheck_fonts.specs.FontPrograms.{judgement_on}
 use Rattle.hintcheck_fonts.specs.Representation.ProgramOrder.{stage_of}
 use Rattle.hintcheck_fonts.specs.Representation.SymbolicChecks.{AreUncheckedTill, IsAfterCvt}

@@ -1,6 +1,6 @@
 use Rattle.std.proofs.Common.{◌≡◌}
 use Rattle.tt_setting.specs.Entries.{Ascends}
-use Rattle.tt_symbolic_font.specs.Known.{StartGlyphs}
+use Rattle.hintcheck_fonts.specs.SymbolicEnds.{StartGlyphs}
 use Rattle.hintcheck_fonts.specs.Representation.ProgramOrder.{CanGoOn, stage_of}
 use Rattle.hintcheck_fonts.specs.Representation.SymbolicChecks.{AreUncheckedTill, IsAfterCvt}
 use Rattle.hintcheck_fonts.proofs.SymbolicSteps.{takings_left}

@@ -1,8 +1,0 @@
-use Rattle.std.proofs.Common.{take}
-use Rattle.std.specs.List.{All}
-use Rattle.tt_setting.specs.Functions.{CoversFunctions}
-use Rattle.tt_symbolic_state.specs.declared.state.State.{State}
-use Rattle.tt_symbolic_font.proofs.ends.are_known.Given as goal
-
-abbrev pub invariant-loop-state : goal.invariant-loop-state
-invariant-loop-state l = All (λ (a : State). CoversFunctions l.functions a.functions) (take l.state-index l.states)

@@ -1,5 +1,0 @@
-use Rattle.tt_symbolic_font.proofs.Following.{start_knows}
-use Rattle.tt_symbolic_font.proofs.ends.start_with.Goals as goal
-
-pub returns : goal.returns
-returns c = start_knows _ c.args.functions.now c.unknown-start.ensures.storage c.unknown-start.ensures.controls c.in_ok-copy_from.ensures c.unknown-start.ensures.ranges

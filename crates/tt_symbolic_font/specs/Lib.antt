@@ -1,4 +1,0 @@
-pub mod Starts
-pub mod Known
-pub mod Answers
-pub mod Laws
