@@ -85,14 +85,16 @@ pub enum Failed {
     },
     /// A number of the graphics state isn't known.
     UnknownIn(Register),
-    /// The element under this many others may be any number of a range, which isn't all in bounds.
-    /// The zone counts for points and contours; for others it is either one.
+    /// The element under this many others may be any number of a range, and nothing has some of these
+    /// numbers: no point or contour of the zone, no control value, or no storage cell. Only the
+    /// symbolic profile tells it.
     MayBeOutside {
         role: Role,
         zone: ZoneCell,
         under: u32,
     },
-    /// A reference point may be any number of a range, and the zone hasn't a point of each of them.
+    /// A reference point may be any number of a range, and the zone has no point with some of these
+    /// numbers. Only the symbolic profile tells it.
     MayBeOutsideIn {
         register: Register,
         zone: ZoneCell,

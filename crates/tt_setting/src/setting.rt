@@ -200,7 +200,7 @@ impl<'a> Setting<'a> {
     }
 
     /// Returns how many points the glyph zone has.
-    fn glyph_zone(&self) -> u32
+    pub fn glyph_zone(&self) -> u32
         ensures { result ≡ zone_size (setting_of self.now) One }
     {
         match self.kind {
@@ -211,7 +211,7 @@ impl<'a> Setting<'a> {
     }
 
     /// Returns how many contours the glyph zone has.
-    fn glyph_contours(&self) -> u32
+    pub fn glyph_contours(&self) -> u32
         ensures { result ≡ contours_in (setting_of self.now) One }
     {
         match self.kind {

@@ -3,3 +3,4 @@ pub mod Exacts
 pub mod Simplifying
 pub mod Stacks
 pub mod Takings
+pub mod GraphicsOfCells

@@ -12,7 +12,7 @@ ghost use Rattle.tt_symbolic_cells.specs.Taking.{Leaves, Takes, below_bound};
 
 use crate::failures::{Named, failed_index, failed_use, too_few, unknown};
 use crate::zones::{
-    cell_of, contours, names_zone, pointer, points_in, points_within, reference, zone_within,
+    cell_of, contours, pointer, points_in, points_within, reference, zone_within,
 };
 use tt_setting::{Failed, Register, Role, Setting};
 use tt_code::Graphics;
@@ -78,7 +78,7 @@ fn take_zone(
     match stack.under(taken) {
         Some(cell) => match number(cell, ranges) {
             Some(zone) => {
-                if names_zone(setting, zone) {
+                if setting.is_zone(zone) {
                     Ok(taken + 1)
                 } else {
                     Err(Failed::NoZone { number: zone })

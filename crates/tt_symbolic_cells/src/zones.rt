@@ -3,63 +3,51 @@
 ghost use Rattle.std.specs.Prelude.{◌≡◌, ℤ, true};
 ghost use Rattle.tt_code.specs.Settings.{contours_in, zone_size};
 ghost use Rattle.tt_code.specs.States.{is_below, pointer as pointer_of, reference as reference_of, with_pointer, with_reference};
-ghost use Rattle.tt_code.specs.Operands.{is_point, is_zone};
+ghost use Rattle.tt_code.specs.Operands.{is_point};
 ghost use Rattle.tt_setting.specs.Settings.{setting_of};
 ghost use Rattle.tt_symbolic_state.specs.Values.{Valuation, value};
 ghost use Rattle.tt_symbolic_state.specs.Shows.{graphics_of, zone_number};
 
-use tt_setting::{Kind, Setting, ZoneCell};
+use tt_setting::{Setting, ZoneCell};
 use tt_code::Graphics;
 use tt_code::kinds::{Pointer, Reference, Within};
 use tt_symbolic_state::cell::Cell;
 use tt_symbolic_state::state::Zone;
 
 /// Returns the cell of a reference point.
+#[tactic(auto, using(crate::proofs::GraphicsOfCells::reference_value))]
 pub fn reference(graphics: &Graphics<Cell, Zone>, reference: Reference) -> Cell
     ensures { (v : Valuation) → value v result
         ≡ reference_of reference (graphics_of v graphics.now) }
 {
-    match reference {
-        Reference::Rp0 => graphics.rp0,
-        Reference::Rp1 => graphics.rp1,
-        Reference::Rp2 => graphics.rp2,
-    }
+    graphics.reference(reference)
 }
 
 /// Returns the zone that a pointer names.
+#[tactic(auto, using(crate::proofs::GraphicsOfCells::pointer_zone))]
 pub fn pointer(graphics: &Graphics<Cell, Zone>, pointer: Pointer) -> Zone
     ensures { (v : Valuation) → zone_number result
         ≡ pointer_of pointer (graphics_of v graphics.now) }
 {
-    match pointer {
-        Pointer::Zp0 => graphics.zp0,
-        Pointer::Zp1 => graphics.zp1,
-        Pointer::Zp2 => graphics.zp2,
-    }
+    graphics.pointer(pointer)
 }
 
 /// Sets a reference point.
+#[tactic(auto, using(crate::proofs::GraphicsOfCells::reference_set))]
 pub fn set_reference(graphics: &mut Graphics<Cell, Zone>, reference: Reference, cell: Cell)
     ensures { (v : Valuation) → graphics_of v graphics.new
         ≡ with_reference reference (value v cell) (graphics_of v graphics.old) }
 {
-    match reference {
-        Reference::Rp0 => graphics.rp0 = cell,
-        Reference::Rp1 => graphics.rp1 = cell,
-        Reference::Rp2 => graphics.rp2 = cell,
-    }
+    graphics.set_reference(reference, cell);
 }
 
 /// Sets a zone pointer.
+#[tactic(auto, using(crate::proofs::GraphicsOfCells::pointer_set))]
 pub fn set_pointer(graphics: &mut Graphics<Cell, Zone>, pointer: Pointer, zone: Zone)
     ensures { (v : Valuation) → graphics_of v graphics.new
         ≡ with_pointer pointer (zone_number zone) (graphics_of v graphics.old) }
 {
-    match pointer {
-        Pointer::Zp0 => graphics.zp0 = zone,
-        Pointer::Zp1 => graphics.zp1 = zone,
-        Pointer::Zp2 => graphics.zp2 = zone,
-    }
+    graphics.set_pointer(pointer, zone);
 }
 
 /// Returns how many points the zone has.
@@ -68,11 +56,7 @@ pub fn points_in(setting: &Setting<'_>, zone: Zone) -> u32
 {
     match zone {
         Zone::Zero => u32::from(setting.limits.twilight),
-        Zone::One => match setting.kind {
-            Kind::Font => 0,
-            Kind::Cvt => 0,
-            Kind::Glyph { points, .. } => u32::from(points) + 4,
-        },
+        Zone::One => setting.glyph_zone(),
     }
 }
 
@@ -82,11 +66,7 @@ pub fn contours(setting: &Setting<'_>, zone: Zone) -> u32
 {
     match zone {
         Zone::Zero => 1,
-        Zone::One => match setting.kind {
-            Kind::Font => 0,
-            Kind::Cvt => 0,
-            Kind::Glyph { contours, .. } => u32::from(contours),
-        },
+        Zone::One => setting.glyph_contours(),
     }
 }
 
@@ -132,16 +112,5 @@ pub fn zone_within(graphics: &Graphics<Cell, Zone>, within: Within) -> ZoneCell 
         Within::In(p) => cell_of(pointer(graphics, p)),
         Within::Both(p, q) => both_zones(pointer(graphics, p), pointer(graphics, q)),
         Within::GlyphAnd(p) => both_zones(Zone::One, pointer(graphics, p)),
-    }
-}
-
-/// Whether the number names a zone that the font has.
-pub fn names_zone(setting: &Setting<'_>, number: i32) -> bool
-    ensures { result ≡ is_zone (setting_of setting.now) number }
-{
-    match number {
-        0 => setting.limits.zones >= 2,
-        1 => true,
-        _ => false,
     }
 }
