@@ -1,5 +1,5 @@
 -- An instruction by its code, at its place.
-use Rattle.std.proofs.Common.{◌≡◌, ℕ, suc, ◌+◌, ◌≤◌, ℤ, List, [], ◌∷◌, Ok, None, Option, Some, Bool, true, false, nat_eq, nat_le, refl, sym, ◌∙◌, ap, subst, arith, length}
+use Rattle.std.proofs.Common.{◌≡◌, ℕ, suc, ◌+◌, ◌≤◌, ℤ, List, [], ◌∷◌, Ok, None, Option, Some, Bool, true, false, nat_eq, nat_le, if◌then◌else◌, refl, sym, ◌∙◌, ap, subst, arith, length}
 use Rattle.std.proofs.lemmas.Bool.{eqb-true, leb-false}
 use Rattle.std.proofs.lemmas.List.{length-map}
 use Rattle.tt_code.specs.Refusals.{Tested, ◌>>=◌}

@@ -1,11 +1,33 @@
-use Rattle.std.proofs.Common.{ap, sym, ◌∙◌}
+use Rattle.std.proofs.Common.{◌≡◌, ap, refl, sym, true, ◌∙◌}
+use denote.Enum.Bare.{sameb}
+use Rattle.tt_code.specs.contracts.kinds.Written.{the_type}
+use Rattle.tt_code.specs.declared.kinds.Written.{Written}
+use Rattle.tt_code.specs.declared.kinds.Written.TheVariants.{StorageCell, ControlValue, ControlValues, Nothing}
 use Rattle.tt_code.specs.Entries.{view}
 use Rattle.tt_symbolic.specs.Representation.Plain.{line_of}
-use Rattle.tt_symbolic.proofs.Keepings.{keeps_other, keeps_plain, keeps_store}
+use Rattle.tt_symbolic.proofs.Keepings.{keeps_other, keeps_plain, keeps_stored}
 use Rattle.tt_symbolic.proofs.kept.keeps_storage.Goals as goal
 
-pub returns-then-code-eq66 : goal.returns-then-code-eq66
-returns-then-code-eq66 c = λ e. keeps_store c.args.numbers.now c.args.code c.args.state.now c.if-code-eq66.true (c.is_second_none_of.ensures e)
+same_written : (a b : Written) → sameb the_type a b ≡ true → a ≡ b
+same_written StorageCell StorageCell h = refl
+same_written StorageCell ControlValue h = cc
+same_written StorageCell ControlValues h = cc
+same_written StorageCell Nothing h = cc
+same_written ControlValue StorageCell h = cc
+same_written ControlValue ControlValue h = refl
+same_written ControlValue ControlValues h = cc
+same_written ControlValue Nothing h = cc
+same_written ControlValues StorageCell h = cc
+same_written ControlValues ControlValue h = cc
+same_written ControlValues ControlValues h = refl
+same_written ControlValues Nothing h = cc
+same_written Nothing StorageCell h = cc
+same_written Nothing ControlValue h = cc
+same_written Nothing ControlValues h = cc
+same_written Nothing Nothing h = refl
+
+pub returns-then-eq : goal.returns-then-eq
+returns-then-eq c = λ e. keeps_stored c.args.numbers.now c.args.code c.args.state.now (sym c.written.ensures ∙ same_written _ _ (sym c.eq.ensures ∙ c.if-eq.true)) (c.is_second_none_of.ensures e)
 
 pub returns-in-Plain : goal.returns-in-Plain
 returns-in-Plain c = λ e. keeps_plain c.args.numbers.now c.args.code c.args.state.now (line_of c.in-Plain.line) (sym c.entry.ensures ∙ ap view c.in-Plain.is) (c.stores_nothing.ensures e)

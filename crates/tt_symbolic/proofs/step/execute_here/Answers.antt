@@ -1,4 +1,4 @@
-use Rattle.std.proofs.Common.{ap, sym, ◌∙◌, ◌≡◌}
+use Rattle.std.proofs.Common.{ap, refl, sym, ◌∙◌, ◌≡◌}
 use Rattle.tt_code.specs.Table.{refinement_of}
 use Rattle.tt_code.specs.declared.kinds.Refinement.TheVariants as kinds
 use Rattle.tt_setting.specs.Settings.{setting_of}
