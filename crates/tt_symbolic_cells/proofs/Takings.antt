@@ -95,7 +95,7 @@ pairs_take one S taken k n z e f h = record { front = (z ∷ []) ++ h.front; lea
 
 -- The operands.
 
-pub if_ok : (r : Result ℕ Reason) (P Q : ℕ → Type 0) → ((n : ℕ) → P n → Q n) → IfOk r P → IfOk r Q
+pub if_ok : {E : Type 0} (r : Result ℕ E) (P Q : ℕ → Type 0) → ((n : ℕ) → P n → Q n) → IfOk r P → IfOk r Q
 if_ok (Ok n) P Q f h = f n h
 if_ok (Err e) P Q f h = tt
 
