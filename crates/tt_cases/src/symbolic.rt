@@ -6,9 +6,9 @@ use crate::words::{Words, number_of};
 use anyhow::Result;
 use std::alloc::{AllocError, Global};
 use std::mem;
-use tt_abs::{Refusal, Setting};
+use tt_abs::{Kind, Refusal, Setting};
 use tt_symbolic::kept::{Kept, NOTHING_KEPT};
-use tt_symbolic_check::{Effort, Start, USUAL_EFFORT, check, start_state};
+use tt_symbolic_check::{Effort, Start, check, start_state};
 use tt_symbolic_state::{Cell, OpenCall, Range, State};
 
 /// How much a check of programs may do: a comparison splits the range of any symbol.
@@ -20,7 +20,7 @@ const WIDE: Effort = Effort {
 /// How much one by listed states may do.
 const SMALL: Effort = Effort {
     steps: 500,
-    ..USUAL_EFFORT
+    widest_compared: 1 << 16,
 };
 
 /// Returns the text of what a check tells.
@@ -50,15 +50,52 @@ fn functions_after(alloc: Global, setting: &Setting<'_>) -> Result<Start, Refusa
     Ok(start)
 }
 
+/// Returns the setting of the font program, which starts with no function.
+fn font_setting<'a>(context: &Context<'_>, programs: &'a Programs<'a>) -> Setting<'a> {
+    Setting {
+        limits: context.limits,
+        cvt: u32::from(context.cvt),
+        kind: Kind::Font,
+        main: &programs.font,
+        font: &programs.font,
+        prep: &programs.font,
+        start: &[],
+    }
+}
+
+/// Returns the setting of the CVT program of the same font.
+fn cvt_setting<'a>(for_font: Setting<'a>, programs: &'a Programs<'a>) -> Setting<'a> {
+    Setting {
+        kind: Kind::Cvt,
+        main: &programs.prep,
+        prep: &programs.prep,
+        ..for_font
+    }
+}
+
+/// Returns the setting of the glyph program of the same font.
+fn glyph_setting<'a>(
+    context: &Context<'_>,
+    for_cvt: Setting<'a>,
+    programs: &'a Programs<'a>,
+) -> Setting<'a> {
+    Setting {
+        kind: Kind::Glyph {
+            points: context.points,
+            contours: context.contours,
+        },
+        main: &programs.glyph,
+        ..for_cvt
+    }
+}
+
 /// Checks programs one after the other, each from what is known at the end of the one before; of
 /// the font program's end only the functions.
 fn check_all(context: &Context<'_>, programs: &Programs<'_>) -> Result<Start, Refusal> {
     let alloc = context.rt.alloc();
-    let cvt = u32::from(context.cvt);
-    let for_font = Setting::for_font_program(context.limits, cvt, &programs.font);
-    let for_cvt = for_font.for_cvt_program(&programs.prep, &[]);
-    let glyph = &programs.glyph;
-    let for_glyph = for_cvt.for_glyph_program(context.points, context.contours, glyph, &[]);
+    let for_font = font_setting(context, programs);
+    let for_cvt = cvt_setting(for_font, programs);
+    let for_glyph = glyph_setting(context, for_cvt, programs);
     let first = functions_after(alloc, &for_font)?;
     let second = end_of(alloc, &for_cvt, first)?;
     end_of(alloc, &for_glyph, second)
@@ -84,11 +121,8 @@ fn check_glyph(
 ) -> Result<String> {
     let alloc = context.rt.alloc();
     let programs = cut_all(alloc, font, &[], glyph)?;
-    let cvt = u32::from(context.cvt);
-    let for_font = Setting::for_font_program(context.limits, cvt, &programs.font);
-    let for_cvt = for_font.for_cvt_program(&programs.prep, &[]);
-    let glyph = &programs.glyph;
-    let setting = for_cvt.for_glyph_program(context.points, context.contours, glyph, &[]);
+    let for_cvt = cvt_setting(font_setting(context, &programs), &programs);
+    let setting = glyph_setting(context, for_cvt, &programs);
     Ok(told_text(alloc, check(alloc, &setting, kept, starts, listed, SMALL))?)
 }
 

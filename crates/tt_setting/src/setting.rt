@@ -1,14 +1,13 @@
 //! What stays the same while a program runs: the font's limits, its programs, and what kind of
 //! program runs.
 
-ghost use Rattle.std.specs.Prelude.{◌≡◌, ◌<◌, ◌≤ℤ◌, ◌^◌, [], Some, ℤ, pos};
+ghost use Rattle.std.specs.Prelude.{◌≡◌, ◌<◌, ◌≤ℤ◌, ◌^◌, Some, ℤ, pos};
 ghost use Rattle.tt_code.specs.Control.{may_define as may_define_functions};
-ghost use Rattle.tt_code.specs.Fonts.{cvt_setting, font_setting, glyph_setting};
 ghost use Rattle.tt_code.specs.Settings.{Setting as AnySetting, One, body_name as name_of_body, body_of as body_of_frames, body_offset as offset_of_body, contours_in, is_body, is_main_end, is_target as is_jump_target, program_of, starts_in_body, zone_size};
 ghost use Rattle.tt_code.specs.Operands.{is_zone as is_zone_number};
 ghost use Rattle.tt_code.specs.States.{is_below};
 ghost use Rattle.tt_setting.specs.Ranges.{IsSettingInRange};
-ghost use Rattle.tt_setting.specs.Settings.{frames_of, programs_of, setting_of};
+ghost use Rattle.tt_setting.specs.Settings.{frames_of, setting_of};
 ghost use Rattle.tt_setting.specs.Spots.{spot_of};
 ghost use Rattle.tt_setting.specs.Ranges.{AreProgramsShort};
 ghost use Rattle.tt_setting.specs.Settings.{instruction_of, is_below_in};
@@ -128,77 +127,6 @@ pub fn is_index(number: i32, bound: u32) -> bool
 }
 
 impl<'a> Setting<'a> {
-    /// Makes the setting of a font program, which starts with no function.
-    pub fn for_font_program(limits: Limits, cvt: u32, program: &'a Program<'a>) -> Setting<'a>
-        ensures setting { setting_of result ≡ font_setting (programs_of result) }
-        ensures programs { programs_of result
-            ≡ record {
-              limits = limits;
-              cvt = cvt;
-              font_program = program.entry.now;
-              cvt_program = program.entry.now;
-            } }
-        ensures main { result.main.now ≡ program.entry.now }
-        ensures start { result.start.now ≡ [] }
-    {
-        Setting {
-            limits,
-            cvt,
-            kind: Kind::Font,
-            main: program,
-            font: program,
-            prep: program,
-            start: &[],
-        }
-    }
-
-    /// Makes the setting of the CVT program of the same font, from that of the font program. The
-    /// CVT program starts with these functions, in ascending order of their numbers: those that are
-    /// known where the font program ends.
-    pub fn for_cvt_program(
-        &self,
-        program: &'a Program<'a>,
-        functions: &'a [(u16, u32)],
-    ) -> Setting<'a>
-        ensures setting { setting_of result ≡ cvt_setting (programs_of result) }
-        ensures programs { programs_of result
-            ≡ record (programs_of self.now) { cvt_program = program.entry.now } }
-        ensures main { result.main.now ≡ program.entry.now }
-        ensures start { result.start.now ≡ functions.entry.now }
-    {
-        Setting {
-            kind: Kind::Cvt,
-            main: program,
-            prep: program,
-            start: functions,
-            ..*self
-        }
-    }
-
-    /// Makes the setting of a glyph program of the same font, from that of the CVT program. The
-    /// glyph has `points` points, phantom points not counted, and `contours` contours. Its program
-    /// starts with these functions, in ascending order of their numbers: those that are known where
-    /// the CVT program ends.
-    pub fn for_glyph_program(
-        &self,
-        points: u16,
-        contours: u16,
-        program: &'a Program<'a>,
-        functions: &'a [(u16, u32)],
-    ) -> Setting<'a>
-        ensures setting { setting_of result
-            ≡ glyph_setting (programs_of self.now) points contours program.entry.now }
-        ensures main { result.main.now ≡ program.entry.now }
-        ensures start { result.start.now ≡ functions.entry.now }
-    {
-        Setting {
-            kind: Kind::Glyph { points, contours },
-            main: program,
-            start: functions,
-            ..*self
-        }
-    }
-
     /// Returns how many points the glyph zone has.
     pub fn glyph_zone(&self) -> u32
         ensures { result ≡ zone_size (setting_of self.now) One }

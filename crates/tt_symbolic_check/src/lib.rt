@@ -20,4 +20,4 @@ pub use insight::{Insight, KnownState, Question, RefusedState, SymbolOrigin};
 pub use site::{START, Site, too_many_steps};
 pub use splits::{Decision, decision_of, wanted};
 pub use start::{Start, start_state};
-pub use walk::{Effort, USUAL_EFFORT, is_at_end};
+pub use walk::{Effort, is_at_end};

@@ -30,12 +30,6 @@ pub struct Effort {
     pub widest_compared: i64,
 }
 
-/// How much a check may usually do.
-pub const USUAL_EFFORT: Effort = Effort {
-    steps: 1_000_000,
-    widest_compared: 1 << 16,
-};
-
 /// A state that waits to be carried on.
 #[derive(Drop)]
 pub struct Pending {
