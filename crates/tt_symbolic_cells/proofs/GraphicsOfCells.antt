@@ -26,7 +26,7 @@ reference_set v Rp0 cell g = refl
 reference_set v Rp1 cell g = refl
 reference_set v Rp2 cell g = refl
 
-pub pointer_set : (v : Valuation) (which : Pointer) (zone : Zone) (g : Graphics Cell Zone) → graphics_of v (with_pointer which zone g) ≡ with_pointer which (zone_number zone) (graphics_of v g)
-pointer_set v Zp0 zone g = refl
-pointer_set v Zp1 zone g = refl
-pointer_set v Zp2 zone g = refl
+pub pointer_set : (v : Valuation) (which : Pointer) (z : Zone) (g : Graphics Cell Zone) → graphics_of v (with_pointer which z g) ≡ with_pointer which (zone_number z) (graphics_of v g)
+pointer_set v Zp0 z g = refl
+pointer_set v Zp1 z g = refl
+pointer_set v Zp2 z g = refl
