@@ -13,12 +13,12 @@ ghost use Rattle.hintcheck.specs.Printed.{PrintsExplanation};
 ghost use Rattle.hintcheck.specs.Representation.ToldFaults.{fault_in_memory};
 ghost use Rattle.hintcheck.specs.Scans.{IsOfScan};
 
-use super::explain_lines::{ExplainRequest, explain_by};
+use super::explain_lines::explain_by;
 use super::faults::CommandFault;
 use super::files::file_bytes;
 use super::json_objects::{print_explanation_object, print_fault_object};
 use super::scan_task::name_in;
-use crate::explanation::exit_status;
+use crate::explanation::{ExplainRequest, exit_status};
 use crate::glyph_names::called;
 use hintcheck_explain::Explained;
 use std::alloc::{AllocError, Global};
@@ -155,7 +155,7 @@ fn print_explanation<O: Sink>(
 /// accepted; 1 refused, or not checked since one before it is refused.
 ///
 /// # Errors
-/// `ProgramName` and `OffsetWord` as `explained_program`; `Write` exactly where a write to `out`
+/// `ProgramName` and `OffsetWord` as `explain_word`; `Write` exactly where a write to `out`
 /// failed; `OutOfMemory` where memory ran out at the object; after the object, `ScanFault` where it
 /// tells a font file's fault with the status 2, and `ScanUnfinished` where that is 3.
 pub(super) fn explain_in_object<R: Files + AllocGlobal, O: Sink>(
