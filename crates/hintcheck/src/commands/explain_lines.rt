@@ -38,34 +38,11 @@ pub(super) fn explain_by<O: Sink>(
     }
 }
 
-/// Explains one program of the font file with this name, and returns whether it is accepted.
-///
-/// # Errors
-/// `Read` and `Unopened` where the file can't be opened or read; the faults of `explain_word`.
-pub(super) fn explained_of_file<R: Files + AllocGlobal, O: Sink>(
-    rt: &R,
-    name: &str,
-    request: ExplainRequest<'_>,
-    out: &mut O,
-) -> Result<Explained, CommandFault>
-    ensures answered { IfOk result (λ e. (bytes : List ℕ)
-        × HoldExplainedBy request.entry.options.profile bytes request.entry.word.now e) }
-    ensures failures { TellsFailure result (O.failures out.old) (O.failures out.new) }
-    ensures faults { IfErr result (λ fault.
-        IsFaultOfFileExplaining request.entry.word.now request.entry.site fault
-        × IsWithin request.entry.options.budget fault) }
-    ensures none { OnOk result
-        ((bytes : List ℕ) × HoldPlace bytes request.entry.word.now request.entry.site) }
-{
-    let bytes = file_bytes(rt, name)?;
-    explain_by(rt.alloc(), &bytes, request, out)
-}
-
 /// Explains one program of the font file with this name, and returns the exit status: 0 accepted; 1
 /// refused, or not checked since one before it is refused.
 ///
 /// # Errors
-/// As `explained_of_file`.
+/// `Read` and `Unopened` where the file can't be opened or read; the faults of `explain_word`.
 pub(super) fn explain_in_lines<R: Files + AllocGlobal, O: Sink>(
     rt: &R,
     name: &str,
@@ -84,6 +61,7 @@ pub(super) fn explain_in_lines<R: Files + AllocGlobal, O: Sink>(
     ensures none { OnOk result
         ((bytes : List ℕ) × HoldPlace bytes request.entry.word.now request.entry.site) }
 {
-    let explained = explained_of_file(rt, name, request, out)?;
+    let bytes = file_bytes(rt, name)?;
+    let explained = explain_by(rt.alloc(), &bytes, request, out)?;
     Ok(exit_status(explained))
 }
