@@ -34,10 +34,10 @@ mod verdict_lines;
 mod verdict_task;
 
 use crate::asked_site::asked_site;
+use crate::explanation::ExplainRequest;
 use bare_task::{BareWords, bare_verdict, word_or_empty};
 use check_task::check_verdict;
 use explain_font::explain_of_font;
-use explain_lines::ExplainRequest;
 use explain_reason::{reason_called, tell_reason};
 use explain_task::explain_of_file;
 use faults::CommandFault;
@@ -162,7 +162,7 @@ fn tell_explanation<R: Files + AllocGlobal, O: Sink>(
     let Some(word) = program else {
         return match reason_called(font) {
             Some(reason) => tell_reason(reason, out),
-            None => explain_of_font(rt, font, options.budget, options.profile, out),
+            None => explain_of_font(rt, font, options, out),
         };
     };
     let request = ExplainRequest {

@@ -5,10 +5,11 @@ ghost use Rattle.tt_setting.specs.Entries.{Ascends};
 ghost use Rattle.tt_setting.specs.Settings.{setting_of};
 ghost use Rattle.tt_abs.specs.StateFlow.{FunctionsFit};
 ghost use Rattle.hintcheck.specs.Commands.{TellsFailure};
-ghost use Rattle.hintcheck.specs.CommandFaults.{IsEndOfWork, IsFaultOfExplaining, IsFaultOfExplanation, IsFaultOfLines, IsWithin};
-ghost use Rattle.hintcheck.specs.Explanations.{HoldExplained, HoldPlace, IsAnswered, IsRefusedIn, IsReportOf, TellsProgram, status_of_explained};
+ghost use Rattle.hintcheck.specs.CommandFaults.{IsEndOfWork, IsFaultOfExplaining, IsFaultOfExplanation, IsFaultOfLines};
+ghost use Rattle.hintcheck.specs.Explanations.{HoldPlace, IsAnswered, IsRefusedIn, IsReportOf, TellsProgram, status_of_explained};
 ghost use Rattle.hintcheck_fonts.specs.FontPrograms.{IsFontInRange};
 ghost use Rattle.hintcheck.specs.Listing.{program_in};
+ghost use Rattle.hintcheck.specs.MeansSafe.{HoldExplainedBy};
 ghost use Rattle.hintcheck_fonts.specs.ProgramVerdicts.{IsSubjectOf, with_start};
 ghost use Rattle.hintcheck_fonts.specs.Programs.{Subject};
 ghost use Rattle.hintcheck_fonts.specs.Sessions.{at_start};
@@ -20,12 +21,15 @@ use crate::asked_site::check_site;
 use crate::commands::faults::CommandFault;
 use crate::font_file::font_in;
 use crate::instruction_list::named_program;
+use crate::symbolic_explanation::explain_symbolically;
 use hintcheck_explain::{Asked, Explained, Site, explain, explain_unread};
 use hintcheck_fonts::finding::Finding;
 use hintcheck_fonts::program::{Search, cut};
 use hintcheck_fonts::programs::{FontPrograms, Next, Programs};
 use hintcheck_fonts::report::{Name, Refused};
 use hintcheck_fonts::session::Outcome;
+use hintcheck_fonts::symbolic_verdict::USUAL_STEPS;
+use hintcheck_words::{ExplainOptions, Profile};
 use std::alloc::{AllocError, Global};
 use tt_abs::{Refusal, Setting};
 use tt_family::Budget;
@@ -235,62 +239,59 @@ fn explain_named<O: Sink>(
     explain_judged(alloc, &mut programs, &mut judge, called, site, budget, out)
 }
 
-/// Explains one program of the font in these bytes, as `explained_program` does, within a budget.
-pub(crate) fn explain_word<O: Sink>(
-    alloc: Global,
-    font: &[u8],
-    word: &str,
-    site: Option<Site>,
-    budget: &mut Budget,
-    out: &mut O,
-) -> Result<Explained, CommandFault>
-    ensures answered { IfOk result (HoldExplained font.now word.now) }
-    ensures failures { TellsFailure result (O.failures out.old) (O.failures out.new) }
-    ensures faults { IfErr result (IsFaultOfExplaining font.now word.now site) }
-    ensures none { OnOk result (HoldPlace font.now word.now site) }
-{
-    let read = font_in(alloc, font)?;
-    match named_program(alloc, font, &read, word)? {
-        Some(named) => {
-            check_site(&read, named.bytes, site)?;
-            explain_named(alloc, &read, named.name, site, budget, out)
-        }
-        None => Err(CommandFault::ProgramName),
-    }
+/// Which program of a font is explained, and how.
+#[derive(Clone, Copy)]
+pub(crate) struct ExplainRequest<'a> {
+    /// The word that names the program.
+    pub word: &'a str,
+    /// Where what is known is asked for, if it is.
+    pub site: Option<Site>,
+    /// How it is explained.
+    pub options: ExplainOptions,
 }
 
-/// Explains one program of the font in these bytes, the one that the word names, and returns whether it
-/// is accepted; where it isn't checked since the font program or the CVT program is refused, how that
-/// one is refused. With a site the explanation tells what is known there: at an instruction of the
-/// program, or of the font program or the CVT program where this program calls a function that one
-/// defines. At most this many points are made, where they are bounded: also for the programs before the
-/// named one, and for the searches with greater limits by which a refused one is explained.
+/// Explains one program of the font in these bytes, the one that the word names, by the profile that
+/// is asked for, and returns whether it is accepted; where it isn't checked since the font program or
+/// the CVT program is refused, how that one is refused. With a site the explanation tells what is known
+/// there: at an instruction of the program, or of the font program or the CVT program where this
+/// program calls a function that one defines. By the strict profile at most as many points are made as
+/// the budget allows: also for the programs before the named one, and for the searches with greater
+/// limits by which a refused one is explained. By the symbolic one a program is refused for which the
+/// steps that the request allows are too few, or without such a bound those of `verdict_symbolic`.
 ///
 /// # Errors
 /// The faults of `Font::read`; `ProgramName` where the word is the name of none of the font's
 /// programs; `OffsetWord` where no instruction begins at the site, whether or not the program is
-/// checked or comes there; `Write` exactly where a write to `out` failed; `OutOfMemory`; `Budget`,
-/// where points are bounded and more were to be made.
-pub(crate) fn explained_program<O: Sink>(
+/// checked or comes there; `Write` exactly where a write to `out` failed; `OutOfMemory`; `Budget`.
+pub(crate) fn explain_word<O: Sink>(
     alloc: Global,
     font: &[u8],
-    word: &str,
-    site: Option<Site>,
-    budget: Option<u64>,
+    request: ExplainRequest<'_>,
+    points: &mut Budget,
     out: &mut O,
 ) -> Result<Explained, CommandFault>
-    ensures answered { IfOk result (HoldExplained font.now word.now) }
+    ensures answered { IfOk result
+        (HoldExplainedBy request.entry.options.profile font.now request.entry.word.now) }
     ensures failures { TellsFailure result (O.failures out.old) (O.failures out.new) }
     ensures faults { IfErr result
-        (λ fault. IsFaultOfExplaining font.now word.now site fault × IsWithin budget fault) }
-    ensures none { OnOk result (HoldPlace font.now word.now site) }
+        (IsFaultOfExplaining font.now request.entry.word.now request.entry.site) }
+    ensures none { OnOk result (HoldPlace font.now request.entry.word.now request.entry.site) }
 {
-    let Some(most) = budget else {
-        return match explain_word(alloc, font, word, site, &mut Budget::unlimited(), out) {
-            // No program has so many points.
-            Err(CommandFault::Budget) => Err(CommandFault::OutOfMemory),
-            explained => explained,
-        };
+    let ExplainRequest {
+        word,
+        site,
+        options,
+    } = request;
+    let read = font_in(alloc, font)?;
+    let Some(named) = named_program(alloc, font, &read, word)? else {
+        return Err(CommandFault::ProgramName);
     };
-    explain_word(alloc, font, word, site, &mut Budget::of(most), out)
+    check_site(&read, named.bytes, site)?;
+    match options.profile {
+        Profile::Strict => explain_named(alloc, &read, named.name, site, points, out),
+        Profile::Symbolic => {
+            let steps = options.budget.unwrap_or(USUAL_STEPS);
+            explain_symbolically(alloc, &read, named, site, steps, out)
+        }
+    }
 }

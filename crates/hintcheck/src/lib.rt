@@ -13,8 +13,8 @@ mod neighbours;
 mod pushed_numbers;
 mod symbolic_explanation;
 
-pub use commands::faults::{CommandFault, Container, Unopened};
 pub use commands::command;
+pub use commands::faults::{CommandFault, Container, Unopened};
 pub use hintcheck_explain::Site;
 pub use hintcheck_fonts::{
     AnswerFault, CheckFontFault, FindFontFault, Name, Outcome, Place, Refused, Session,

@@ -1,23 +1,20 @@
 //! One program of a font, explained by the symbolic profile.
 
-ghost use Rattle.std.specs.Prelude.{◌≡◌, ◌≤◌, ◌<◌, ◌^◌, IfErr, IfOk, OnOk, length};
+ghost use Rattle.std.specs.Prelude.{◌≡◌, ◌<◌, ◌^◌, IfErr, IfOk, length};
 ghost use Rattle.hintcheck.specs.Commands.{TellsFailure};
-ghost use Rattle.hintcheck.specs.CommandFaults.{IsFaultOfExplaining, IsFaultOfExplanation, IsWithin};
-ghost use Rattle.hintcheck.specs.Explanations.{HoldPlace};
+ghost use Rattle.hintcheck.specs.CommandFaults.{IsFaultOfExplanation};
 ghost use Rattle.hintcheck_fonts.specs.FontPrograms.{IsFontInRange};
-ghost use Rattle.hintcheck.specs.SymbolicExplanations.{HoldSymbolicExplained, TellsSymbolicProgram, first_against, keeps_from as keeps_from_it};
+ghost use Rattle.hintcheck.specs.SymbolicExplanations.{TellsSymbolicProgram, first_against, keeps_from as keeps_from_it};
 
-use crate::asked_site::check_site;
 use crate::commands::faults::CommandFault;
 use crate::explanation::{explain_uncut, tell_unchecked};
-use crate::font_file::font_in;
-use crate::instruction_list::{Named, named_program};
+use crate::instruction_list::Named;
 use hintcheck_explain::{Asked, Explained, Site, explain_symbolic};
 use hintcheck_fonts::program::empty_program;
 use hintcheck_fonts::program::cut;
 use hintcheck_fonts::report::{Name, Refused};
 use hintcheck_fonts::symbolic_check::SymbolicCheck;
-use hintcheck_fonts::symbolic_verdict::{USUAL_STEPS, refused_programs};
+use hintcheck_fonts::symbolic_verdict::refused_programs;
 use std::alloc::{AllocError, Global};
 use tt_abs::{Kind, Refusal, Setting};
 use tt_code::Program;
@@ -144,8 +141,13 @@ fn tell_program<O: Sink>(
     explain_in(alloc, &setting, asked, refused, insight, out)
 }
 
-/// Explains the font's program of this name, and returns whether it is accepted.
-fn explain_named<O: Sink>(
+/// Explains a program of the font by the symbolic profile, and returns whether the verdict on the font
+/// by symbolic states accepts it and those before it, or how one of them is refused. With a site the
+/// explanation tells what the search knows there. The search makes at most so many steps for the font.
+///
+/// # Errors
+/// `Write` exactly where a write to `out` failed; `OutOfMemory`.
+pub(crate) fn explain_symbolically<O: Sink>(
     alloc: Global,
     font: &Font<'_>,
     named: Named<'_>,
@@ -178,58 +180,4 @@ fn explain_named<O: Sink>(
     }
     tell_program(alloc, font, named, asked, Some(one), insight.as_ref(), out)?;
     Ok(Explained::Refused(one))
-}
-
-/// Explains one program of the font in these bytes, as `explained_program_symbolic` does, where the
-/// search makes at most so many steps.
-fn explain_word<O: Sink>(
-    alloc: Global,
-    font: &[u8],
-    word: &str,
-    site: Option<Site>,
-    steps: u64,
-    out: &mut O,
-) -> Result<Explained, CommandFault>
-    ensures answered { IfOk result (HoldSymbolicExplained font.now word.now) }
-    ensures failures { TellsFailure result (O.failures out.old) (O.failures out.new) }
-    ensures faults { IfErr result (IsFaultOfExplaining font.now word.now site) }
-    ensures none { OnOk result (HoldPlace font.now word.now site) }
-{
-    let read = font_in(alloc, font)?;
-    match named_program(alloc, font, &read, word)? {
-        Some(named) => {
-            check_site(&read, named.bytes, site)?;
-            explain_named(alloc, &read, named, site, steps, out)
-        }
-        None => Err(CommandFault::ProgramName),
-    }
-}
-
-/// Explains one program of the font in these bytes by the symbolic profile, the one that the word
-/// names, and returns whether the verdict on the font by symbolic states accepts it and those before
-/// it, or how one of them is refused. With a site the explanation tells what the search knows there.
-/// The search makes at most so many steps for the font, where they are bounded, and otherwise as many
-/// as that of `verdict_symbolic`; a program for which they are too few is refused.
-///
-/// # Errors
-/// As `explained_program`, but never `Budget`.
-pub(crate) fn explained_program_symbolic<O: Sink>(
-    alloc: Global,
-    font: &[u8],
-    word: &str,
-    site: Option<Site>,
-    steps: Option<u64>,
-    out: &mut O,
-) -> Result<Explained, CommandFault>
-    ensures answered { IfOk result (HoldSymbolicExplained font.now word.now) }
-    ensures failures { TellsFailure result (O.failures out.old) (O.failures out.new) }
-    ensures faults { IfErr result
-        (λ fault. IsFaultOfExplaining font.now word.now site fault × IsWithin None fault) }
-    ensures none { OnOk result (HoldPlace font.now word.now site) }
-{
-    match explain_word(alloc, font, word, site, steps.unwrap_or(USUAL_STEPS), out) {
-        // A search by steps makes no points.
-        Err(CommandFault::Budget) => Err(CommandFault::OutOfMemory),
-        explained => explained,
-    }
 }

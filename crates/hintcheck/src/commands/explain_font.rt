@@ -13,23 +13,14 @@ use super::faults::CommandFault;
 use super::files::file_bytes;
 use super::verdict_lines::print_last_line;
 use super::{ACCEPTED, REFUSED};
-use crate::explanation::explain_word;
-use crate::font_file::verdict_in_budget;
-use crate::symbolic_explanation::explained_program_symbolic;
+use crate::explanation::{ExplainRequest, explain_word};
+use crate::font_file::{points_within, verdict_in_budget};
 use hintcheck_fonts::report::Name;
-use hintcheck_words::Profile;
+use hintcheck_words::ExplainOptions;
 use std::alloc::Global;
 use std::rt::Files;
 use tt_family::Budget;
 use tt_stream::{Counted, Sink, write_all};
-
-/// By which profile a font is judged and explained, and how many steps a search of the symbolic one
-/// makes at most for it, where they are bounded.
-#[derive(Clone, Copy)]
-struct Judging {
-    profile: Profile,
-    steps: Option<u64>,
-}
 
 /// Returns the explanation of the font's program of this name, a refused one.
 ///
@@ -39,7 +30,7 @@ fn explanation_of(
     alloc: Global,
     font: &[u8],
     called: Name,
-    judging: Judging,
+    options: ExplainOptions,
     points: &mut Budget,
 ) -> Result<Vec<u8>, CommandFault>
     ensures { IfErr result IsEndOfWork }
@@ -47,19 +38,13 @@ fn explanation_of(
     let Ok(word) = format!(in alloc; "{called}") else {
         return Err(CommandFault::OutOfMemory);
     };
-    let mut text = Counted::new(Vec::new(alloc));
-    let explained = match judging.profile {
-        Profile::Strict => explain_word(alloc, font, &word, None, points, &mut text),
-        Profile::Symbolic => explained_program_symbolic(
-            alloc,
-            font,
-            &word,
-            None,
-            judging.steps,
-            &mut text,
-        ),
+    let request = ExplainRequest {
+        word: &word,
+        site: None,
+        options,
     };
-    match explained {
+    let mut text = Counted::new(Vec::new(alloc));
+    match explain_word(alloc, font, request, points, &mut text) {
         Ok(_) => Ok(text.into_inner()),
         Err(CommandFault::Budget) => Err(CommandFault::Budget),
         // The font was read before, the name is one of its programs', and the text is kept in
@@ -87,53 +72,29 @@ fn print_explanation<O: Sink>(out: &mut O, explanation: &[u8]) -> Result<(), Com
 fn explain_within<O: Sink>(
     alloc: Global,
     font: &[u8],
-    judging: Judging,
+    options: ExplainOptions,
     points: &mut Budget,
     out: &mut O,
 ) -> Result<u8, CommandFault>
     ensures status { IfOk result (λ status. status ≤ 1) }
-    ensures printed { IfOk result (λ status. PrintsCausesOf judging.profile font.now
+    ensures printed { IfOk result (λ status. PrintsCausesOf options.profile font.now
         status (O.contents out.old) (O.contents out.new)) }
     ensures failures { TellsFailure result (O.failures out.old) (O.failures out.new) }
     ensures faults { IfErr result IsFaultOfFontCauses }
 {
-    let verdict = verdict_in_budget(alloc, font, judging.profile, judging.steps, points)?;
+    let ExplainOptions {
+        profile,
+        budget,
+        ..
+    } = options;
+    let verdict = verdict_in_budget(alloc, font, profile, budget, points)?;
     let Some(first) = print_causes(alloc, out, font, verdict.refused())? else {
-        print_last_line(out, &verdict, judging.profile)?;
+        print_last_line(out, &verdict, profile)?;
         return Ok(ACCEPTED);
     };
-    let explanation = explanation_of(alloc, font, first, judging, points)?;
+    let explanation = explanation_of(alloc, font, first, options, points)?;
     print_explanation(out, &explanation)?;
     Ok(REFUSED)
-}
-
-/// Does what `explain_of_font` does, for the font in these bytes.
-fn explain_font<O: Sink>(
-    alloc: Global,
-    font: &[u8],
-    budget: Option<u64>,
-    profile: Profile,
-    out: &mut O,
-) -> Result<u8, CommandFault>
-    ensures status { IfOk result (λ status. status ≤ 1) }
-    ensures printed { IfOk result (λ status. PrintsCausesOf profile font.now
-        status (O.contents out.old) (O.contents out.new)) }
-    ensures failures { TellsFailure result (O.failures out.old) (O.failures out.new) }
-    ensures faults { IfErr result
-        (λ fault. IsFaultOfFontCauses fault × IsWithin budget fault) }
-{
-    let judging = Judging {
-        profile,
-        steps: budget,
-    };
-    let Some(most) = budget else {
-        return match explain_within(alloc, font, judging, &mut Budget::unlimited(), out) {
-            // No font has so many points.
-            Err(CommandFault::Budget) => Err(CommandFault::OutOfMemory),
-            told => told,
-        };
-    };
-    explain_within(alloc, font, judging, &mut Budget::of(most), out)
 }
 
 /// Prints for which causes programs of the font file with this name are refused by a profile, the
@@ -149,21 +110,24 @@ fn explain_font<O: Sink>(
 pub(super) fn explain_of_font<R: Files + AllocGlobal, O: Sink>(
     rt: &R,
     name: &str,
-    budget: Option<u64>,
-    profile: Profile,
+    options: ExplainOptions,
     out: &mut O,
 ) -> Result<u8, CommandFault>
     ensures status { IfOk result (λ status. status ≤ 1) }
     ensures safe { IfOk result
-        (λ status. status ≡ 0 → (bytes : List ℕ) × HoldSafeBy profile bytes) }
+        (λ status. status ≡ 0 → (bytes : List ℕ) × HoldSafeBy options.profile bytes) }
     ensures refused { IfOk result
-        (λ status. status ≡ 1 → (bytes : List ℕ) × HoldRefusedBy profile bytes) }
+        (λ status. status ≡ 1 → (bytes : List ℕ) × HoldRefusedBy options.profile bytes) }
     ensures printed { IfOk result (λ status.
-        PrintsCauses profile status (O.contents out.old) (O.contents out.new)) }
+        PrintsCauses options.profile status (O.contents out.old) (O.contents out.new)) }
     ensures failures { TellsFailure result (O.failures out.old) (O.failures out.new) }
     ensures faults { IfErr result
-        (λ fault. IsFaultOfFontCauses fault × IsWithin budget fault) }
+        (λ fault. IsFaultOfFontCauses fault × IsWithin options.budget fault) }
 {
     let bytes = file_bytes(rt, name)?;
-    explain_font(rt.alloc(), &bytes, budget, profile, out)
+    let budget = options.budget;
+    match explain_within(rt.alloc(), &bytes, options, &mut points_within(budget), out) {
+        Ok(status) => Ok(status),
+        Err(fault) => Err(fault.within(budget)),
+    }
 }

@@ -8,27 +8,15 @@ ghost use Rattle.hintcheck.specs.MeansSafe.{HoldAcceptedBy, HoldExplainedBy, Hol
 
 use super::faults::CommandFault;
 use super::files::file_bytes;
-use crate::explanation::{exit_status, explained_program};
-use crate::symbolic_explanation::explained_program_symbolic;
-use hintcheck_explain::{Explained, Site};
-use hintcheck_words::{ExplainOptions, Profile};
+use crate::explanation::{ExplainRequest, exit_status, explain_word};
+use crate::font_file::points_within;
+use hintcheck_explain::Explained;
 use std::alloc::Global;
 use std::rt::Files;
 use tt_stream::Sink;
 
-/// Which program of a font is explained, and how.
-#[derive(Clone, Copy)]
-pub(super) struct ExplainRequest<'a> {
-    /// The word that names the program.
-    pub word: &'a str,
-    /// Where what is known is asked for, if it is.
-    pub site: Option<Site>,
-    /// How it is explained.
-    pub options: ExplainOptions,
-}
-
-/// Explains one program of the font in these bytes by the profile that is asked for, as
-/// `explained_program` and `explained_program_symbolic` do, and returns whether it is accepted.
+/// Explains one program of the font in these bytes, as `explain_word` does within the budget that is
+/// asked for.
 pub(super) fn explain_by<O: Sink>(
     alloc: Global,
     bytes: &[u8],
@@ -43,46 +31,18 @@ pub(super) fn explain_by<O: Sink>(
         × IsWithin request.entry.options.budget fault) }
     ensures none { OnOk result (HoldPlace bytes.now request.entry.word.now request.entry.site) }
 {
-    let ExplainRequest {
-        word,
-        site,
-        options,
-    } = request;
-    let budget = options.budget;
-    match options.profile {
-        Profile::Strict => explained_program(alloc, bytes, word, site, budget, out),
-        Profile::Symbolic => explained_program_symbolic(alloc, bytes, word, site, budget, out),
+    let budget = request.options.budget;
+    match explain_word(alloc, bytes, request, &mut points_within(budget), out) {
+        Ok(explained) => Ok(explained),
+        Err(fault) => Err(fault.within(budget)),
     }
-}
-
-/// Explains one program of the font file with this name, and returns whether it is accepted.
-///
-/// # Errors
-/// `Read` and `Unopened` where the file can't be opened or read; the faults of `explained_program`.
-pub(super) fn explained_of_file<R: Files + AllocGlobal, O: Sink>(
-    rt: &R,
-    name: &str,
-    request: ExplainRequest<'_>,
-    out: &mut O,
-) -> Result<Explained, CommandFault>
-    ensures answered { IfOk result (λ e. (bytes : List ℕ)
-        × HoldExplainedBy request.entry.options.profile bytes request.entry.word.now e) }
-    ensures failures { TellsFailure result (O.failures out.old) (O.failures out.new) }
-    ensures faults { IfErr result (λ fault.
-        IsFaultOfFileExplaining request.entry.word.now request.entry.site fault
-        × IsWithin request.entry.options.budget fault) }
-    ensures none { OnOk result
-        ((bytes : List ℕ) × HoldPlace bytes request.entry.word.now request.entry.site) }
-{
-    let bytes = file_bytes(rt, name)?;
-    explain_by(rt.alloc(), &bytes, request, out)
 }
 
 /// Explains one program of the font file with this name, and returns the exit status: 0 accepted; 1
 /// refused, or not checked since one before it is refused.
 ///
 /// # Errors
-/// As `explained_of_file`.
+/// `Read` and `Unopened` where the file can't be opened or read; the faults of `explain_word`.
 pub(super) fn explain_in_lines<R: Files + AllocGlobal, O: Sink>(
     rt: &R,
     name: &str,
@@ -101,6 +61,7 @@ pub(super) fn explain_in_lines<R: Files + AllocGlobal, O: Sink>(
     ensures none { OnOk result
         ((bytes : List ℕ) × HoldPlace bytes request.entry.word.now request.entry.site) }
 {
-    let explained = explained_of_file(rt, name, request, out)?;
+    let bytes = file_bytes(rt, name)?;
+    let explained = explain_by(rt.alloc(), &bytes, request, out)?;
     Ok(exit_status(explained))
 }

@@ -13,12 +13,14 @@ ghost use Rattle.hintcheck.specs.Printed.{PrintsExplanation};
 ghost use Rattle.hintcheck.specs.Representation.ToldFaults.{fault_in_memory};
 ghost use Rattle.hintcheck.specs.Scans.{IsOfScan};
 
-use super::explain_lines::{ExplainRequest, explain_by};
+use super::explain_lines::explain_by;
 use super::faults::CommandFault;
 use super::files::file_bytes;
-use super::json_objects::{print_explanation_object, print_fault_object};
+use super::json_objects::{
+    print_beginning, print_fault_object, print_lines, print_program, print_refusal,
+};
 use super::scan_task::name_in;
-use crate::explanation::exit_status;
+use crate::explanation::{ExplainRequest, exit_status};
 use crate::glyph_names::called;
 use hintcheck_explain::Explained;
 use std::alloc::{AllocError, Global};
@@ -71,7 +73,7 @@ fn refused_glyph(
 /// Explains one program of the font in these bytes, in memory.
 ///
 /// # Errors
-/// As `explained_of_file` for a font that could be read, but never `Write`.
+/// As `explain_word`, but never `Write`.
 fn explanation_in(
     alloc: Global,
     font: &[u8],
@@ -107,7 +109,7 @@ fn explanation_in(
 /// Explains one program of the font file with this name, in memory.
 ///
 /// # Errors
-/// As `explained_of_file`, but never `Write`.
+/// As `explain_in_lines`, but never `Write`.
 fn explanation_of<R: Files + AllocGlobal>(
     rt: &R,
     name: &str,
@@ -142,20 +144,18 @@ fn print_explanation<O: Sink>(
     ensures failures { TellsFailure result (O.failures out.old) (O.failures out.new) }
     ensures faults { IfErr result IsFaultOfLines }
 {
-    let glyph = name_in(&told.glyph);
-    let explained = told.explained;
     let profile = request.options.profile;
-    let word = request.word;
-    print_explanation_object(
-        alloc, out, name, profile, word, glyph, explained, &told.text,
-    )
+    print_beginning(alloc, out, name, profile, exit_status(told.explained))?;
+    print_program(alloc, out, request.word)?;
+    print_refusal(alloc, out, name_in(&told.glyph), told.explained)?;
+    print_lines(alloc, out, &told.text)
 }
 
 /// Explains one program of the font file with this name in an object, and returns the exit status: 0
 /// accepted; 1 refused, or not checked since one before it is refused.
 ///
 /// # Errors
-/// `ProgramName` and `OffsetWord` as `explained_program`; `Write` exactly where a write to `out`
+/// `ProgramName` and `OffsetWord` as `explain_word`; `Write` exactly where a write to `out`
 /// failed; `OutOfMemory` where memory ran out at the object; after the object, `ScanFault` where it
 /// tells a font file's fault with the status 2, and `ScanUnfinished` where that is 3.
 pub(super) fn explain_in_object<R: Files + AllocGlobal, O: Sink>(

@@ -8,9 +8,10 @@ ghost use Rattle.hintcheck.specs.MeansSafe.{HoldAcceptedBy, HoldUnacceptedBy};
 ghost use Rattle.hintcheck.specs.Printed.{PrintsExplanationAs};
 ghost use Rattle.hintcheck.specs.Scans.{IsOfScan};
 
-use super::explain_lines::{ExplainRequest, explain_in_lines};
+use super::explain_lines::explain_in_lines;
 use super::explain_object::explain_in_object;
 use super::faults::CommandFault;
+use crate::explanation::ExplainRequest;
 use hintcheck_words::Format;
 use std::rt::Files;
 use tt_stream::Sink;
@@ -20,7 +21,7 @@ use tt_stream::Sink;
 ///
 /// # Errors
 /// In lines `Read` and `Unopened` where the file can't be opened or read, and the faults of
-/// `explained_program`; for an object those of `explain_in_object`.
+/// `explain_word`; for an object those of `explain_in_object`.
 pub(super) fn explain_of_file<R: Files + AllocGlobal, O: Sink>(
     rt: &R,
     name: &str,

@@ -8,11 +8,10 @@ ghost use Rattle.tt_names.specs.Post.{post_of};
 ghost use Rattle.tt_stream.specs.Streams.{CountsPrintFailure};
 ghost use Rattle.hintcheck.specs.Commands.{TellsFailure};
 ghost use Rattle.hintcheck.specs.CommandFaults.{IsFaultOfFontFile, IsFaultOfLines};
-ghost use Rattle.hintcheck.specs.JsonObjects.{beginning, explanation_object, fault_object, glyph_member, lines_member, next_object, next_string, object_with_name, place_members, profile_name, program_member, reason_members, refusal_member, refused_object, refused_objects, strings, unread_object, verdict_members};
+ghost use Rattle.hintcheck.specs.JsonObjects.{beginning, fault_object, glyph_member, lines_member, next_object, next_string, object_with_name, place_members, profile_name, program_member, reason_members, refusal_member, refused_object, refused_objects, strings, unread_object, verdict_members};
 
 use super::faults::{CommandFault, Numbered};
 use super::scan_task::text_of_class;
-use crate::explanation::exit_status;
 use crate::glyph_names::called;
 use hintcheck_explain::Explained;
 use hintcheck_fonts::report::{Refused, Verdict};
@@ -42,7 +41,7 @@ fn name_of_profile(profile: Profile) -> &'static str
 
 /// Prints how the object of a font file begins: its name, by which profile it is checked, and the
 /// exit status.
-fn print_beginning<O: Sink>(
+pub(super) fn print_beginning<O: Sink>(
     alloc: Global,
     out: &mut O,
     name: &str,
@@ -348,7 +347,11 @@ fn lines_of(alloc: Global, text: &str) -> Result<Vec<&str>, AllocError>
 }
 
 /// Prints which program is explained.
-fn print_program<O: Sink>(alloc: Global, out: &mut O, word: &str) -> Result<(), CommandFault>
+pub(super) fn print_program<O: Sink>(
+    alloc: Global,
+    out: &mut O,
+    word: &str,
+) -> Result<(), CommandFault>
     ensures written { OnOk result
         (Appends (O.contents out.old) (O.contents out.new) (program_member word.now)) }
     ensures failures { TellsFailure result (O.failures out.old) (O.failures out.new) }
@@ -361,7 +364,7 @@ fn print_program<O: Sink>(alloc: Global, out: &mut O, word: &str) -> Result<(), 
 }
 
 /// Prints how a program is refused, if one is, whose glyph may have a name in the font.
-fn print_refusal<O: Sink>(
+pub(super) fn print_refusal<O: Sink>(
     alloc: Global,
     out: &mut O,
     called: Option<&str>,
@@ -382,7 +385,11 @@ fn print_refusal<O: Sink>(
 }
 
 /// Prints the lines of an explanation, and the object's end.
-fn print_lines<O: Sink>(alloc: Global, out: &mut O, text: &str) -> Result<(), CommandFault>
+pub(super) fn print_lines<O: Sink>(
+    alloc: Global,
+    out: &mut O,
+    text: &str,
+) -> Result<(), CommandFault>
     ensures written { OnOk result
         (Appends (O.contents out.old) (O.contents out.new) (lines_member (lines text.now))) }
     ensures failures { TellsFailure result (O.failures out.old) (O.failures out.new) }
@@ -395,28 +402,4 @@ fn print_lines<O: Sink>(alloc: Global, out: &mut O, text: &str) -> Result<(), Co
     print_strings(alloc, out, texts.as_slice())?;
     writeln!(out, "]}}")?;
     Ok(())
-}
-
-/// Prints the object of an explanation with this text: of the program that the word names in the
-/// font file with this name. The glyph of a refused one may have a name in the font.
-pub(super) fn print_explanation_object<O: Sink>(
-    alloc: Global,
-    out: &mut O,
-    name: &str,
-    profile: Profile,
-    word: &str,
-    called: Option<&str>,
-    explained: Explained,
-    text: &str,
-) -> Result<(), CommandFault>
-    ensures written { OnOk result (Appends (O.contents out.old) (O.contents out.new)
-        (explanation_object name.now profile word.now (option_map (λ name. name.now) called.entry)
-        explained text.now)) }
-    ensures failures { TellsFailure result (O.failures out.old) (O.failures out.new) }
-    ensures faults { IfErr result IsFaultOfLines }
-{
-    print_beginning(alloc, out, name, profile, exit_status(explained))?;
-    print_program(alloc, out, word)?;
-    print_refusal(alloc, out, called, explained)?;
-    print_lines(alloc, out, text)
 }

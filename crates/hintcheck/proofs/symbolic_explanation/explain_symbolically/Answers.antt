@@ -4,7 +4,7 @@ use Rattle.hintcheck_explain.specs.declared.asked.Explained.{Explained}
 use Rattle.hintcheck_fonts.specs.FontPrograms.{judgement_on}
 use Rattle.hintcheck.specs.SymbolicExplanations.{first_against, refused_of}
 use Rattle.hintcheck_report.specs.declared.refused.Refused.{Refused}
-use Rattle.hintcheck.proofs.symbolic_explanation.explain_named.Goals as goal
+use Rattle.hintcheck.proofs.symbolic_explanation.explain_symbolically.Goals as goal
 
 pub returns-then-ne-clause-tells : goal.returns-then-ne-clause-tells
 returns-then-ne-clause-tells g c =
