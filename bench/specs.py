@@ -21,7 +21,7 @@ FOLDER = "Representation"
 # The road through a font, which `explain` goes too, in another crate: its clauses say how the code keeps what is known, and users don't call it.
 SHARED = ("Programs::", "Judge::", "Finding::", "cut")
 # The lemmas that show closed definitions, each with the file of the one function that may name it.
-CLOSED = {"answered_by_check": "tt_symbolic_check/src/checking.rt", "answered_by_search": "tt_symbolic_search/src/search.rt"}
+CLOSED = {"answered_by_symbols": ("tt_symbolic_check/src/checking.rt", "tt_symbolic_search/src/search.rt")}
 IMPORT = re.compile(r"^(?:pub )?use Rattle\.(\w+)\.specs\.((?:Representation\.)?\w+)", re.M)
 
 
@@ -96,11 +96,10 @@ def openings() -> typing.Iterator[str]:
     """The files that name the lemma of a closed definition and may not."""
     files = [*TOP.glob("crates/*/src/**/*.rt"), *TOP.glob("crates/*/proofs/**/*.antt"), *TOP.glob("crates/*/specs/**/*.antt")]
     texts = {file.relative_to(TOP / "crates").as_posix(): file.read_text() for file in files}
-    for lemma, owner in CLOSED.items():
-        declared = f"{owner.split('/')[0]}/specs/Answers.antt"
-        yield from (f"{file} names {lemma}" for file, text in sorted(texts.items()) if lemma in text and file not in (owner, declared))
-        if texts[owner].count(lemma) != 1:
-            yield f"{owner} names {lemma} {texts[owner].count(lemma)} times"
+    for lemma, owners in CLOSED.items():
+        declared = f"{owners[0].split('/')[0]}/specs/Answers.antt"
+        yield from (f"{file} names {lemma}" for file, text in sorted(texts.items()) if lemma in text and file not in (*owners, declared))
+        yield from (f"{owner} names {lemma} {texts[owner].count(lemma)} times" for owner in owners if texts[owner].count(lemma) != 1)
 
 
 def faults() -> typing.Iterator[str]:

@@ -15,30 +15,26 @@ use Rattle.tt_setting.specs.declared.name.Name.{Name}
 use Rattle.tt_setting.specs.declared.name.Name.TheVariants as name
 use Rattle.tt_family.specs.GoodFamilies.{IsShortEnough}
 use Rattle.tt_font.specs.Reading.{GlyphData}
-use Rattle.tt_symbolic_check.specs.Answers.{IsAnswerOfCheck}
+use Rattle.tt_symbolic_check.specs.Answers.{IsAnswerBySymbols}
 use Rattle.hintcheck_fonts.specs.SymbolicEnds.{NeverComesToEnd}
-use Rattle.tt_symbolic_search.specs.Answers.{IsAnswerOfSearch}
 use Rattle.hintcheck_fonts.specs.FontPrograms.{glyph_subject}
 use Rattle.hintcheck_fonts.specs.Representation.ProgramOrder.{IsJudgedBy}
 use Rattle.hintcheck_report.specs.Places.{reported_at}
 use Rattle.tt_setting.specs.Refusals.{reason_of}
 use Rattle.hintcheck_fonts.specs.ProgramVerdicts.{IfRefused, IsProgramOf, IsUncut, no_cut, no_structure, with_start}
 use Rattle.hintcheck_fonts.specs.Programs.{Subject}
-use Rattle.hintcheck_fonts.specs.SymbolicRefusals.{IsRefusedAlone, IsSymbolicAnswer, IsSymbolicRefusal, IsToldInTurn, checked, judged, never_ends, out_of_memory, searched, told_in_turn, too_long, uncut, uncut_alone}
+use Rattle.hintcheck_fonts.specs.SymbolicRefusals.{IsRefusedAlone, IsSymbolicAnswer, IsSymbolicRefusal, IsToldInTurn, answered, judged, never_ends, out_of_memory, told_in_turn, too_long, uncut, uncut_alone}
 use Rattle.hintcheck_report.specs.declared.refused.Refused.{Refused as AnyRefused}
 
 pub memory_answers : (s : Setting) (functions : List (ℕ × ℕ)) (refusal : Refusal) → refusal ≡ Exhausted Memory → IsSymbolicAnswer s functions refusal
 memory_answers s functions refusal is = subst (λ (r : Refusal). IsSymbolicAnswer s functions r) (sym is) out_of_memory
 
-pub search_answers : (s : Setting) (functions : List (ℕ × ℕ)) (refusal : Refusal) → IsAnswerOfSearch s refusal → IsSymbolicAnswer s functions refusal
-search_answers s functions refusal answer = searched refusal answer
+pub symbols_answer : (s : Setting) (functions : List (ℕ × ℕ)) (refusal : Refusal) → IsAnswerBySymbols s refusal → IsSymbolicAnswer s functions refusal
+symbols_answer s functions refusal answer = answered refusal answer
 
 pub end_answers : (s : Setting) (functions : List (ℕ × ℕ)) (refusal : Refusal) → NeverComesToEnd (setting_of s) functions → refusal ≡ Refused Main 0 (Only NeverEnds)
     → IsSymbolicAnswer s functions refusal
 end_answers s functions refusal never is = subst (λ (r : Refusal). IsSymbolicAnswer s functions r) (sym is) (never_ends never)
-
-pub check_answers : (s : Setting) (functions : List (ℕ × ℕ)) (refusal : Refusal) → IsAnswerOfCheck s refusal → IsSymbolicAnswer s functions refusal
-check_answers s functions refusal answer = checked refusal answer
 
 pub length_answers : (s : Setting) (functions : List (ℕ × ℕ)) (refusal : Refusal) (most : ℕ) → (IsShortEnough (setting_of s) (setting_of s).kind → ⊥) → most ≡ s.limits.program_size
     → refusal ≡ Refused Main most (Only ProgramTooLong) → IsSymbolicAnswer s functions refusal

@@ -15,9 +15,8 @@ use Rattle.tt_setting.specs.declared.spot.Spot.TheVariants.{Main}
 use Rattle.tt_setting.specs.declared.name.Name.TheVariants as name
 use Rattle.tt_family.specs.GoodFamilies.{IsShortEnough}
 use Rattle.tt_font.specs.Reading.{GlyphData}
-use Rattle.tt_symbolic_check.specs.Answers.{IsAnswerOfCheck}
+use Rattle.tt_symbolic_check.specs.Answers.{IsAnswerBySymbols}
 use Rattle.hintcheck_fonts.specs.SymbolicEnds.{NeverComesToEnd}
-use Rattle.tt_symbolic_search.specs.Answers.{IsAnswerOfSearch}
 use Rattle.hintcheck_fonts.specs.ProgramVerdicts.{IsProgramOf, IsUncut}
 use Rattle.hintcheck_fonts.specs.Programs.{Subject}
 use Rattle.hintcheck_report.specs.Places.{reported_at}
@@ -27,9 +26,8 @@ use Rattle.hintcheck_report.specs.declared.refused.Refused.{Refused as AnyRefuse
 -- gave this answer, or the check of what it found; or no run of a font program or a CVT program
 -- comes to its end; or it is a glyph program longer than maxSizeOfInstructions; or memory ran out.
 pub data IsSymbolicAnswer (s : Setting) (functions : List (ℕ × ℕ)) : Refusal → Type 0 where
-  searched : (refusal : Refusal) → IsAnswerOfSearch s refusal
+  answered : (refusal : Refusal) → IsAnswerBySymbols s refusal
       → IsSymbolicAnswer s functions refusal
-  checked : (refusal : Refusal) → IsAnswerOfCheck s refusal → IsSymbolicAnswer s functions refusal
   never_ends : NeverComesToEnd (setting_of s) functions
       → IsSymbolicAnswer s functions (Refused Main 0 (Only NeverEnds))
   too_long : (IsShortEnough (setting_of s) (setting_of s).kind → ⊥)

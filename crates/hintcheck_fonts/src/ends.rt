@@ -82,7 +82,7 @@ fn known_functions(alloc: Global, states: &[State]) -> Result<SortedMap<u32>, Al
 /// # Errors
 /// Those of `Search::find` and of `check`; and `NeverEnds`, at the program's first byte, where no run
 /// comes to the end.
-#[tactic(auto, using(crate::proofs::SymbolicAnswers::memory_answers, crate::proofs::SymbolicAnswers::search_answers, crate::proofs::SymbolicAnswers::check_answers))]
+#[tactic(auto, using(crate::proofs::SymbolicAnswers::memory_answers, crate::proofs::SymbolicAnswers::symbols_answer))]
 pub fn check_to_end(
     alloc: Global,
     search: &mut Search,

@@ -190,7 +190,7 @@ impl GlyphStarts {
 ///
 /// # Errors
 /// `Refused` too where it is longer than the font allows; those of `Search::find` and of `check`.
-#[tactic(auto, using(crate::proofs::SymbolicAnswers::memory_answers, crate::proofs::SymbolicAnswers::search_answers, crate::proofs::SymbolicAnswers::check_answers))]
+#[tactic(auto, using(crate::proofs::SymbolicAnswers::memory_answers, crate::proofs::SymbolicAnswers::symbols_answer))]
 pub fn check_glyph(
     alloc: Global,
     search: &mut Search,

@@ -1,17 +1,17 @@
--- What a check answers in place of its ends. (Own.)
+-- What the search and the check answer in place of what they are asked for. (Own.)
 use Rattle.tt_setting.specs.declared.refusal.Refusal.{Refusal}
 use Rattle.tt_setting.specs.declared.setting.Setting.{Setting}
 use Rattle.tt_setting.specs.Refusals.{IsOfNoBudget}
 
--- The check of the program of this setting gave this answer. The definition is closed: no other file
--- can look into it. So the contract of `check` is what shows it of a refusal, and a caller that has
--- to show it can only hand on what `check` has answered. Of `check` itself it says no more than
--- that no budget ended the work.
-pub IsAnswerOfCheck : Setting → Refusal → Type 0
-IsAnswerOfCheck s refusal = IsOfNoBudget refusal
+-- The search for the program of this setting gave this answer, or the check of what it found. The
+-- definition is closed: no other file can look into it. So the contracts of `Search::find` and of
+-- `check` are what shows it of a refusal, and a caller that has to show it can only hand on what one
+-- of them has answered. Of these two it says no more than that no budget ended the work.
+pub IsAnswerBySymbols : Setting → Refusal → Type 0
+IsAnswerBySymbols s refusal = IsOfNoBudget refusal
 
--- For the proof of `check` alone.
-pub answered_by_check : (s : Setting) (refusal : Refusal) → IsOfNoBudget refusal
-    → IsAnswerOfCheck s refusal
-unfolding IsAnswerOfCheck
-answered_by_check s refusal told = told
+-- For the proofs of `Search::find` and `check` alone.
+pub answered_by_symbols : (s : Setting) (refusal : Refusal) → IsOfNoBudget refusal
+    → IsAnswerBySymbols s refusal
+unfolding IsAnswerBySymbols
+answered_by_symbols s refusal told = told

@@ -3,7 +3,7 @@
 ghost use Rattle.std.specs.Prelude.{IfErr, IfOk};
 ghost use Rattle.tt_setting.specs.Refusals.{IsOfNoBudget};
 ghost use Rattle.tt_setting.specs.Settings.{setting_of};
-ghost use Rattle.tt_symbolic_check.specs.Answers.{IsAnswerOfCheck};
+ghost use Rattle.tt_symbolic_check.specs.Answers.{IsAnswerBySymbols};
 ghost use Rattle.tt_symbolic_check.specs.Checked.{AreEnds, IsSafe, KeepsEntries};
 
 use crate::place_index::PlaceIndex;
@@ -23,7 +23,7 @@ use tt_symbolic_state::state::State;
 /// `Refused` with the place of an instruction and its reason, where a run may fault or not enough is
 /// known, or where it may write a kept entry (`KeptEntry`); with `TooManySteps`, at the program's
 /// start, where the walk isn't done after so many steps. `Exhausted`, if memory runs out.
-#[tactic(auto, using(crate::specs::Answers::answered_by_check))]
+#[tactic(auto, using(crate::specs::Answers::answered_by_symbols))]
 pub fn check(
     alloc: Global,
     setting: &Setting<'_>,
@@ -35,7 +35,7 @@ pub fn check(
     ensures safe { IfOk result (λ ends. IsSafe (setting_of setting.now) starts.now) }
     ensures kept { IfOk result (λ ends. KeepsEntries (setting_of setting.now) kept.now starts.now) }
     ensures ends { IfOk result (λ ends. AreEnds (setting_of setting.now) starts.now ends.items) }
-    ensures answer { IfErr result (IsAnswerOfCheck setting.now) }
+    ensures answer { IfErr result (IsAnswerBySymbols setting.now) }
     ensures within { IfErr result IsOfNoBudget }
 {
     let index = PlaceIndex::new(alloc, listed)?;

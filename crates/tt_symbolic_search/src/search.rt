@@ -2,7 +2,7 @@
 
 ghost use Rattle.std.specs.Prelude.{IfErr};
 ghost use Rattle.tt_setting.specs.Refusals.{IsOfNoBudget};
-ghost use Rattle.tt_symbolic_search.specs.Answers.{IsAnswerOfSearch};
+ghost use Rattle.tt_symbolic_check.specs.Answers.{IsAnswerBySymbols};
 
 use crate::blending::Merges;
 use crate::cell_names::CellName;
@@ -169,7 +169,7 @@ impl Search {
     /// `KeptEntry` for one that writes kept entries: `starts_after` leaves these out from now on; with
     /// `TooManySteps`, at the program's start, where more steps would be needed or too many states
     /// are listed. `Exhausted`, if memory runs out.
-    #[tactic(auto, using(crate::specs::Answers::answered_by_search))]
+    #[tactic(auto, using(tt_symbolic_check::specs::Answers::answered_by_symbols))]
     pub fn find(
         &mut self,
         setting: &Setting<'_>,
@@ -177,7 +177,7 @@ impl Search {
         starts: &[Start],
         effort: Effort,
     ) -> Result<Found, Refusal>
-        ensures answer { IfErr result (IsAnswerOfSearch setting.now) }
+        ensures answer { IfErr result (IsAnswerBySymbols setting.now) }
         ensures within { IfErr result IsOfNoBudget }
     {
         self.merges.thresholds = thresholds(self.alloc, setting)?;
