@@ -4,10 +4,9 @@ use crate::knowledge::StateText;
 use crate::legend::Legend;
 use hintcheck_report::Place;
 use std::fmt;
-use tt_setting::Spot;
-use tt_setting::setting::body_offset;
-use tt_setting::Name;
 use tt_code::Frame;
+use tt_setting::setting::body_offset;
+use tt_setting::{Name, Spot};
 use tt_symbolic_state::cell::known;
 use tt_symbolic_state::state::OpenCall;
 

@@ -7,8 +7,8 @@ use crate::effect_text::tell_effect;
 use crate::meaning::{ADVICE_ON_RANGE, advice_of, class_of, class_text};
 use crate::trouble::Trouble;
 use crate::view::View;
-use tt_setting::Setting;
 use tt_code::{Instr, Reason};
+use tt_setting::Setting;
 use tt_stream::{PrintFailed, Sink};
 
 /// Prints why a program is refused, the class of the reason, and what to do.

@@ -6,8 +6,8 @@ use crate::instruction_text::name_of;
 use crate::trouble::Trouble;
 use crate::view::View;
 use std::fmt;
-use tt_setting::{Failed, Register, Role, Setting, ZoneCell};
 use tt_code::{Instr, Reason};
+use tt_setting::{Failed, Register, Role, Setting, ZoneCell};
 
 /// How many numbers of the stack there are, as it is printed.
 #[derive(Clone, Copy)]

@@ -1,8 +1,8 @@
 //! The numbers that an instruction's tests read, by where they are kept.
 
 use std::fmt;
-use tt_setting::{Failed, Register};
 use tt_code::kinds::Reference;
+use tt_setting::{Failed, Register};
 
 /// Where a number is kept that a test of an instruction reads: on the stack, in the graphics state
 /// or in the storage area.

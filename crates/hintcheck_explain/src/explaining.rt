@@ -15,9 +15,8 @@ use crate::reached::tell_contexts;
 use crate::refusal::tell_refusal;
 use hintcheck_report::{AnswerFault, Refused};
 use std::alloc::Global;
-use tt_setting::{Refusal, Setting};
-use tt_setting::Budget;
 use tt_find::explore;
+use tt_setting::{Budget, Refusal, Setting};
 use tt_stream::Sink;
 use tt_symbolic_check::Site;
 

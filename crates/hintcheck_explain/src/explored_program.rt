@@ -7,12 +7,11 @@ ghost use Rattle.tt_family.specs.Contents.{frames_at};
 use crate::instruction_text::name_of;
 use hintcheck_report::Place;
 use std::alloc::{AllocError, Global};
-use tt_setting::setting::body_offset;
 use tt_abs::Move;
-use tt_setting::{Setting, Spot};
-use tt_setting::Name;
 use tt_code::{Frame, Instr, Program};
 use tt_family::{Certificate, PointKey};
+use tt_setting::setting::body_offset;
+use tt_setting::{Name, Setting, Spot};
 use tt_symbolic_check::Site;
 
 /// A program that is explained: its name, what it is checked against, and the contexts and states

@@ -1,8 +1,8 @@
 //! What a reason tells the font's maker: its class, and what to do.
 
 use crate::trouble::Trouble;
-use tt_setting::Failed;
 use tt_code::{Reason, ReasonClass};
+use tt_setting::Failed;
 
 /// What to do about a number of which the symbolic profile knows a range that is too wide.
 pub(crate) const ADVICE_ON_RANGE: &str = "where the program is right, bring the number into its \

@@ -11,11 +11,9 @@ ghost use Rattle.hintcheck_explain.specs.Representation.Needs.{raised};
 
 use hintcheck_report::{AnswerFault, Bound, Place};
 use std::alloc::Global;
-use tt_setting::{Exhausted, Failed, Refusal, Setting};
-use tt_setting::Name;
 use tt_code::Reason;
-use tt_setting::Budget;
 use tt_find::explore;
+use tt_setting::{Budget, Exhausted, Failed, Name, Refusal, Setting};
 use tt_stream::Sink;
 
 /// How many searches find the least number of 16 bits.

@@ -6,8 +6,7 @@ use crate::instruction_text::name_of;
 use crate::making::{making_by_strict, making_by_symbolic, reads_memory};
 use crate::origin::{Brought, CellOrigin};
 use std::fmt;
-use tt_setting::{Kind, Setting};
-use tt_setting::Name;
+use tt_setting::{Kind, Name, Setting};
 use tt_symbolic_check::{Site, SymbolOrigin};
 
 /// A number that ways bring which meet.

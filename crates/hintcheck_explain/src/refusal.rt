@@ -20,9 +20,9 @@ use crate::view::View;
 use hintcheck_report::{AnswerFault, Place};
 use std::alloc::{AllocError, Global};
 use tt_abs::State;
-use tt_setting::{Failed, Spot};
 use tt_code::{Frame, Reason};
 use tt_family::PointKey;
+use tt_setting::{Failed, Spot};
 use tt_stream::{PrintFailed, Sink};
 
 /// Where a program is refused, what is known there, and which test fails.

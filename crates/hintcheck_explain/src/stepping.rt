@@ -6,8 +6,8 @@ ghost use Rattle.hintcheck_explain.specs.Representation.Causes.{TellsRefused};
 
 use std::alloc::AllocError;
 use tt_abs::{Moves, State, step_at};
-use tt_setting::{Failed, Point, Setting, StepFault};
 use tt_code::Frame;
+use tt_setting::{Failed, Point, Setting, StepFault};
 
 /// What comes of the instruction at a point.
 #[derive(Drop)]

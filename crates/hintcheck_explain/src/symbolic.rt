@@ -16,9 +16,8 @@ use crate::trouble::{Trouble, trouble_of};
 use crate::view::{View, symbolic_cell};
 use hintcheck_report::{AnswerFault, Place, Refused};
 use std::alloc::Global;
-use tt_setting::{Setting, Spot};
-use tt_setting::Name;
 use tt_code::Reason;
+use tt_setting::{Name, Setting, Spot};
 use tt_stream::{PrintFailed, Sink};
 use tt_symbolic_check::{Insight, KnownState, RefusedState, Site};
 

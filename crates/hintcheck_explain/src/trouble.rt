@@ -7,9 +7,9 @@ use crate::describing::Outside;
 use crate::element::Element;
 use crate::view::{Known, View};
 use hintcheck_report::Place;
-use tt_setting::{Failed, Role, Setting};
 use tt_code::Reason;
 use tt_family::PointKey;
+use tt_setting::{Failed, Role, Setting};
 
 /// How a stack comes to a place: from which instruction, and how deep it is.
 #[derive(Clone, Copy)]

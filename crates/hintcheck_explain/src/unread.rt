@@ -13,8 +13,8 @@ use crate::meaning::{advice_of, class_of, class_text};
 use crate::trouble::Trouble;
 use hintcheck_report::Refused;
 use std::fmt;
-use tt_setting::Spot;
 use tt_code::Reason;
+use tt_setting::Spot;
 use tt_stream::{PrintFailed, Sink};
 
 /// Why the bytes aren't a program.

@@ -2,8 +2,8 @@
 
 use crate::element::Element;
 use tt_abs::{Cell, State};
-use tt_setting::ZoneCell;
 use tt_code::kinds::{Pointer, Reference};
+use tt_setting::ZoneCell;
 use tt_symbolic_state::cell::{Cell as SymbolicCell, Range, bounds};
 use tt_symbolic_state::state::{State as SymbolicState, Zone};
 

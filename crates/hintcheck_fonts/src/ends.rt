@@ -98,14 +98,7 @@ pub fn check_to_end(
     let starts = [start_with(alloc, functions)?];
     let found = search.find(setting, &NOTHING_KEPT, &starts, effort)?;
     let listed = found.listed.as_slice();
-    let states = check(
-        alloc,
-        setting,
-        &NOTHING_KEPT,
-        &starts,
-        listed,
-        found.effort,
-    )?;
+    let states = check(alloc, setting, &NOTHING_KEPT, &starts, listed, found.effort)?;
     if states.is_empty() {
         return Err(Refusal::in_main(0, Reason::NeverEnds));
     }

@@ -13,6 +13,7 @@ ghost use Rattle.hintcheck_fonts.specs.Representation.SymbolicChecks.{AnswersByS
 ghost use Rattle.hintcheck_fonts.specs.Sessions.{at_start};
 ghost use Rattle.hintcheck_fonts.specs.SymbolicVerdicts.{IsSymbolicVerdict};
 
+use crate::ends::Ends;
 use crate::font::{list_outcome, read_font};
 use crate::programs::{FontPrograms, Programs};
 use crate::report::{Name, Refused, Verdict};
@@ -21,7 +22,6 @@ use crate::symbolic_check::SymbolicCheck;
 use std::alloc::{AllocError, Global};
 use tt_family::Budget;
 use tt_font::{Font, FontFault};
-use crate::ends::Ends;
 
 /// How often the glyph programs are taken up again at most, because one of them may write what they
 /// start with.

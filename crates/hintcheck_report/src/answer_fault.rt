@@ -7,9 +7,8 @@ ghost use Rattle.tt_setting.specs.declared.exhausted.Exhausted.{Exhausted as By}
 
 use std::alloc::AllocError;
 use thiserror::Error;
-use tt_setting::Exhausted;
-use tt_setting::CertFault;
 use tt_font::FontFault;
+use tt_setting::{CertFault, Exhausted};
 use tt_stream::PrintFailed;
 
 /// Why there is no answer on a font: no verdict, no certificate, no explanation of a program. What

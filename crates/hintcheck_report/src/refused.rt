@@ -4,9 +4,8 @@ ghost use Rattle.std.specs.Prelude.{◌≡◌};
 ghost use Rattle.hintcheck_report.specs.Places.{place_at, program_at as program_at_spot, reported_at};
 
 use std::fmt;
-use tt_setting::Spot;
-use tt_setting::Name;
 use tt_code::Reason;
+use tt_setting::{Name, Spot};
 
 /// An offset in a program.
 #[derive(Clone, Copy, Debug, PartialEq, Eq)]

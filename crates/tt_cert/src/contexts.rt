@@ -16,13 +16,12 @@ ghost use Rattle.tt_cert.specs.Rules.{AreContexts, HaveParents, NumbersFit, is_a
 ghost use Rattle.tt_cert.specs.Sections.{Context};
 ghost use Rattle.tt_cert.specs.Text.{context_text};
 
-use tt_setting::CertFault;
 use crate::form::Form;
 use crate::units::{read_long, read_word, take_long, take_word};
 use std::alloc::{AllocError, Global};
-use tt_setting::StepFault;
 use tt_code::Frame;
 use tt_family::Builder;
+use tt_setting::{CertFault, StepFault};
 use tt_stream::Source;
 
 /// How many turns a call has at most.

@@ -10,9 +10,9 @@ ghost use Rattle.tt_cert.specs.Forms.{IsFormNumber};
 ghost use Rattle.tt_cert.specs.Reading.{form_at, header_at, header_numbers_at, magic_at};
 ghost use Rattle.tt_cert.specs.Text.{header_of};
 
-use tt_setting::CertFault;
 use crate::form::Form;
 use crate::units::{read_long, read_word};
+use tt_setting::CertFault;
 use tt_stream::{Sink, Source, read_full, write_all};
 
 /// What a certificate file begins with: `HCRT`.

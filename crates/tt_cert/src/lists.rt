@@ -14,12 +14,12 @@ ghost use Rattle.tt_cert.specs.Readers.{list_at};
 ghost use Rattle.tt_cert.specs.Reading.{function_at, functions_at, storage_at, stored_at};
 ghost use Rattle.tt_cert.specs.Rules.{is_above, last_of};
 
-use tt_setting::CertFault;
 use crate::form::Form;
 use crate::stack_text::StackText;
 use crate::units::{pair_of, read_cell, read_pair, read_word};
 use std::alloc::Global;
 use tt_abs::Cell;
+use tt_setting::CertFault;
 use tt_stream::{ReadFailed, Source, read_full};
 
 /// How many bytes a function has: its number, and its body.

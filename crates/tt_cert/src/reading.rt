@@ -16,14 +16,13 @@ ghost use Rattle.tt_cert.specs.Text.{section_text};
 ghost use Rattle.tt_setting.specs.declared.name.Name.{Name as ProgramName};
 
 use crate::contexts::{builder_of, read_contexts};
-use tt_setting::CertFault;
 use crate::form::Form;
-use tt_setting::Name;
 use crate::states::{LastState, read_states};
 use crate::units::read_name;
 use std::alloc::{AllocError, Global};
 use std::marker::Model;
 use tt_family::{Builder, Certificate};
+use tt_setting::{CertFault, Name};
 use tt_stream::Source;
 
 /// Reads a section, reusing an empty builder's memory; `state` is the one before the first, and

@@ -12,12 +12,12 @@ ghost use Rattle.tt_cert.specs.Representation.Clauses.{ReadsInto, StopsWhole};
 ghost use Rattle.tt_cert.specs.Representation.KeptTexts.{AreWithin, IsStackText};
 ghost use Rattle.tt_cert.specs.Representation.SharedCells.{AreAhead, IsStackKept};
 
-use tt_setting::CertFault;
 use crate::lists::{BLOCK, read_cell_block, take_ahead_cells};
 use crate::stack_text::StackText;
 use crate::units::read_word;
 use std::alloc::{AllocError, Global};
 use tt_abs::{Cell, State};
+use tt_setting::CertFault;
 use tt_stream::Source;
 
 /// How many cells fewer the second guess has than the first. From each guess to the next the

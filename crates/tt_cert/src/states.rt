@@ -10,17 +10,16 @@ ghost use Rattle.tt_cert.specs.Rules.{is_next_point as is_next_point_after, last
 ghost use Rattle.tt_cert.specs.Representation.Clauses.{ReadsAs, ReadsBy, ReadsInto, StopsWhole, entries_at};
 ghost use Rattle.tt_cert.specs.Representation.SharedCells.{IsLast};
 
-use tt_setting::CertFault;
 use crate::form::Form;
 use crate::lists::{Functions, read_functions, read_storage};
 use crate::shared_cells::{LastStack, read_stack};
 use crate::units::{read_graphics, read_long, read_pair};
 use std::alloc::{AllocError, Global};
 use tt_abs::{Cell, State};
-use tt_setting::{StepFault, ZoneCell};
 use tt_code::Graphics;
 use tt_code::kinds::{Pointer, Reference};
 use tt_family::Builder;
+use tt_setting::{CertFault, StepFault, ZoneCell};
 use tt_stream::Source;
 
 /// Sets what is known of the graphics state.

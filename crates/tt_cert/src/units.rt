@@ -9,11 +9,9 @@ ghost use Rattle.tt_cert.specs.Rules.{CellFits, GraphicsFits};
 ghost use Rattle.tt_cert.specs.Text.{cell_text, graphics_text, long, word, zone_text};
 ghost use Rattle.tt_cert.specs.Reading.{cell_at, graphics_at, long_at, name_at, pair_at, pair_from, word_at, zone_at};
 
-use tt_setting::CertFault;
-use tt_setting::Name;
 use tt_abs::Cell;
-use tt_setting::ZoneCell;
 use tt_code::Graphics;
+use tt_setting::{CertFault, Name, ZoneCell};
 use tt_stream::{Source, read_full};
 
 /// Reads a unit of N bytes that aren't all read ahead.

@@ -18,17 +18,15 @@ ghost use Rattle.tt_cert.specs.Rules.{AreCallsInTurn, CallFits, Fits, HasRoom, I
 ghost use Rattle.tt_cert.specs.Sections.{contexts_in, section_of};
 ghost use Rattle.tt_cert.specs.Text.{cell_text, context_text, counted, graphics_text, long, name_text, pair_text, section_text, state_text, stored_text, word, zone_text};
 
-use tt_setting::CertFault;
 use crate::form::Form;
 use crate::lists::BLOCK;
-use tt_setting::Name;
 use crate::stack_text::{StackText, push_cell};
 use std::alloc::{AllocError, Global};
 use tt_abs::{Cell, State};
-use tt_setting::ZoneCell;
 use tt_code::Frame;
 use tt_code::kinds::{Pointer, Reference};
 use tt_family::Certificate;
+use tt_setting::{CertFault, Name, ZoneCell};
 use tt_stream::{Sink, write_all};
 
 /// How many bytes there is room for from the first section on: most sections have fewer.

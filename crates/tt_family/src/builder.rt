@@ -26,8 +26,8 @@ use std::alloc::{AllocError, Global};
 use std::collections::BTreeMap;
 use std::marker::Model;
 use tt_abs::State;
-use tt_setting::{Failed, Refusal, Spot, StepFault};
 use tt_code::{Frame, Reason};
+use tt_setting::{Failed, Refusal, Spot, StepFault};
 
 /// How many contexts are kept at most, including the empty one.
 const MOST_CONTEXTS: u32 = 65_535;

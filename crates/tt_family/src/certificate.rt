@@ -16,8 +16,8 @@ use crate::states::States;
 use std::alloc::{AllocError, Global};
 use std::marker::Model;
 use tt_abs::State;
-use tt_setting::Spot;
 use tt_code::Frame;
+use tt_setting::Spot;
 
 /// A family of states whose contexts have their numbers in order: the empty one is number 0, and
 /// the others ascend by parent, call, body, turn and count.

@@ -17,7 +17,6 @@ ghost use Rattle.tt_family.specs.Contents.{family_of};
 ghost use Rattle.tt_family.specs.Fillings.{HasOneGoodFilling, place_of_point};
 ghost use Rattle.tt_family.specs.GoodFamilies.{HasEnd};
 
-use tt_setting::Budget;
 use crate::builder::Builder;
 use crate::certificate::Certificate;
 use crate::cursor::Cursor;
@@ -26,8 +25,8 @@ use crate::meeting::{Coverage, check_covered, check_successors};
 use crate::states::States;
 use std::alloc::Global;
 use tt_abs::step_at;
-use tt_setting::{Failed, Kind, Point, Refusal, Setting, StepFault};
 use tt_code::Reason;
+use tt_setting::{Budget, Failed, Kind, Point, Refusal, Setting, StepFault};
 
 /// Whether the indexes of these storage cells are below the limit.
 fn are_stored_within(stored: &[(u16, i32)], limit: u16) -> bool

@@ -9,10 +9,10 @@ ghost use Rattle.tt_family.specs.Landings.{IsLanding, IsMissing, IsPointOf, IsTu
 use crate::builder::Builder;
 use crate::certificate::Certificate;
 use crate::slot_index::PointKey;
-use tt_setting::setting::body_offset;
 use tt_abs::Move;
-use tt_setting::{Failed, Refusal, Spot};
 use tt_code::{Frame, Reason};
+use tt_setting::setting::body_offset;
+use tt_setting::{Failed, Refusal, Spot};
 
 /// The landing of a way: the context and the offset to which it leads from a context.
 #[derive(Clone, Copy)]

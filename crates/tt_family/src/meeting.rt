@@ -11,8 +11,8 @@ use crate::certificate::Certificate;
 use crate::cursor::{Cursor, is_coming, is_coming_after};
 use crate::landing::look_up_successor;
 use tt_abs::{Move, Moves, Order, State};
-use tt_setting::{Failed, Refusal, StepFault};
 use tt_code::Reason;
+use tt_setting::{Failed, Refusal, StepFault};
 
 /// How a state is covered at a place to which it goes, or added there.
 #[derive(Clone, Copy)]

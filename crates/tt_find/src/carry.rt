@@ -15,8 +15,8 @@ use crate::stop::Stop;
 use crate::successor::resolve_successor;
 use crate::walk::Walk;
 use tt_abs::{Moves, Stepped, step_at};
-use tt_setting::{Point, Refusal, Setting};
 use tt_family::{Budget, Builder, added_after};
+use tt_setting::{Point, Refusal, Setting};
 
 /// Returns where the state at an offset of the walk's context leads; the walk then holds what it
 /// leads there. None at the main program's end.

@@ -24,9 +24,9 @@ use std::alloc::Global;
 use std::collections::BTreeSet;
 use std::mem;
 use tt_abs::laws::flow_laws;
-use tt_setting::{Exhausted, Refusal, Setting};
 use tt_code::Reason;
 use tt_family::{Budget, Builder, Certificate, PointKey, ends_well, is_short};
+use tt_setting::{Exhausted, Refusal, Setting};
 
 /// How often the finder starts with the marks that it has found. After that it keeps states
 /// everywhere.

@@ -16,8 +16,8 @@ use crate::worklist::Worklist;
 use std::alloc::{AllocError, Global};
 use std::collections::BTreeSet;
 use tt_abs::State;
-use tt_setting::{Exhausted, Refusal, Spot};
 use tt_family::{Builder, Joined, PointKey};
+use tt_setting::{Exhausted, Refusal, Spot};
 
 /// The family so far. Its states are kept at the points where ways meet; those in between are made
 /// again each time that a state is carried on there.

@@ -5,10 +5,10 @@ ghost use Rattle.tt_family.specs.Contents.{AddsContext, IsFamily, IsFullWithout}
 ghost use Rattle.tt_family.specs.Landings.{place_from};
 ghost use Rattle.tt_find.specs.Representation.Solvers.{IsCountable};
 
-use tt_setting::setting::body_offset;
 use tt_abs::Move;
-use tt_setting::StepFault;
 use tt_family::{Builder, Landing, PointKey, landing_of};
+use tt_setting::StepFault;
+use tt_setting::setting::body_offset;
 
 /// Returns the context's number and the offset to which a way leads from a context. The context to
 /// which it leads is added if it isn't there.

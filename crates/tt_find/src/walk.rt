@@ -11,9 +11,9 @@ ghost use Rattle.tt_find.specs.Representation.Solvers.{IsPut, IsWalk, KeepsRest,
 use crate::solver::Solver;
 use std::alloc::{AllocError, Global};
 use tt_abs::State;
-use tt_setting::{Refusal, Spot};
 use tt_code::Frame;
 use tt_family::{Builder, Joined, PointKey};
+use tt_setting::{Refusal, Spot};
 
 /// Where the finder is: a context and its calls, the outermost first, and the state that is carried
 /// on, always in the same memory.

@@ -1,7 +1,7 @@
 //! What is told of a test that may fail on cells: what is known of the number that it reads.
 
-use tt_setting::{Failed, Register, Role, ZoneCell};
 use tt_code::Reason;
+use tt_setting::{Failed, Register, Role, ZoneCell};
 use tt_symbolic_state::cell::{Cell, FULL, Range, bounds, number};
 use tt_symbolic_state::stack::Stack;
 

@@ -11,12 +11,10 @@ ghost use Rattle.tt_symbolic_state.specs.Shows.{graphics_of, values};
 ghost use Rattle.tt_symbolic_cells.specs.Taking.{Leaves, Takes, below_bound};
 
 use crate::failures::{Named, failed_index, failed_use, too_few, unknown};
-use crate::zones::{
-    cell_of, contours, pointer, points_in, points_within, reference, zone_within,
-};
-use tt_setting::{Failed, Register, Role, Setting};
+use crate::zones::{cell_of, contours, pointer, points_in, points_within, reference, zone_within};
 use tt_code::Graphics;
 use tt_code::kinds::{Operand, Use};
+use tt_setting::{Failed, Register, Role, Setting};
 use tt_symbolic_state::cell::{Cell, Range, bounds, number};
 use tt_symbolic_state::stack::Stack;
 use tt_symbolic_state::state::Zone;

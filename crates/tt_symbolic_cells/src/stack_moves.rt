@@ -9,9 +9,9 @@ ghost use Rattle.tt_symbolic_cells.specs.Stacking.{Restacks};
 
 use crate::failures::{too_few, unknown};
 use std::alloc::AllocError;
-use tt_setting::{Failed, Role, StepFault};
 use tt_code::Reason;
 use tt_code::kinds::StackOp;
+use tt_setting::{Failed, Role, StepFault};
 use tt_symbolic_state::cell::{Cell, Range, known, number};
 use tt_symbolic_state::stack::Stack;
 

@@ -8,9 +8,9 @@ ghost use Rattle.tt_setting.specs.Settings.{setting_of};
 ghost use Rattle.tt_symbolic_state.specs.Values.{Valuation, value};
 ghost use Rattle.tt_symbolic_state.specs.Shows.{graphics_of, zone_number};
 
-use tt_setting::{Setting, ZoneCell};
 use tt_code::Graphics;
 use tt_code::kinds::{Pointer, Reference, Within};
+use tt_setting::{Setting, ZoneCell};
 use tt_symbolic_state::cell::Cell;
 use tt_symbolic_state::state::Zone;
 

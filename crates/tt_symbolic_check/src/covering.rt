@@ -8,8 +8,8 @@ ghost use Rattle.tt_setting.specs.Functions.{CoversFunctions};
 ghost use Rattle.tt_setting.specs.Entries.{listed};
 
 use std::alloc::{AllocError, Global};
-use tt_setting::SortedMap;
 use tt_code::Graphics;
+use tt_setting::SortedMap;
 use tt_symbolic_state::cell::{Cell, Range, bounds, difference, divided, known, simplified};
 use tt_symbolic_state::state::{OpenCall, State, Zone};
 

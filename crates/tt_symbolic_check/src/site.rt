@@ -4,8 +4,8 @@ ghost use Rattle.std.specs.Prelude.{◌≡◌};
 ghost use Rattle.tt_setting.specs.Refusals.{IsOfNoBudget, refusal_at};
 ghost use Rattle.tt_setting.specs.declared.failed.Failed.TheVariants.{Only};
 
-use tt_setting::{Refusal, Spot, StepFault};
 use tt_code::Reason;
+use tt_setting::{Refusal, Spot, StepFault};
 use tt_symbolic_state::state::State;
 
 /// Where a state is: in which program, and at which offset there.

@@ -5,8 +5,8 @@ ghost use Rattle.tt_symbolic_check.specs.Starts.{IsAfter, IsStartState, ShowsAft
 
 use crate::covering::covers;
 use std::alloc::{AllocError, Global};
-use tt_setting::SortedMap;
 use tt_code::Graphics;
+use tt_setting::SortedMap;
 use tt_symbolic_state::cell::{Cell, Range, known};
 use tt_symbolic_state::stack::Stack;
 use tt_symbolic_state::state::{State, Zone};

@@ -18,9 +18,9 @@ use crate::waiting::Waiting;
 use crate::writes::Writes;
 use std::alloc::{AllocError, Global};
 use std::mem;
-use tt_setting::{Failed, Kind, Refusal, Setting, StepFault};
 use tt_code::block_keyword::BlockKeyword;
 use tt_code::{Reason, keyword_of_code};
+use tt_setting::{Failed, Kind, Refusal, Setting, StepFault};
 use tt_symbolic::kept::Kept;
 use tt_symbolic::step::code_at;
 use tt_symbolic_check::{

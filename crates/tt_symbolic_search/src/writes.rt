@@ -2,8 +2,8 @@
 
 use crate::boxes::Area;
 use std::alloc::{AllocError, Global};
-use tt_setting::{Kind, Setting};
 use tt_code::{Written, written};
+use tt_setting::{Kind, Setting};
 use tt_symbolic::kept::{Kept, keeps};
 use tt_symbolic_state::State;
 

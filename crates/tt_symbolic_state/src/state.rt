@@ -8,8 +8,8 @@ ghost use Rattle.tt_symbolic_state.specs.declared.cell.Cell.{Cell as AnyCell};
 use crate::cell::{Cell, Range, symbol};
 use crate::stack::Stack;
 use std::alloc::{AllocError, Global};
-use tt_setting::{SortedMap, StepFault};
 use tt_code::{Graphics, Reason};
+use tt_setting::{SortedMap, StepFault};
 
 /// The zone that a pointer names.
 #[derive(Clone, Copy, Debug, PartialEq, Eq)]
