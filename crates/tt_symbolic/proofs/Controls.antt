@@ -34,6 +34,10 @@ pub at_frames : (frame : Option Frame) (frames : List Frame) (calls : List OpenC
 at_frames None frames calls is same = subst (λ (fs : List Frame). SameBody (reverse fs) calls) (sym is) same
 at_frames (Some f) frames calls is same = subst (λ (fs : List Frame). SameBody (reverse fs) calls) (sym is) same
 
+-- a frame of the last call's body, as the frames of a point
+pub last_frame : (f : Frame) (c : OpenCall) (outer calls : List OpenCall) → f.body ≡ c.body → calls ≡ outer ++ c ∷ [] → SameBody (f ∷ []) (reverse calls)
+last_frame f c outer calls same is = subst (λ (l : List OpenCall). SameBody (f ∷ []) l) (sym (ap reverse is ∙ reverse-append outer (c ∷ []))) same
+
 -- What depends on the frames is the same where the same body runs.
 
 record SamePlace (s : MachineSetting) (fs gs : List Frame) : Type 0 where

@@ -4,7 +4,7 @@ use Rattle.std.proofs.lemmas.Bool.{eqb-true, leb-false}
 use Rattle.std.proofs.lemmas.List.{length-map}
 use Rattle.tt_code.specs.Refusals.{Tested, ◌>>=◌}
 use Rattle.tt_code.specs.Cut.{Instruction, code_of, data_of, data_in, data_after, instruction_at}
-use Rattle.tt_code.specs.Table.{Lists, Meaning, Plain, Pushes, Stack, Controls, effect_of}
+use Rattle.tt_code.specs.Table.{Lists, Plain, Pushes, Stack, Controls, effect_of}
 use Rattle.tt_code.specs.Computing.{exactly, numbers_in, pushed, shuffled}
 use Rattle.tt_code.specs.Control.{controlled}
 use Rattle.tt_code.specs.Changes.{plain}

@@ -1,5 +1,5 @@
 -- What it means that a control instruction was carried out on a symbolic state.
-use Rattle.std.specs.Prelude.{◌≡◌, ◌<◌, ℕ, ℤ, List, [], ◌∷◌, ◌++◌, Option, None, Some, pos, ◌+ℤ◌, Bool, true, false, not, reverse}
+use Rattle.std.specs.Prelude.{◌≡◌, ◌<◌, ℕ, ℤ, List, [], ◌∷◌, ◌++◌, Some, pos, ◌+ℤ◌, Bool, true, false, not, reverse}
 use Rattle.tt_code.specs.Control.{controlled, body_named, enters, jumps_if}
 use Rattle.tt_code.specs.Settings.{body_offset, is_target}
 use Rattle.tt_code.specs.States.{Machine, is_true, leaves}

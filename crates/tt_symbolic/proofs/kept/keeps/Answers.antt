@@ -3,4 +3,4 @@ use Rattle.tt_symbolic.proofs.Controls.{at_frames}
 use Rattle.tt_symbolic.proofs.kept.keeps.Goals as goal
 
 pub keeps_at-requires : goal.keeps_at-requires
-keeps_at-requires c = record { offset_is = refl; same_body = at_frames c.innermost.result c.as_slice.result.now _ c.as_slice.ensures c.innermost.ensures }
+keeps_at-requires c = record { offset_is = refl; same_body = at_frames c.innermost-frame.result c.as_slice.result.now _ c.as_slice.ensures c.innermost-frame.ensures }

@@ -3,4 +3,4 @@ use Rattle.tt_symbolic.proofs.Controls.{at_frames}
 use Rattle.tt_symbolic.proofs.kept.step_keeping.Goals as goal
 
 pub step_keeping_at-requires : goal.step_keeping_at-requires
-step_keeping_at-requires c = record { offset_is = refl; same_body = at_frames c.innermost.result c.as_slice.result.now _ c.as_slice.ensures c.innermost.ensures }
+step_keeping_at-requires c = record { offset_is = refl; same_body = at_frames c.innermost-frame.result c.as_slice.result.now _ c.as_slice.ensures c.innermost-frame.ensures }
