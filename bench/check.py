@@ -68,6 +68,7 @@ WITHOUT_PROOF = [
     Check("pages", "pages.py"),
     Check("contracts", "contracts.py"),
     Check("definitions", "specs.py"),
+    Check("no opcode outside the table", "opcodes.py"),
     Check("heads of files", "files.py"),
     Check("reasons", "reasons.py"),
     Check("test vectors", "vectors.py"),
