@@ -1,8 +1,15 @@
 -- Starts that follow the ends of a program.
-use Rattle.std.proofs.Common.{◌≡◌, ℕ, zero, suc, List, [], ◌∷◌, ◌++◌, Some, pos, slice_get, length, refl, sym, subst}
+use Rattle.std.proofs.Common.{◌≡◌, ◌∙◌, ℕ, zero, suc, List, [], ◌∷◌, ◌++◌, Some, nat_eq, pos, slice_get, length, refl, sym, subst}
+use Rattle.std.specs.Prelude.{⊤}
 use Rattle.std.specs.List.{All}
 use Rattle.std.proofs.lemmas.List.Elements.{All-head, All-tail}
+use Rattle.std.proofs.lemmas.Bool.Decides.{Decides-eqb}
+use Rattle.tt_abs.specs.EntryLaws.{common_is_least}
+use Rattle.tt_setting.specs.Entries.{Ascends}
+use Rattle.tt_setting.specs.EntryLaws.{listed-named}
+use Rattle.tt_setting.specs.EntryLists.{common_entries}
 use Rattle.tt_setting.specs.Functions.{CoversFunctions}
+use Rattle.tt_symbolic_check.specs.Checked.{IsShownByOne}
 use Rattle.tt_symbolic_state.specs.CvtMachine.{CvtMachine}
 use Rattle.tt_symbolic_state.specs.Shows.{IsShown, ShowsArea}
 use Rattle.tt_symbolic_state.specs.Values.{Fits}

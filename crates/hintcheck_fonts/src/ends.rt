@@ -59,6 +59,13 @@ fn start_with(alloc: Global, functions: &[(u16, u32)]) -> Result<Start, AllocErr
     Ok(start)
 }
 
+/// States that functions are listed by ascending numbers, as is always so.
+fn order_facts(functions: &SortedMap<u32>)
+    ensures { Ascends functions.now }
+{
+    let _ = functions.as_slice();
+}
+
 /// Returns the functions that all of the states have.
 ///
 /// # Errors
@@ -71,6 +78,7 @@ fn known_functions(alloc: Global, states: &[State]) -> Result<SortedMap<u32>, Al
     };
     let mut known = first.functions.copied(alloc)?;
     for state in states {
+        order_facts(&known);
         known.keep(&state.functions);
     }
     Ok(known)
