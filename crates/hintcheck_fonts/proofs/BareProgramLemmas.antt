@@ -1,5 +1,5 @@
 -- What the list of refused programs tells of the only program.
-use Rattle.std.proofs.Common.{◌≡◌, ℕ, List, [], ◌∷◌, ◌++◌, Option, Some, None, refl, sym, ◌∙◌, ap, subst}
+use Rattle.std.proofs.Common.{◌≡◌, ℕ, List, [], ◌∷◌, ◌++◌, Option, Some, None, Result, Ok, Err, IfOk, refl, sym, ◌∙◌, ap, subst}
 use Rattle.std.specs.Prelude.{option_map, slice_get}
 use Rattle.tt_code.specs.Cut.{Instruction}
 use Rattle.tt_font.specs.Reading.{FontData, GlyphData}
@@ -42,6 +42,11 @@ module _ {K : Type 0} (d : FontData) (Accepts : Subject → List K → List Inst
       let there : next_program d s ≡ Some (glyph_subject (font_of d f p) [] id g) =
       ap (λ (u : StageOf K). next_program d u) here ∙ ap (option_map (λ (h : GlyphData). glyph_subject (font_of d f p) [] id h)) at in
       let no : Some (glyph_subject (font_of d f p) [] id g) ≡ None = sym there ∙ none in cc
+
+-- what holds where it is answered
+pub where_answered : {T E : Type 0} (r : Result T E) (P Q : T → Type 0) → ((x : T) → P x → Q x) → IfOk r P → IfOk r Q
+where_answered (Ok x) P Q f h = f x h
+where_answered (Err e) P Q f h = tt
 
 -- what the search for a family says of it
 pub judged_by_finding : (j : Finding) (d : FontData) (f p : List Instruction) (id : ℕ) (g : GlyphData) (rs : List Refused)
