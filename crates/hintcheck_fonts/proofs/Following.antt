@@ -1,7 +1,7 @@
 -- Starts that follow the ends of a program.
 use Rattle.std.proofs.Common.{◌≡◌, ◌∙◌, ℕ, zero, suc, List, [], ◌∷◌, ◌++◌, Some, nat_eq, pos, slice_get, length, refl, sym, subst}
 use Rattle.std.specs.Prelude.{⊤}
-use Rattle.std.specs.List.{All}
+use Rattle.std.specs.List.{All, AllByRecursion}
 use Rattle.std.proofs.lemmas.List.Elements.{All-head, All-tail}
 use Rattle.std.proofs.lemmas.Bool.Decides.{Decides-eqb}
 use Rattle.tt_abs.specs.EntryLaws.{common_is_least}
@@ -113,10 +113,15 @@ shown_by_none states m none shown =
     let e : slice_get [] shown.index ≡ Some shown.state = subst (λ (l : List State). slice_get l shown.index ≡ Some shown.state) none shown.found in cc
 
 -- functions that two lists have in common are in each of them
+
+any_values : (a : List (ℕ × ℕ)) → AllByRecursion (λ (e : ℕ × ℕ). ⊤) a
+any_values [] = tt
+any_values (e ∷ es) = (tt, any_values es)
+
 pub common_left : (a b : List (ℕ × ℕ)) → Ascends a → CoversFunctions (common_entries nat_eq a b) a
 common_left a b ascends n body e =
-    sym (listed-named a n) ∙ (common_is_least (λ v. ⊤) nat_eq Decides-eqb a b (record { ascends = ascends; values = λ n v l. tt })).left n body (listed-named (common_entries nat_eq a b) n ∙ e)
+    sym (listed-named a n) ∙ (common_is_least (λ v. ⊤) nat_eq Decides-eqb a b (record { ascends = ascends; values = any_values a })).left n body (listed-named (common_entries nat_eq a b) n ∙ e)
 
 pub common_right : (a b : List (ℕ × ℕ)) → Ascends a → CoversFunctions (common_entries nat_eq a b) b
 common_right a b ascends n body e =
-    sym (listed-named b n) ∙ (common_is_least (λ v. ⊤) nat_eq Decides-eqb a b (record { ascends = ascends; values = λ n v l. tt })).right n body (listed-named (common_entries nat_eq a b) n ∙ e)
+    sym (listed-named b n) ∙ (common_is_least (λ v. ⊤) nat_eq Decides-eqb a b (record { ascends = ascends; values = any_values a })).right n body (listed-named (common_entries nat_eq a b) n ∙ e)

@@ -80,11 +80,11 @@ refused_alone x g r named bytes (judged s at offset failed is answer) =
 
 pub told_alone : (font : Font) (g : GlyphData) (Accepts : List Instruction → Type 0) (rs : List AnyRefused)
     → IsJudgedBy Accepts (λ r. IsSymbolicRefusal (glyph_subject font [] 0 g) r) rs → All (IsRefusedAlone g) rs
-told_alone font g Accepts [] judged = tt
+told_alone font g Accepts [] none = tt
 told_alone font g Accepts (r ∷ []) is = (refused_alone (glyph_subject font [] 0 g) g r refl refl is, tt)
-told_alone font g Accepts (r ∷ q ∷ rs) judged = absurd judged
+told_alone font g Accepts (r ∷ q ∷ rs) never = absurd never
 
 pub one_alone : (Accepts : List Instruction → Type 0) (Refuses : AnyRefused → Type 0) (rs : List AnyRefused) → IsJudgedBy Accepts Refuses rs → length rs ≤ 1
-one_alone Accepts Refuses [] judged = omega arith
+one_alone Accepts Refuses [] none = omega arith
 one_alone Accepts Refuses (r ∷ []) is = omega arith
-one_alone Accepts Refuses (r ∷ q ∷ rs) judged = absurd judged
+one_alone Accepts Refuses (r ∷ q ∷ rs) never = absurd never

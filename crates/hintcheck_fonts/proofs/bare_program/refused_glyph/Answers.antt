@@ -1,4 +1,4 @@
-use Rattle.std.proofs.Common.{[], List, subst}
+use Rattle.std.proofs.Common.{[], List, subst, sym}
 use Rattle.tt_font.specs.Reading.{FontData, GlyphData}
 use Rattle.hintcheck_fonts.specs.FontPrograms.{font_of, glyph_subject}
 use Rattle.hintcheck_report.specs.declared.refused.Refused.{Refused}
@@ -20,7 +20,7 @@ returns-clause-judged g c = λ glyph at.
     let x = glyph_subject (font_of d [] []) [] 0 glyph in
     let answers = subst (λ (e : FontData). IsAnswerBy e A E R s c.in_ok-outcome.field-0 t) c.in_ok-programs.ensures.font c.in_ok-outcome.ensures.answer in
     elim c.match-branch-3.branch [
-      | in-Some+in_ok-list_outcome w ↦ subst (λ (l : List Refused). IsJudgedBy (A x []) (R x []) l) (λ i. (w.refused-is i).items)
+      | in-Some+in_ok-list_outcome w ↦ subst (λ (l : List Refused). IsJudgedBy (A x []) (R x []) l) (sym (λ i. (w.refused-is i).items))
           (judged_glyph d A E R [] [] [] 0 glyph at s t c.in_ok-outcome.field-0 w.in-Some.outcome c.new-refused.result.items w.list_outcome.new.refused.items here answers w.in-Some.is c.new-refused.ensures.items w.in_ok-list_outcome.ensures)
       | in_default w ↦ absurd (glyph_is_next d A E R [] [] [] 0 glyph at s t c.in_ok-outcome.field-0 here answers w.in_default.is)
     ]

@@ -15,3 +15,13 @@ returns-clause-ended c = record {
     known = subst (λ (l : List State). AreKnown c.in_ok-functions.functions l) c.as_slice.ensures.value c.in_ok-functions.ensures;
   };
 }
+
+empty_states : (states : List State) → length states ≡ 0 → states ≡ []
+empty_states states e = nil_from_length states e
+
+pub returns-then-is_empty-clause-answer : goal.returns-then-is_empty-clause-answer
+returns-then-is_empty-clause-answer c =
+    end_answers c.args.setting.now c.args.functions.now c.in_main.result
+    (λ m n starts run ends. shown_by_none c.in_ok-states.states.items n (empty_states c.in_ok-states.states.items (grind (arith, common_steps)))
+    (c.in_ok-states.ensures.ends m n (from_one c.in_ok-start_with.field-0 m (c.in_ok-start_with.ensures m starts)) run ends))
+    c.in_main.ensures
