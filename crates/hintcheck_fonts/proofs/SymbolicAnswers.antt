@@ -1,6 +1,12 @@
 -- Why a program isn't accepted by symbolic states, from where it is told to what is reported.
 use Rattle.std.proofs.Common.{◌≡◌, ◌≤◌, ℕ, List, [], ◌∷◌, arith, length, refl, subst, sym}
 use Rattle.std.specs.List.{All}
+use Rattle.std.specs.Prelude.{Ok, Err, ◌++◌}
+use Rattle.std.proofs.lemmas.List.Elements.{All-cons, All-nil}
+use Rattle.hintcheck_fonts.specs.declared.session.Outcome.{Outcome}
+use Rattle.hintcheck_fonts.specs.Representation.ProgramOrder.{TellsOutcome}
+use Rattle.hintcheck_fonts.specs.Representation.SessionStages.{ListsOutcome}
+use Rattle.hintcheck_fonts.specs.Sessions.{refused_as}
 use Rattle.tt_code.specs.Cut.{Instruction}
 use Rattle.tt_code.specs.Fonts.{Font}
 use Rattle.tt_code.specs.declared.reason.Reason.TheVariants.{NeverEnds, ProgramTooLong}
@@ -80,11 +86,30 @@ refused_alone x g r named bytes (judged s at offset failed is answer) =
 
 pub told_alone : (font : Font) (g : GlyphData) (Accepts : List Instruction → Type 0) (rs : List AnyRefused)
     → IsJudgedBy Accepts (λ r. IsSymbolicRefusal (glyph_subject font [] 0 g) r) rs → All (IsRefusedAlone g) rs
-told_alone font g Accepts [] none = tt
-told_alone font g Accepts (r ∷ []) is = (refused_alone (glyph_subject font [] 0 g) g r refl refl is, tt)
+told_alone font g Accepts [] none = All-nil (IsRefusedAlone g)
+told_alone font g Accepts (r ∷ []) is = All-cons (IsRefusedAlone g) r [] (refused_alone (glyph_subject font [] 0 g) g r refl refl is) (All-nil (IsRefusedAlone g))
 told_alone font g Accepts (r ∷ q ∷ rs) never = absurd never
 
 pub one_alone : (Accepts : List Instruction → Type 0) (Refuses : AnyRefused → Type 0) (rs : List AnyRefused) → IsJudgedBy Accepts Refuses rs → length rs ≤ 1
 one_alone Accepts Refuses [] none = omega arith
 one_alone Accepts Refuses (r ∷ []) is = omega arith
 one_alone Accepts Refuses (r ∷ q ∷ rs) never = absurd never
+
+-- the list of the only glyph, where this is told of it
+pub listed_alone : (g : GlyphData) (fault : Refusal) (o : Outcome) (old new : List AnyRefused) → IsToldInTurn fault → TellsOutcome (name.Glyph 0) fault (Ok o) → old ≡ []
+    → ListsOutcome old o.refused new → All (IsRefusedAlone g) new
+listed_alone g (Refused at offset failed) o old new told is none listed =
+    let r : AnyRefused = reported_at (name.Glyph 0) at offset (reason_of failed) in
+    let same : o ≡ refused_as (name.Glyph 0) r = cc in
+    let one : new ≡ r ∷ [] = subst (λ (p : Outcome). ListsOutcome [] p.refused new) same (subst (λ (l : List AnyRefused). ListsOutcome l o.refused new) none listed) in
+    subst (λ (l : List AnyRefused). All (IsRefusedAlone g) l) (sym one) (All-cons (IsRefusedAlone g) r [] (told_in_turn at offset failed told) (All-nil (IsRefusedAlone g)))
+listed_alone g (Exhausted by) o old new told is none listed = absurd (cc)
+
+-- and it is one at most
+pub listed_one : (fault : Refusal) (o : Outcome) (old new : List AnyRefused) → TellsOutcome (name.Glyph 0) fault (Ok o) → old ≡ [] → ListsOutcome old o.refused new → length new ≤ 1
+listed_one (Refused at offset failed) o old new is none listed =
+    let r : AnyRefused = reported_at (name.Glyph 0) at offset (reason_of failed) in
+    let same : o ≡ refused_as (name.Glyph 0) r = cc in
+    let one : new ≡ r ∷ [] = subst (λ (p : Outcome). ListsOutcome [] p.refused new) same (subst (λ (l : List AnyRefused). ListsOutcome l o.refused new) none listed) in
+    subst (λ (l : List AnyRefused). length l ≤ 1) (sym one) (omega arith)
+listed_one (Exhausted by) o old new is none listed = absurd (cc)

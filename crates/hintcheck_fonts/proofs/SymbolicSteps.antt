@@ -309,3 +309,15 @@ safe_alone font g j starts Refuses [] h same (is, checked) none =
         glyphs = λ id t may. only_checked s t starts id run.checked may;
       });
     }
+
+-- the two empty programs of such a font, as they were checked
+pub begun_empty : (font : Font) (s t : Setting) (first second e d : Ends) (functions : List (ℕ × ℕ)) (starts : GlyphStarts) → IsEnded s [] e → IsEnded t functions d → first ≡ e → second ≡ d
+    → functions ≡ first.functions → StartGlyphs second starts → s ≡ font_setting font → t ≡ cvt_setting font → AreBegun font starts
+begun_empty font s t first second e d functions starts one two is_first is_second same begun for_font for_cvt = record {
+  first = first;
+  second = second;
+  font_ended = subst (λ (x : Setting). IsEnded x [] first) for_font (subst (λ (x : Ends). IsEnded s [] x) (sym is_first) one);
+  cvt_ended = subst (λ (x : Setting). IsEnded x first.functions second) for_cvt
+      (subst (λ (fs : List (ℕ × ℕ)). IsEnded t fs second) same (subst (λ (x : Ends). IsEnded t functions x) (sym is_second) two));
+  begun = begun;
+}

@@ -35,7 +35,8 @@ fn refused_after_empty(
     requires { IsFontInRange font.now }
     ensures safe { (g : GlyphData) → slice_get font.now.glyphs 0 ≡ Some g
         → IfOk result (λ refused. refused.items ≡ [] → IsSafeAlone (font_of font.now [] []) g) }
-    ensures one { IfOk result (λ refused. length refused.items ≤ 1) }
+    ensures one { (g : GlyphData) → slice_get font.now.glyphs 0 ≡ Some g
+        → IfOk result (λ refused. length refused.items ≤ 1) }
     ensures told { (g : GlyphData) → slice_get font.now.glyphs 0 ≡ Some g
         → IfOk result (λ refused. All (IsRefusedAlone g) refused.items) }
 {
