@@ -7,10 +7,34 @@ ghost use Rattle.hintcheck.specs.MeansSafe.{HoldRefusedBy, HoldSafeBy, IsVerdict
 
 use super::faults::CommandFault;
 use super::files::file_bytes;
-use crate::font_file::{points_within, verdict_in_budget};
+use crate::font_file::verdict_in_budget;
 use hintcheck_fonts::report::Verdict;
 use hintcheck_words::Profile;
+use std::alloc::Global;
 use std::rt::Files;
+use tt_family::Budget;
+
+/// Returns the verdict of a profile on the font in these bytes. The strict one makes at most this many
+/// points, and the search of the symbolic one this many steps, where they are bounded.
+fn verdict_on_bytes(
+    alloc: Global,
+    bytes: &[u8],
+    budget: Option<u64>,
+    profile: Profile,
+) -> Result<Verdict, CommandFault>
+    ensures given { IfOk result (IsVerdictBy profile bytes.now) }
+    ensures faults { IfErr result
+        (λ fault. IsFaultOfFontFile fault × IsWithin budget fault) }
+{
+    let Some(most) = budget else {
+        return match verdict_in_budget(alloc, bytes, profile, None, &mut Budget::unlimited()) {
+            // No font has so many points.
+            Err(CommandFault::Budget) => Err(CommandFault::OutOfMemory),
+            told => told,
+        };
+    };
+    verdict_in_budget(alloc, bytes, profile, budget, &mut Budget::of(most))
+}
 
 /// The font in a file: its bytes, and the verdict on it.
 #[derive(Drop)]
@@ -33,11 +57,8 @@ pub(super) fn judged_font<R: Files + AllocGlobal>(
         (λ fault. IsFaultOfFontFile fault × IsWithin budget fault) }
 {
     let bytes = file_bytes(rt, name)?;
-    let mut points = points_within(budget);
-    match verdict_in_budget(rt.alloc(), &bytes, profile, budget, &mut points) {
-        Ok(verdict) => Ok(JudgedFont { bytes, verdict }),
-        Err(fault) => Err(fault.within(budget)),
-    }
+    let verdict = verdict_on_bytes(rt.alloc(), &bytes, budget, profile)?;
+    Ok(JudgedFont { bytes, verdict })
 }
 
 /// Returns the verdict of a profile on all programs of the font file with this name. The strict one

@@ -17,8 +17,8 @@ returns-in-Strict-clause-answered g c =
     (λ e tells. word_told c.args.font.now c.args.request.word.now c.in_ok-read.read c.in-Some.named.name e c.in_ok-read.ensures.reads (of_some _ _ _ c.in-Some.is c.in_ok-named.ensures.text) tells)
     c.explain_named.ensures.tells)
 
-pub returns-in-Symbolic-clause-answered : goal.returns-in-Symbolic-clause-answered
-returns-in-Symbolic-clause-answered g c =
+pub returns-clause-answered : goal.returns-clause-answered
+returns-clause-answered g c =
     rw c.in-Symbolic.is (IfOk-weaker c.explain_symbolically.result _ _
     (λ e tells. record {
       font = c.in_ok-read.read;
