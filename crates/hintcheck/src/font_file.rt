@@ -47,14 +47,6 @@ pub(crate) fn request_by(profile: Profile, steps: Option<u64>) -> Request
     }
 }
 
-/// Returns the budget of this many points, or the greatest one.
-pub(crate) fn points_within(budget: Option<u64>) -> Budget {
-    match budget {
-        Some(most) => Budget::of(most),
-        None => Budget::unlimited(),
-    }
-}
-
 /// Returns the verdict of a profile on a font: the strict one makes at most as many points as the
 /// budget allows, and the search of the symbolic one at most this many steps, where they are bounded.
 ///

@@ -1,5 +1,5 @@
--- The faults that an object tells, and those within a budget.
-use Rattle.std.specs.Prelude.{ℕ, Bool, true, false, Option, None}
+-- The faults that an object tells.
+use Rattle.std.specs.Prelude.{Bool, true, false}
 use Rattle.hintcheck.specs.declared.commands.faults.CommandFault.{CommandFault}
 use Rattle.hintcheck.specs.declared.commands.faults.CommandFault.TheVariants as fault
 
@@ -16,8 +16,3 @@ is_of_font_file other = false
 abbrev pub fault_in_memory : CommandFault → CommandFault
 fault_in_memory fault.Write = fault.OutOfMemory
 fault_in_memory other = other
-
--- the fault as it is told within this budget, if there is one: without one, memory ran out
-abbrev pub told_within : Option ℕ → CommandFault → CommandFault
-told_within None fault.Budget = fault.OutOfMemory
-told_within budget other = other

@@ -14,7 +14,7 @@ use super::files::file_bytes;
 use super::verdict_lines::print_last_line;
 use super::{ACCEPTED, REFUSED};
 use crate::explanation::{ExplainRequest, explain_word};
-use crate::font_file::{points_within, verdict_in_budget};
+use crate::font_file::verdict_in_budget;
 use hintcheck_fonts::report::Name;
 use hintcheck_words::ExplainOptions;
 use std::alloc::Global;
@@ -97,6 +97,30 @@ fn explain_within<O: Sink>(
     Ok(REFUSED)
 }
 
+/// Does what `explain_of_font` does, for the font in these bytes.
+fn explain_font<O: Sink>(
+    alloc: Global,
+    font: &[u8],
+    options: ExplainOptions,
+    out: &mut O,
+) -> Result<u8, CommandFault>
+    ensures status { IfOk result (λ status. status ≤ 1) }
+    ensures printed { IfOk result (λ status. PrintsCausesOf options.profile font.now
+        status (O.contents out.old) (O.contents out.new)) }
+    ensures failures { TellsFailure result (O.failures out.old) (O.failures out.new) }
+    ensures faults { IfErr result
+        (λ fault. IsFaultOfFontCauses fault × IsWithin options.budget fault) }
+{
+    let Some(most) = options.budget else {
+        return match explain_within(alloc, font, options, &mut Budget::unlimited(), out) {
+            // No font has so many points.
+            Err(CommandFault::Budget) => Err(CommandFault::OutOfMemory),
+            told => told,
+        };
+    };
+    explain_within(alloc, font, options, &mut Budget::of(most), out)
+}
+
 /// Prints for which causes programs of the font file with this name are refused by a profile, the
 /// most frequent cause first, and after an empty line the explanation of the first program of that
 /// one; or, where all are accepted, the last line of the verdict. Returns the exit status: 0 where all
@@ -125,9 +149,5 @@ pub(super) fn explain_of_font<R: Files + AllocGlobal, O: Sink>(
         (λ fault. IsFaultOfFontCauses fault × IsWithin options.budget fault) }
 {
     let bytes = file_bytes(rt, name)?;
-    let budget = options.budget;
-    match explain_within(rt.alloc(), &bytes, options, &mut points_within(budget), out) {
-        Ok(status) => Ok(status),
-        Err(fault) => Err(fault.within(budget)),
-    }
+    explain_font(rt.alloc(), &bytes, options, out)
 }

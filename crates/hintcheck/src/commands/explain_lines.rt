@@ -9,10 +9,10 @@ ghost use Rattle.hintcheck.specs.MeansSafe.{HoldAcceptedBy, HoldExplainedBy, Hol
 use super::faults::CommandFault;
 use super::files::file_bytes;
 use crate::explanation::{ExplainRequest, exit_status, explain_word};
-use crate::font_file::points_within;
 use hintcheck_explain::Explained;
 use std::alloc::Global;
 use std::rt::Files;
+use tt_family::Budget;
 use tt_stream::Sink;
 
 /// Explains one program of the font in these bytes, as `explain_word` does within the budget that is
@@ -31,11 +31,14 @@ pub(super) fn explain_by<O: Sink>(
         × IsWithin request.entry.options.budget fault) }
     ensures none { OnOk result (HoldPlace bytes.now request.entry.word.now request.entry.site) }
 {
-    let budget = request.options.budget;
-    match explain_word(alloc, bytes, request, &mut points_within(budget), out) {
-        Ok(explained) => Ok(explained),
-        Err(fault) => Err(fault.within(budget)),
-    }
+    let Some(most) = request.options.budget else {
+        return match explain_word(alloc, bytes, request, &mut Budget::unlimited(), out) {
+            // No font has so many points.
+            Err(CommandFault::Budget) => Err(CommandFault::OutOfMemory),
+            told => told,
+        };
+    };
+    explain_word(alloc, bytes, request, &mut Budget::of(most), out)
 }
 
 /// Explains one program of the font file with this name, and returns the exit status: 0 accepted; 1

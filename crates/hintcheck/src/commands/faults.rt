@@ -3,7 +3,7 @@
 ghost use Rattle.std.specs.Prelude.{◌≡◌, ◌≤◌};
 ghost use Rattle.hintcheck.specs.Commands.{IsNoWriteFault, fault_of_word, status_of};
 ghost use Rattle.hintcheck.specs.Containers.{container_beside, container_of};
-ghost use Rattle.hintcheck.specs.Representation.ToldFaults.{is_of_font_file, told_within};
+ghost use Rattle.hintcheck.specs.Representation.ToldFaults.{is_of_font_file};
 ghost use Rattle.hintcheck.specs.Scans.{IsOfScan};
 
 use crate::neighbours::Neighbours;
@@ -354,17 +354,6 @@ impl CommandFault {
         match fault {
             WordFault::OutOfMemory => CommandFault::OutOfMemory,
             _ => bad,
-        }
-    }
-
-    /// Returns the fault as it is told where this many points may be made, or any number: then what
-    /// ran out is memory, since no font has as many points as the greatest budget.
-    pub(crate) fn within(self, budget: Option<u64>) -> CommandFault
-        ensures { result ≡ told_within budget self }
-    {
-        match (self, budget) {
-            (CommandFault::Budget, None) => CommandFault::OutOfMemory,
-            (fault, _) => fault,
         }
     }
 

@@ -25,6 +25,7 @@ returns-clause-answered g c =
       reads = c.in_ok-read.ensures.reads;
       program = c.in-Some.named.bytes.now;
       named = record { name = c.in-Some.named.name; text = of_some _ _ _ c.in-Some.is c.in_ok-named.ensures.text; there = of_some _ _ _ c.in-Some.is c.in_ok-named.ensures.program };
+      judgement = tells.judgement;
       given = tells.given;
       against = tells.against;
     })
