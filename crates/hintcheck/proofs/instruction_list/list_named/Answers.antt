@@ -10,8 +10,8 @@ use Rattle.tt_setting.specs.Refusals.{reason_of}
 use Rattle.tt_setting.specs.declared.refusal.Refusal.{Refusal}
 use Rattle.tt_setting.specs.declared.refusal.Refusal.TheVariants as fault
 use Rattle.hintcheck_fonts.specs.Representation.Judges.{IsRefusedFor}
-use Rattle.hintcheck_fonts.proofs.BareProgramLemmas.{uncut_refusal}
-use Rattle.hintcheck_fonts.specs.ProgramVerdicts.{IfRefused}
+use Rattle.hintcheck_fonts.proofs.JudgeLaws.{uncut_is_refused}
+use Rattle.hintcheck_fonts.specs.ProgramVerdicts.{IfRefused, IsUncut}
 use Rattle.hintcheck_report.specs.Places.{reported_at}
 use Rattle.hintcheck_report.specs.Texts.{refused_text}
 use Rattle.hintcheck_report.specs.declared.refused.Refused.{Refused}
@@ -22,6 +22,10 @@ use Rattle.hintcheck.proofs.instruction_list.list_named.Goals as goal
 refusal_of : (x : Subject) (f : Refusal) → IfRefused x.name f (IsRefusedFor x) → IfRefused x.name f (IsRefusal x)
 refusal_of x (fault.Refused spot offset failed) is = is.refusal
 refusal_of x (fault.Exhausted by) is = tt
+
+uncut_refusal : (x : Subject) (f : Refusal) → IfRefused x.name f (IsUncut x.name x.bytes) → IfRefused x.name f (IsRefusedFor x)
+uncut_refusal x (fault.Refused spot offset failed) is = uncut_is_refused x (reported_at x.name spot offset (reason_of failed)) is
+uncut_refusal x (fault.Exhausted by) is = tt
 
 -- a program of these bytes in some font
 in_some_font : List ℕ → Subject
