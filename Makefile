@@ -1,6 +1,9 @@
 # make: proves and builds hintcheck, where that isn't done. make check: runs all checks, `rt ci` among them, whose last line is the last one here too.
+# make try: runs the program without a proof on a font of examples/, or on WORDS. make quick CRATE=NAME: proves one crate and those below it, and runs
+# its tests. make clean: removes all that was built, and what the prover keeps of it in this checkout.
 # make install: puts the program, its manual page and completions under PREFIX.
 # make install-library: proves and builds the library for C and C++, and puts it, its header and a pkg-config file there.
+# make dist, make deb: packs what `rt ci` has passed as an archive, or a Debian package, in the folder `out`.
 PREFIX = /usr/local
 DESTDIR =
 bindir = $(DESTDIR)$(PREFIX)/bin
@@ -10,7 +13,10 @@ libdir = $(DESTDIR)$(PREFIX)/lib
 library = crates/hintcheck_c/out/libhintcheck_c.a
 archive = crates/hintcheck_c/out/libhintcheck.a
 
-.PHONY: all check library install install-library uninstall
+# What `make try` runs the program on.
+WORDS = verdict examples/certificates/call-underflows.ttf
+
+.PHONY: all check try quick clean library install install-library uninstall dist deb
 
 all:
 	./hintcheck --build
@@ -18,8 +24,18 @@ all:
 check:
 	@bench/check.py
 
+try:
+	./hintcheck --try $(WORDS)
+
+quick:
+	@test -n "$(CRATE)" || { echo "make quick CRATE=NAME: a crate of crates.txt" >&2; exit 2; }
+	bench/build.py --tests $(CRATE)
+
+clean:
+	rm -rf crates/*/out out
+
 library:
-	cd crates/hintcheck_c && rt lib >&2
+	bench/build.py hintcheck_c
 
 # The archive gets the toolchain's part of the C library too, so that one library is enough to link. It is made here and then installed, since `ar -M`
 # takes no spaces in names.
@@ -30,6 +46,12 @@ install-library: library
 	install -m 644 include/hintcheck.h "$(includedir)/hintcheck.h"
 	sed 's|@PREFIX@|$(PREFIX)|' include/hintcheck.pc.in >"$(libdir)/pkgconfig/hintcheck.pc"
 	chmod 644 "$(libdir)/pkgconfig/hintcheck.pc"
+
+dist:
+	@bench/pack.py dist
+
+deb:
+	@bench/pack.py deb
 
 install: all
 	install -d "$(bindir)" "$(datadir)/man/man1" "$(datadir)/bash-completion/completions" \

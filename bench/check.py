@@ -18,6 +18,7 @@ import time
 import typing
 
 import examples
+import gate_record
 
 TOP = pathlib.Path(__file__).resolve().parent.parent
 BENCH = TOP / "bench"
@@ -74,6 +75,7 @@ WITHOUT_PROOF = [
     Check("test vectors", "vectors.py"),
     Check("second checker on the cases", "independent_cases.py"),
     Check("second checker on whole files", "independent_files.py"),
+    Check("order of the first build", "build_order.py"),
 ]
 
 
@@ -129,16 +131,18 @@ def told(check: Check) -> Result:
 
 
 def gate() -> tuple[int, str]:
-    """Runs `rt ci`, and shows what it prints: its status and its last line."""
+    """Runs `rt ci`, and shows what it prints: its status and its last line. Where it passes, its last two lines are kept for bench/pack.py."""
     if shutil.which("rt") is None:
         return 1, "rt isn't on the PATH"
     print("rt ci:", flush=True)
-    last = ""
+    before, last = gate_record.before(), collections.deque([""], maxlen=2)
     with subprocess.Popen(["rt", "ci"], cwd=TOP, stdin=subprocess.DEVNULL, stdout=subprocess.PIPE, text=True, errors="replace") as ran:
         for line in ran.stdout:
             print(line, end="", flush=True)
-            last = line.strip() or last
-    return ran.returncode, last
+            last.extend([line.strip()] * bool(line.strip()))
+    if ran.returncode == 0:
+        gate_record.write(before, list(last))
+    return ran.returncode, last[-1]
 
 
 def summary(results: list[Result], seconds: float) -> None:

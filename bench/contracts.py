@@ -258,7 +258,7 @@ def faults() -> typing.Iterator[str]:
     asked: dict[str, set[tuple[str, str]]] = {}
     for crate, calls, _ in rows_of(sections["What callers must ensure"]):
         asked.setdefault(crate, set()).update(pairs_in(calls))
-    everything = {(clause.function, clause.name) for crate in ("hintcheck", "hintcheck_fonts") for clause in clauses_of(crate)}
+    everything = {(clause.function, clause.name) for crate in ("hintcheck", "hintcheck_programs", "hintcheck_certificates", "hintcheck_fonts") for clause in clauses_of(crate)}
     carry = {pair for row in rows_of(sections["The headline"]) for pair in pairs_in(row[1]) if pair[1]}
     yield from (f"headline: there is no clause {told(pair)}" for pair in sorted(carry - everything))
     words = {word for row in rows_of(sections["The headline"]) if len(row) == 2 for word in re.findall(r"`([A-Za-z]\w*)`", row[1])}

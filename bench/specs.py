@@ -18,8 +18,8 @@ import contracts
 TOP = pathlib.Path(__file__).resolve().parent.parent
 PAGE = TOP / "docs/DEFINITIONS.md"
 FOLDER = "Representation"
-# The road through a font, which `explain` goes too, in another crate: its clauses say how the code keeps what is known, and users don't call it.
-SHARED = ("Programs::", "Judge::", "Finding::", "cut")
+# The road through a font, which other crates go too: its clauses say how the code keeps what is known, and users don't call it.
+SHARED = re.compile(r"Programs::|Judge::|Finding::|(?:cut|list_outcome|refused|refused_glyph)$")
 # The lemmas that show closed definitions, each with the file of the one function that may name it.
 CLOSED = {"answered_by_symbols": ("tt_symbolic_check/src/checking.rt", "tt_symbolic_search/src/search.rt")}
 IMPORT = re.compile(r"^(?:pub )?use Rattle\.(\w+)\.specs\.((?:Representation\.)?\w+)", re.M)
@@ -65,7 +65,7 @@ def cited_by_clauses() -> dict[Module, str]:
     cited = {}
     for crate in crates():
         for clause in contracts.clauses_of(crate):
-            if crate == "hintcheck_fonts" and clause.function.startswith(SHARED):
+            if crate == "hintcheck_programs" and SHARED.match(clause.function):
                 continue
             for name in clause.modules:
                 source, _, rest = name.partition(".")

@@ -14,7 +14,7 @@ import sys
 import tempfile
 
 TOP = pathlib.Path(__file__).resolve().parent.parent
-USES = "tt_code tt_abs tt_symbolic tt_symbolic_check anyhow"
+USES = "tt_code tt_setting tt_symbolic tt_symbolic_check tt_symbolic_search anyhow"
 STEPS = 50 * (4 + 20_000 * 9)
 
 

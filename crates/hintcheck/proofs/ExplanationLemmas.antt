@@ -12,8 +12,8 @@ use Rattle.hintcheck_report.specs.declared.answer_fault.AnswerFault.TheVariants 
 use Rattle.tt_stream.specs.declared.text.PrintFailed.TheVariants as failed
 use Rattle.hintcheck.specs.Commands.{TellsFailure, fault_of_answer}
 use Rattle.hintcheck.specs.CommandFaults.{IsEndOfWork, IsFaultOfExplanation}
-use Rattle.hintcheck.specs.Explanations.{IsAnswered, IsReportOf, TellsProgram, cvt_accepted, cvt_refused, font_accepted, font_refused, glyph_accepted, glyph_refused}
-use Rattle.hintcheck_fonts.specs.FontPrograms.{cvt_subject, font_of, font_subject, glyph_subject}
+use Rattle.hintcheck.specs.Explanations.{IsAnswered, IsReportOf, TellsProgram, cvt_accepted, cvt_refused, font_accepted, font_refused, glyph_accepted, glyph_refused, HoldExplained, status_of_explained}
+use Rattle.hintcheck_programs.specs.FontPrograms.{cvt_subject, font_of, font_subject, glyph_subject}
 use Rattle.tt_setting.specs.Refusals.{reason_of}
 use Rattle.tt_setting.specs.declared.refusal.Refusal.{Refusal}
 use Rattle.tt_setting.specs.declared.refusal.Refusal.TheVariants as fault
@@ -22,19 +22,18 @@ use Rattle.tt_setting.specs.Settings.{setting_of}
 use Rattle.tt_family.specs.Contents.{family_of}
 use Rattle.hintcheck_explain.specs.declared.asked.Explained.{Explained}
 use Rattle.hintcheck_explain.specs.declared.asked.Explained.TheVariants as explained
-use Rattle.hintcheck_fonts.specs.ProgramVerdicts.{IfRefused, IsSubjectOf, with_start}
+use Rattle.hintcheck_programs.specs.ProgramVerdicts.{IfRefused, IsSubjectOf, with_start}
 use Rattle.hintcheck_report.specs.Places.{reported_at}
 use Rattle.hintcheck_report.specs.declared.refused.Refused.{Refused}
-use Rattle.hintcheck_fonts.specs.Programs.{EndsWith, IsRefusal, Subject}
-use Rattle.hintcheck_fonts.specs.Representation.Judges.{IsRefusedFor}
-use Rattle.hintcheck_fonts.specs.Representation.ProgramOrder.{IsNext, next_program, start_at}
-use Rattle.hintcheck_fonts.specs.Representation.SessionStages.{KeepsKnown}
-use Rattle.hintcheck_fonts.specs.Sessions.{Stage, after_font, at_glyph, at_start, over}
-use Rattle.hintcheck_fonts.specs.declared.programs.Next.{Next}
-use Rattle.hintcheck_fonts.proofs.FontEnds.{least_of}
-use Rattle.hintcheck_fonts.proofs.ProgramSteps.{glyph_of}
-use Rattle.hintcheck_fonts.proofs.ProgramVerdictLemmas.{HasFlow, accepted_found, found_refusal}
-use Rattle.hintcheck.specs.Explanations.{HoldExplained, status_of_explained}
+use Rattle.hintcheck_programs.specs.Programs.{EndsWith, IsRefusal, Subject}
+use Rattle.hintcheck_programs.specs.Representation.Judges.{IsRefusedFor}
+use Rattle.hintcheck_programs.specs.Representation.ProgramOrder.{IsNext, next_program, start_at}
+use Rattle.hintcheck_programs.specs.Representation.FontVerdicts.{KeepsKnown}
+use Rattle.hintcheck_programs.specs.Stages.{Stage, after_font, at_glyph, at_start, over}
+use Rattle.hintcheck_programs.specs.declared.programs.Next.{Next}
+use Rattle.hintcheck_programs.proofs.FontEnds.{least_of}
+use Rattle.hintcheck_programs.proofs.ProgramSteps.{glyph_of}
+use Rattle.hintcheck_programs.proofs.ProgramVerdictLemmas.{HasFlow, accepted_found, found_refusal}
 use Rattle.hintcheck.specs.Listing.{Calls}
 use Rattle.hintcheck.specs.MeansSafe.{HoldAcceptedBy, HoldExplainedBy, HoldUnacceptedBy}
 use Rattle.hintcheck_words.specs.declared.words.Profile.{Profile}
@@ -135,11 +134,11 @@ word_told bytes word d called (explained.Refused r) reads text tells = record { 
 
 -- the exit status of what is answered by a profile
 pub accepted_by : (profile : Profile) (bytes word : List ℕ) (e : Explained) (status : ℕ) → HoldExplainedBy profile bytes word e → status ≡ status_of_explained e → status ≡ 0 → HoldAcceptedBy profile bytes word
-accepted_by Strict bytes word explained.Accepted status holds is zero = holds
-accepted_by Symbolic bytes word explained.Accepted status holds is zero = holds
+accepted_by (Strict points) bytes word explained.Accepted status holds is zero = holds
+accepted_by (Symbolic steps) bytes word explained.Accepted status holds is zero = holds
 accepted_by profile bytes word (explained.Refused r) status holds is zero = absurd (cc)
 
 pub refused_by : (profile : Profile) (bytes word : List ℕ) (e : Explained) (status : ℕ) → HoldExplainedBy profile bytes word e → status ≡ status_of_explained e → status ≡ 1 → HoldUnacceptedBy profile bytes word
-refused_by Strict bytes word (explained.Refused r) status holds is one = (r, holds)
-refused_by Symbolic bytes word (explained.Refused r) status holds is one = (r, holds)
+refused_by (Strict points) bytes word (explained.Refused r) status holds is one = (r, holds)
+refused_by (Symbolic steps) bytes word (explained.Refused r) status holds is one = (r, holds)
 refused_by profile bytes word explained.Accepted status holds is one = absurd (cc)

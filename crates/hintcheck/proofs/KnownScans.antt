@@ -13,7 +13,7 @@ use Rattle.tt_code.specs.Refusals.{number_of}
 use Rattle.hintcheck_words.specs.declared.words.FailOn.{FailOn}
 use Rattle.hintcheck_words.specs.declared.words.ScanOptions.{ScanOptions}
 use Rattle.hintcheck.proofs.KnownLines.{line_whole}
-use Rattle.hintcheck.specs.Commands.{status_of}
+use Rattle.hintcheck.specs.Commands.{status_of, font_status}
 use Rattle.hintcheck.specs.ExpectedScans.{PrintsScanning, greatest_of_unknown, status_of_unknown}
 use Rattle.hintcheck.specs.KnownRefusals.{IsExpectable, IsKnown, IsOneLine, counted_lines, counts, has_unknown, is_known, lines_text, refusal_line}
 use Rattle.hintcheck.specs.MeansSafe.{HoldOnlyKnown, HoldUnknown, IsRefusedScan, IsSafeScan, TellsFonts, TellsScan}
@@ -25,7 +25,6 @@ use Rattle.hintcheck.specs.declared.commands.faults.CommandFault.{CommandFault}
 use Rattle.hintcheck.specs.declared.commands.faults.CommandFault.TheVariants as fault
 use Rattle.tt_font.specs.declared.fault.FontFault.{FontFault}
 use Rattle.tt_font.specs.declared.fault.FontFault.TheVariants as font
-use Rattle.hintcheck.specs.Commands.{font_status}
 
 -- No lines, and some lines before others.
 
@@ -178,7 +177,6 @@ font_two _ = omega arith
 
 pub fault_two : (f : CommandFault) → 2 ≤ status_of f
 fault_two fault.OutOfMemory = omega arith
-fault_two fault.ScanUnfinished = omega arith
 fault_two fault.Budget = omega arith
 fault_two (fault.Font numbered) = font_two numbered.0
 fault_two _ = omega arith
@@ -224,12 +222,12 @@ settled_fault (missing text) g more = fault_kept false g more
 -- What the exit statuses 0 and 1 tell of the font files.
 
 abbrev Answered : ScanOptions → Scanned → Type 0
-Answered options s = IsAnswer options.profile options.budget s.answer
+Answered options s = IsAnswer options.profile s.answer
 
 abbrev OnlyKnown : ScanOptions → List (List ℕ) → List ℕ → Type 0
 OnlyKnown options lines font = (bytes : List ℕ) × HoldOnlyKnown options.fail_on options.profile lines font bytes
 
-one_safe : (options : ScanOptions) (lines : List (List ℕ)) (name : List ℕ) (answer : Answer) → status_of_unknown options.fail_on lines name answer ≡ 0 → IsAnswer options.profile options.budget answer → OnlyKnown options lines name
+one_safe : (options : ScanOptions) (lines : List (List ℕ)) (name : List ℕ) (answer : Answer) → status_of_unknown options.fail_on lines name answer ≡ 0 → IsAnswer options.profile answer → OnlyKnown options lines name
 one_safe options lines name (judged b j) zero is =
     (b, record { judgement = j; given = is; known = all_known options.fail_on lines name j.refused (flag_zero (has_unknown lines (counted_lines options.fail_on name j.refused)) zero) })
 one_safe options lines name (unread r) zero is = absurd (omega (arith, fault_two r))
@@ -244,7 +242,7 @@ all_safe options lines (s ∷ others) zero answers =
 abbrev UnknownAmong : ScanOptions → List (List ℕ) → List (List ℕ) → Type 0
 UnknownAmong options lines names = (font : List ℕ) × Contains names font × ((bytes : List ℕ) × HoldUnknown options.fail_on options.profile lines font bytes)
 
-one_refused : (options : ScanOptions) (lines : List (List ℕ)) (name : List ℕ) (answer : Answer) → status_of_unknown options.fail_on lines name answer ≡ 1 → IsAnswer options.profile options.budget answer
+one_refused : (options : ScanOptions) (lines : List (List ℕ)) (name : List ℕ) (answer : Answer) → status_of_unknown options.fail_on lines name answer ≡ 1 → IsAnswer options.profile answer
     → (bytes : List ℕ) × HoldUnknown options.fail_on options.profile lines name bytes
 one_refused options lines name (judged b j) one is =
     let some = some_unknown options.fail_on lines name j.refused (flag_one (has_unknown lines (counted_lines options.fail_on name j.refused)) one) in

@@ -7,7 +7,6 @@ pub mod KnownLines
 pub mod KnownScans
 pub mod KnownFaults
 pub mod ScannedLines
-pub mod ScanFaults
 pub mod PlaceLemmas
 pub mod SiteLemmas
 pub mod ExplanationLemmas

@@ -15,8 +15,8 @@ use Rattle.tt_code.proofs.CutLemmas.{found_is, size-append, some_bytes}
 use Rattle.tt_code.proofs.StructureLaws.{found_iff_stands}
 use Rattle.hintcheck_words.specs.declared.words.Detail.{Detail}
 use Rattle.hintcheck.specs.Listing.{CannotBeListed, IsListedBefore, IsUnlistedAt, TellsUnlisted, hex_digits, line_of, lines_of, no_cut, no_structure, refused_in, shown_name, shown_numbers}
-use Rattle.hintcheck_fonts.specs.Programs.{IsCause, IsRefusal, Subject}
-use Rattle.hintcheck_fonts.specs.Programs as cause
+use Rattle.hintcheck_programs.specs.Programs.{IsCause, IsRefusal, Subject}
+use Rattle.hintcheck_programs.specs.Programs as cause
 use Rattle.hintcheck_report.specs.Texts.{refused_text}
 use Rattle.hintcheck_report.specs.declared.refused.Refused.{Refused as AnyRefused}
 

@@ -8,9 +8,8 @@ use Rattle.std.proofs.lemmas.Str.Parse.{IsNumeralModel, numerals_by_value, tells
 use Rattle.std.specs.Result.{OkIff, result_ok}
 use Rattle.std.proofs.lemmas.Option.{slice_get_within}
 use Rattle.tt_font.specs.Reading.{FontData, GlyphData}
-use Rattle.hintcheck_fonts.specs.FontPrograms.{IsFontInRange}
-use Rattle.hintcheck.specs.Listing.{Calls, IsNameOf, IsNoName, IsOf16Bits, IsPlain, Names, program_in}
-use Rattle.hintcheck.specs.Listing.{by_glyph_name}
+use Rattle.hintcheck_programs.specs.FontPrograms.{IsFontInRange}
+use Rattle.hintcheck.specs.Listing.{Calls, IsNameOf, IsNoName, IsOf16Bits, IsPlain, Names, program_in, by_glyph_name}
 use Rattle.tt_names.specs.Names.{IsFirstNamed}
 use Rattle.tt_names.specs.Post.{post_of}
 use Rattle.tt_setting.specs.declared.name.Name.{Name}

@@ -16,6 +16,7 @@ use Rattle.hintcheck_explain.specs.declared.asked.Explained.{Explained}
 use Rattle.hintcheck.specs.Printed.{PrintsExplanation, PrintsExplanationAs, explained, unexplained}
 use Rattle.hintcheck.specs.Representation.ToldFaults.{fault_in_memory, is_of_font_file}
 use Rattle.hintcheck.specs.declared.commands.faults.CommandFault.{CommandFault}
+use Rattle.hintcheck_words.specs.Requests.{points_of}
 use Rattle.hintcheck.specs.declared.commands.faults.CommandFault.TheVariants as fault
 
 -- what is printed to memory isn't written
@@ -44,9 +45,9 @@ pub of_font_file : (word : List ℕ) (site : Option Site) (budget : Option ℕ) 
 of_font_file word site budget f is why = record { of_file = of_kind word site f is why.0; why = why.0; within = why.1 }
 
 -- an object tells the fault
-pub told_printed : (font word : List ℕ) (site : Option Site) (options : ExplainOptions) (f told : CommandFault) (old new : Option (List ℕ)) → IsUnexplained word site options.budget f → status_of told ≡ status_of f
-    → Appends old new (unread_object font options.profile f) → PrintsExplanation font word site options (status_of told) old new
-told_printed font word site options f told old new un same written =
+pub told_printed : (font word : List ℕ) (site : Option Site) (options : ExplainOptions) (f : CommandFault) (status : ℕ) (old new : Option (List ℕ)) → IsUnexplained word site (points_of options.profile) f → status ≡ status_of f
+    → Appends old new (unread_object font options.profile f) → PrintsExplanation font word site options status old new
+told_printed font word site options f status old new un same written =
     subst (λ (n : ℕ). PrintsExplanation font word site options n old new) (sym same) (unexplained f old new un written)
 
 -- an object tells what is answered

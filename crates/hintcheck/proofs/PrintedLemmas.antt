@@ -11,7 +11,7 @@ use Rattle.hintcheck.specs.Listing.{HoldListedProgram, HoldToldProgram}
 use Rattle.hintcheck.specs.MeansSafe.{IsVerdictAsked}
 use Rattle.hintcheck.specs.Printed.{Prints, PrintsListing, PrintsUpgrade, PrintsVerdict, profile_of}
 use Rattle.hintcheck.specs.Texts.{end_line, refused_line, verdict_text}
-use Rattle.hintcheck_fonts.specs.Verdicts.{Judgement}
+use Rattle.hintcheck_programs.specs.Verdicts.{Judgement}
 use Rattle.hintcheck.specs.declared.commands.faults.CommandFault.{CommandFault}
 use Rattle.hintcheck_report.specs.declared.refused.Refused.{Refused}
 
@@ -29,8 +29,8 @@ prints_listing (Err e) detail bytes word old new listed told = tt
 
 -- where a verdict is asked for, its lines are the answer
 pub prints_for_verdict : (q : Request) (status : ℕ) (old new : Option (List ℕ)) → IsForVerdict q → PrintsVerdict q status old new → Prints q status old new
-prints_for_verdict (bare maxp cvt points contours program budget profile) status old new for_verdict printed = printed
-prints_for_verdict (verdict font budget profile) status old new for_verdict printed = printed
+prints_for_verdict (bare maxp cvt points contours program profile) status old new for_verdict printed = printed
+prints_for_verdict (verdict font profile) status old new for_verdict printed = printed
 prints_for_verdict (scan fonts options expected) status old new for_verdict printed = absurd for_verdict
 prints_for_verdict (explain font program place options) status old new for_verdict printed = absurd for_verdict
 prints_for_verdict (find font certificate budget) status old new for_verdict printed = printed

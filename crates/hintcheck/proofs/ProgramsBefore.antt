@@ -7,17 +7,17 @@ use Rattle.tt_font.specs.Reading.{FontData, GlyphData}
 use Rattle.hintcheck.specs.Explanations.{IsRefusedIn}
 use Rattle.hintcheck.specs.Explanations as told
 use Rattle.hintcheck.specs.Listing.{program_in}
-use Rattle.hintcheck_fonts.specs.FontPrograms.{cvt_subject, font_of, font_subject, glyph_subject}
-use Rattle.hintcheck_fonts.specs.Representation.Judges.{AnswersFinding, IsOutcomeOf}
-use Rattle.hintcheck_fonts.specs.Representation.ProgramOrder.{IsOfKindNext, cvt_done, cvt_stops, font_done, font_stops, glyph_done, glyph_stops, skipped_to}
-use Rattle.hintcheck_fonts.specs.Representation.SessionStages.{IsAt, KeepsKnown}
-use Rattle.hintcheck_fonts.specs.Sessions.{Stage, after_font, at_glyph, at_start, over}
-use Rattle.hintcheck_fonts.specs.declared.finding.Finding.{Finding}
+use Rattle.hintcheck_programs.specs.FontPrograms.{cvt_subject, font_of, font_subject, glyph_subject}
+use Rattle.hintcheck_programs.specs.Representation.Judges.{AnswersFinding, IsOutcomeOf}
+use Rattle.hintcheck_programs.specs.Representation.ProgramOrder.{IsOfKindNext, cvt_done, cvt_stops, font_done, font_stops, glyph_done, glyph_stops, skipped_to}
+use Rattle.hintcheck_programs.specs.Representation.FontVerdicts.{IsAt, KeepsKnown}
+use Rattle.hintcheck_programs.specs.Stages.{Stage, after_font, at_glyph, at_start, over}
+use Rattle.hintcheck_programs.specs.declared.finding.Finding.{Finding}
 use Rattle.hintcheck_report.specs.declared.refused.Refused.{Refused}
-use Rattle.hintcheck_fonts.specs.declared.session.Outcome.{Outcome}
+use Rattle.hintcheck_programs.specs.declared.report.Outcome.{Outcome}
 use Rattle.tt_setting.specs.declared.name.Name.{Name}
 use Rattle.tt_setting.specs.declared.name.Name.TheVariants as name
-use Rattle.hintcheck_fonts.proofs.ProgramSteps.{calls_left, fewer_left}
+use Rattle.hintcheck_programs.proofs.ProgramSteps.{calls_left, fewer_left}
 
 -- no later one than that of this name is next
 abbrev pub IsOnWay : Name → Stage → Type 0

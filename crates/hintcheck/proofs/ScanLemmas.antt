@@ -13,7 +13,7 @@ use Rattle.hintcheck.specs.Commands.{status_of}
 use Rattle.hintcheck.specs.MeansSafe.{HoldFailing, HoldPassing, HoldRefusedBy, HoldSafeBy, IsVerdictBy, TellsFonts}
 use Rattle.hintcheck.specs.RefusalClasses.{number_failing, number_of_class}
 use Rattle.hintcheck.specs.Scans.{status_of_failing}
-use Rattle.hintcheck_fonts.specs.Verdicts.{Judgement}
+use Rattle.hintcheck_programs.specs.Verdicts.{Judgement}
 use Rattle.hintcheck.specs.declared.commands.faults.CommandFault.{CommandFault}
 use Rattle.hintcheck_report.specs.declared.refused.Refused.{Refused}
 

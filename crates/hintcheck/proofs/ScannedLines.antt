@@ -19,7 +19,7 @@ use Rattle.hintcheck.proofs.KnownScans.{noted_both, noted_none}
 use Rattle.hintcheck.specs.Representation.Expectations.{Expected, NotesScan, lines_of_answer, noted, scanned_lines}
 use Rattle.hintcheck.specs.Scans.{Answer, HasTold, IsAnswer, Scanned, TellsFont, counts_text, end_of_line, greatest_status, judged, left_out_text, status_of_answer, summary, text_of, unread}
 use Rattle.hintcheck.specs.Texts.{profile_text}
-use Rattle.hintcheck_fonts.specs.Verdicts.{Judgement}
+use Rattle.hintcheck_programs.specs.Verdicts.{Judgement}
 use Rattle.hintcheck.specs.declared.commands.faults.CommandFault.{CommandFault}
 use Rattle.hintcheck.specs.declared.commands.faults.CommandFault.TheVariants as fault
 use Rattle.hintcheck_report.specs.declared.refused.Refused.{Refused}
@@ -41,7 +41,7 @@ greatest-append f [] ys = omega arith
 greatest-append f (x ∷ xs) ys = omega (arith, greatest-append f xs ys)
 
 abbrev Answered : ScanOptions → Scanned → Type 0
-Answered options s = IsAnswer options.profile options.budget s.answer
+Answered options s = IsAnswer options.profile s.answer
 
 abbrev HasItsTold : ScanOptions → Scanned → Type 0
 HasItsTold options s = HasTold options.format options.profile s.answer s.told
@@ -51,7 +51,7 @@ pub scans_none : (options : ScanOptions) (old : Option (List ℕ)) (v : Expected
 scans_none options old v = record { scanned = []; names_are = refl; answers = All-nil (Answered options); told = All-nil (HasItsTold options); greatest = refl; written = appends_nothing old; noted_are = sym (noted_none v) }
 
 -- one font file
-pub scans_one : (options : ScanOptions) (name : List ℕ) (answer : Answer) (status : ℕ) (old new : Option (List ℕ)) (before after : Expected) → IsAnswer options.profile options.budget answer → status ≡ status_of_answer options.fail_on answer
+pub scans_one : (options : ScanOptions) (name : List ℕ) (answer : Answer) (status : ℕ) (old new : Option (List ℕ)) (before after : Expected) → IsAnswer options.profile answer → status ≡ status_of_answer options.fail_on answer
     → TellsFont options name answer old new → after ≡ noted before (lines_of_answer options.fail_on name answer) → NotesScan options (name ∷ []) status old new before after
 scans_one options name answer status old new before after is same tells noted_are =
     let s : Scanned = record { name = name; answer = answer; told = tells.told } in
@@ -147,8 +147,6 @@ fault_line profile fault.CertificateWord old new is written = absurd is
 fault_line profile fault.NewWord old new is written = absurd is
 fault_line profile (fault.Form place) old new is written = absurd is
 fault_line profile fault.NoCertificate old new is written = absurd is
-fault_line profile fault.ScanFault old new is written = absurd is
-fault_line profile fault.ScanUnfinished old new is written = absurd is
 fault_line profile fault.Write old new is written = absurd is
 fault_line profile fault.File old new is written = absurd is
 fault_line profile fault.Text old new is written = absurd is

@@ -25,7 +25,7 @@ use Rattle.hintcheck.specs.Texts.{end_line}
 use Rattle.hintcheck.proofs.ScannedLines.{appends_both}
 use Rattle.hintcheck.specs.declared.causes.Cause.{Cause}
 use Rattle.hintcheck.specs.declared.commands.faults.CommandFault.{CommandFault}
-use Rattle.hintcheck_fonts.specs.Verdicts.{Judgement}
+use Rattle.hintcheck_programs.specs.Verdicts.{Judgement}
 use Rattle.hintcheck_report.specs.declared.refused.Refused.{Refused}
 
 pieces : (a b c d e p f g h i j k l n m : List ℕ) → (a ++ (b ++ (c ++ (d ++ e)))) ++ (p ++ ((f ++ (g ++ (h ++ (i ++ (j ++ (k ++ l)))))) ++ (n ++ m))) ≡ a ++ (b ++ (c ++ (d ++ (e ++ (p ++ (f ++ (g ++ (h ++ (i ++ (j ++ (k ++ (l ++ (n ++ m)))))))))))))
@@ -142,12 +142,12 @@ line_and_causes profile name bytes j old mid new line tells = record { causes = 
 
 -- what the verdict on a font tells
 pub safe_by : (profile : Profile) (bytes : List ℕ) (v : Judgement) → IsVerdictBy profile bytes v → v.refused ≡ [] → HoldSafeBy profile bytes
-safe_by Strict bytes v is none = record { font = is.font; reads = is.reads; safe = is.safe none }
-safe_by Symbolic bytes v is none = record { font = is.font; reads = is.reads; judgement = v; given = is.given; none = none }
+safe_by (Strict points) bytes v is none = record { font = is.font; reads = is.reads; safe = is.safe none }
+safe_by (Symbolic steps) bytes v is none = record { font = is.font; reads = is.reads; judgement = v; given = is.given; none = none }
 
 pub refused_by : (profile : Profile) (bytes : List ℕ) (v : Judgement) → IsVerdictBy profile bytes v → v.refused ≢ [] → HoldRefusedBy profile bytes
-refused_by Strict bytes v is some = record { font = is.font; reads = is.reads; judgement = v; given = is.given; some = some }
-refused_by Symbolic bytes v is some = record { font = is.font; reads = is.reads; judgement = v; given = is.given; some = some }
+refused_by (Strict points) bytes v is some = record { font = is.font; reads = is.reads; judgement = v; given = is.given; some = some }
+refused_by (Symbolic steps) bytes v is some = record { font = is.font; reads = is.reads; judgement = v; given = is.given; some = some }
 
 -- all programs are accepted
 pub prints_accepted : (profile : Profile) (bytes : List ℕ) (v : Judgement) (old mid new : Option (List ℕ)) → IsVerdictBy profile bytes v → TellsCauses (post_of bytes) v.refused old mid → v.refused ≡ [] → Appends mid new (end_line profile v.programs v.refused)

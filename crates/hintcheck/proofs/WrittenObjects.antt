@@ -15,7 +15,7 @@ use Rattle.hintcheck.specs.Commands.{status_of}
 use Rattle.hintcheck.specs.JsonObjects.{beginning, explanation_object, fault_members, fault_object, glyph_member, lines_member, next_string, place_members, profile_name, program_member, reason_members, refusal_member, refused_member, refused_object, refused_objects, strings, verdict_members}
 use Rattle.hintcheck.specs.RefusalClasses.{class_text}
 use Rattle.hintcheck.proofs.ScannedLines.{appends_both}
-use Rattle.hintcheck_fonts.specs.Verdicts.{Judgement}
+use Rattle.hintcheck_programs.specs.Verdicts.{Judgement}
 use Rattle.hintcheck.specs.declared.commands.faults.CommandFault.{CommandFault}
 use Rattle.hintcheck_report.specs.declared.refused.Refused.{Refused}
 

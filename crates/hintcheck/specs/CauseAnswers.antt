@@ -6,7 +6,7 @@ use Rattle.hintcheck.specs.Causes.{AreCauses, cause_lines}
 use Rattle.tt_names.specs.Post.{post_of}
 use Rattle.hintcheck.specs.MeansSafe.{IsVerdictBy}
 use Rattle.hintcheck.specs.Texts.{end_line}
-use Rattle.hintcheck_fonts.specs.Verdicts.{Judgement}
+use Rattle.hintcheck_programs.specs.Verdicts.{Judgement}
 use Rattle.hintcheck_report.specs.declared.refused.Refused.{Refused}
 
 -- The lines of the causes for which these programs of a font with this table `post` are refused were

@@ -4,7 +4,7 @@ use Rattle.tt_font.specs.Conditions.{maxp_fault}
 use Rattle.tt_font.specs.FileFaults.{font_fault}
 use Rattle.tt_font.specs.declared.fault.FontFault.TheVariants.{OutOfMemory}
 use Rattle.hintcheck_words.specs.HexWords.{IsHexWord, Spells}
-use Rattle.hintcheck_words.specs.Requests.{Request, bare, check, explain, find, is_taken, list, meaning, scan, upgrade, verdict}
+use Rattle.hintcheck_words.specs.Requests.{Request, bare, check, explain, find, is_taken, list, meaning, scan, upgrade, verdict, points_of}
 use Rattle.hintcheck_words.specs.declared.words.ExplainOptions.{ExplainOptions}
 use Rattle.hintcheck_words.specs.declared.words.FailOn.TheVariants.{Unknown}
 use Rattle.hintcheck_words.specs.declared.words.FontWords.{FontWords}
@@ -14,7 +14,7 @@ use Rattle.hintcheck_words.specs.declared.words.Format.TheVariants.{Json, Lines}
 use Rattle.hintcheck_words.specs.declared.words.ScanOptions.{ScanOptions}
 use Rattle.hintcheck.specs.Commands.{status_of}
 use Rattle.hintcheck.specs.Containers.{container_beside}
-use Rattle.hintcheck_fonts.specs.BarePrograms.{IsMemory}
+use Rattle.hintcheck_programs.specs.BarePrograms.{IsMemory}
 use Rattle.hintcheck.specs.Explanations.{HoldPlace}
 use Rattle.hintcheck.specs.KnownRefusals.{IsExpectable, IsFirstBadLine}
 use Rattle.hintcheck.specs.Listing.{HoldNoSuchProgram}
@@ -87,15 +87,11 @@ IsFaultOfFontFile fault.OutOfMemory = Unit {0}
 IsFaultOfFontFile fault.Budget = Unit {0}
 IsFaultOfFontFile other = ⊥
 
--- Why a scan with these options has a fault: the word names no class of reasons; memory ran out at
--- an object of JSON or at the causes; or one of the font files has a fault that gives the same exit status.
+-- Why a scan with these options has a fault: the word names no class of reasons; or memory ran out at
+-- an object of JSON or at the causes.
 abbrev pub IsFaultOfScan : ScanOptions → CommandFault → Type 0
 IsFaultOfScan options fault.ClassWord = options.fail_on ≡ Unknown
 IsFaultOfScan options fault.OutOfMemory = options.format ≢ Lines
-IsFaultOfScan options fault.ScanFault =
-    (reported : CommandFault) × IsFaultOfFontFile reported × (status_of reported ≡ 2)
-IsFaultOfScan options fault.ScanUnfinished =
-    (reported : CommandFault) × IsFaultOfFontFile reported × (status_of reported ≡ 3)
 IsFaultOfScan options other = ⊥
 
 -- Why a scan with a file of known refusals and these options has a fault: that file is one of the
@@ -266,20 +262,20 @@ HasObject word site budget = ((bytes : List ℕ) × HoldPlace bytes word site)
     ⊎ ((reported : CommandFault) × IsUnexplained word site budget reported)
 
 -- Why the program with this name of a font file isn't explained by an object: there is no such
--- program, or no such place in it; memory ran out; the object isn't printed; or it tells a font
--- file's fault, which gives the same exit status.
+-- program, or no such place in it; memory ran out; or the object isn't printed.
 abbrev pub IsFaultOfObject : List ℕ → Option Site → Option ℕ → CommandFault → Type 0
 IsFaultOfObject word site budget fault.ProgramName =
     (bytes : List ℕ) × HoldNoSuchProgram bytes word
 IsFaultOfObject word site budget (fault.OffsetWord told) =
     (bytes : List ℕ) × HoldNoSuchPlace bytes word site told
 IsFaultOfObject word site budget fault.OutOfMemory = Unit {0}
-IsFaultOfObject word site budget fault.ScanFault = (reported : CommandFault)
-    × IsUnexplained word site budget reported × (status_of reported ≡ 2)
-IsFaultOfObject word site budget fault.ScanUnfinished = (reported : CommandFault)
-    × IsUnexplained word site budget reported × (status_of reported ≡ 3)
 IsFaultOfObject word site budget other =
     HasObject word site budget × IsFaultOfPrinting other
+
+-- an object tells a font file's fault instead, which gives this exit status
+abbrev pub IsToldInObject : List ℕ → Option Site → Option ℕ → ℕ → Type 0
+IsToldInObject word site budget status = (reported : CommandFault)
+    × IsUnexplained word site budget reported × (status_of reported ≡ status)
 
 -- why the program with this name of a font file isn't explained in this form
 abbrev pub IsFaultOfExplainingAs : Format → List ℕ → Option Site → Option ℕ → CommandFault
@@ -294,7 +290,7 @@ IsFaultOfExplainingAs other word site budget reported =
 abbrev pub IsFaultOfAsked : ExplainOptions → List ℕ → Option (List ℕ) → CommandFault → Type 0
 IsFaultOfAsked options word place reported = (reported ≡ fault.NoOffset × IsNoSite place)
     ⊎ ((site : Option Site) × AskForSite place site
-    × IsFaultOfExplainingAs options.format word site options.budget reported)
+    × IsFaultOfExplainingAs options.format word site (points_of options.profile) reported)
 
 -- why the causes for which programs of a font file are refused aren't told: there is no verdict on
 -- it, or a text isn't printed
@@ -308,14 +304,14 @@ IsFaultOfNaming Lists reported = IsFaultOfReading reported
 
 -- Why what is asked for isn't answered.
 abbrev pub IsFaultOfRequest : Request → CommandFault → Type 0
-IsFaultOfRequest (bare maxp cvt points contours program budget profile) reported =
-    IsFaultOfGlyph maxp (unwrap_or program []) reported × IsWithin budget reported
-IsFaultOfRequest (verdict font budget profile) reported =
-    IsFaultOfFontFile reported × IsWithin budget reported
+IsFaultOfRequest (bare maxp cvt points contours program profile) reported =
+    IsFaultOfGlyph maxp (unwrap_or program []) reported × IsWithin (points_of profile) reported
+IsFaultOfRequest (verdict font profile) reported =
+    IsFaultOfFontFile reported × IsWithin (points_of profile) reported
 IsFaultOfRequest (scan fonts options expected) reported =
     IsFaultOfNaming options.words reported ⊎ IsFaultOfScanning options expected reported
 IsFaultOfRequest (explain font None place options) reported =
-    IsFaultOfFontFile reported × IsWithin options.budget reported
+    IsFaultOfFontFile reported × IsWithin (points_of options.profile) reported
 IsFaultOfRequest (explain font (Some program) place options) reported =
     IsFaultOfAsked options program place reported
 IsFaultOfRequest (find font certificate budget) reported =
@@ -325,13 +321,23 @@ IsFaultOfRequest (check font certificate budget) reported =
 IsFaultOfRequest (list font program detail) reported = IsFaultOfFileListing program reported
 IsFaultOfRequest (upgrade old new) reported = IsFaultOfUpgrading old new reported
 
+-- What is printed tells a fault, which gives this exit status: the line or the object of a font file
+-- of a scan, or the object of an explanation.
+abbrev pub HasToldFault : Request → ℕ → Type 0
+HasToldFault (scan fonts options expected) status =
+    (reported : CommandFault) × IsFaultOfFontFile reported × (status_of reported ≡ status)
+HasToldFault (explain font (Some program) place options) status = (options.format ≡ Json)
+    × ((site : Option Site) × AskForSite place site
+    × IsToldInObject program site (points_of options.profile) status)
+HasToldFault other status = ⊥
+
 -- The words of `bare` have no fault; those of `scan` have none, as `HasNoFaultOfScan` says; those
 -- of `find` and of `upgrade` are two different ones; and those of `explain` name a program of some
 -- font, and an instruction by a site, if any.
 abbrev pub HasNoFault : Request → Type 0
-HasNoFault (bare maxp cvt points contours program budget profile) =
+HasNoFault (bare maxp cvt points contours program profile) =
     SpellNoFault maxp (unwrap_or program [])
-HasNoFault (verdict font budget profile) = Unit {0}
+HasNoFault (verdict font profile) = Unit {0}
 HasNoFault (scan fonts options expected) =
     HoldsOfNames options.words fonts (λ names. HasNoFaultOfScan options names expected)
 HasNoFault (explain font None place options) = Unit {0}
@@ -367,8 +373,13 @@ pub record MeansNoFault (words : List (List ℕ)) : Type 0 where
   pub meant : meaning words ≡ Some request
   pub none : HasNoFault request
 
--- A fault of the words gives this status.
-pub record TellsFault (words : List (List ℕ)) (status : ℕ) : Type 0 where
-  pub reported : CommandFault
-  pub why : IsFaultOfWords words reported
-  pub status_is : status ≡ status_of reported
+-- A fault of the words is reported, which gives this status.
+abbrev pub IsReported : List (List ℕ) → ℕ → Type 0
+IsReported words status =
+    (reported : CommandFault) × IsFaultOfWords words reported × (status ≡ status_of reported)
+
+-- A fault of the words gives this status: it is reported, or told in what is printed.
+pub data TellsFault (words : List (List ℕ)) (status : ℕ) : Type 0 where
+  reported : IsReported words status → TellsFault words status
+  told : (request : Request) → meaning words ≡ Some request → HasToldFault request status
+      → TellsFault words status

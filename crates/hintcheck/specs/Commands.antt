@@ -27,7 +27,6 @@ font_status other = 2
 -- the exit status: 3 where memory or the budget ran out, and otherwise 2
 abbrev pub status_of : CommandFault → ℕ
 status_of fault.OutOfMemory = 3
-status_of fault.ScanUnfinished = 3
 status_of fault.Budget = 3
 status_of (fault.Font numbered) = font_status numbered.0
 status_of other = 2
@@ -87,8 +86,8 @@ HasAll left bytes = IfSome left (λ known. bytes ≡ known)
 
 -- one verdict is asked for, and not a scan, an explanation, a listing or an upgrade
 abbrev pub IsForVerdict : Request → Type 0
-IsForVerdict (bare maxp cvt points contours program budget profile) = Unit {0}
-IsForVerdict (verdict font budget profile) = Unit {0}
+IsForVerdict (bare maxp cvt points contours program profile) = Unit {0}
+IsForVerdict (verdict font profile) = Unit {0}
 IsForVerdict (scan fonts options expected) = ⊥
 IsForVerdict (explain font program place options) = ⊥
 IsForVerdict (find font certificate budget) = Unit {0}

@@ -32,7 +32,7 @@ pub record PrintsExpected (options : ScanOptions) (names : List (List ℕ)) (sta
   pub cut : AreLines held lines
   pub scanned : List Scanned
   pub names_are : map (λ s. s.name) scanned ≡ names
-  pub answers : All (λ s. IsAnswer options.profile options.budget s.answer) scanned
+  pub answers : All (λ s. IsAnswer options.profile s.answer) scanned
   pub told : All (λ s. HasTold options.format options.profile s.answer s.told) scanned
   pub greatest : status ≡ greatest_of_unknown options.fail_on lines scanned
   pub written : Appends old new (flat_map (text_of options) scanned)

@@ -12,9 +12,9 @@ use Rattle.tt_setting.specs.declared.spot.Spot.TheVariants as spot
 use Rattle.tt_symbolic_check.specs.declared.site.Site.{Site}
 use Rattle.hintcheck_explain.specs.declared.asked.Explained.{Explained}
 use Rattle.hintcheck_explain.specs.declared.asked.Explained.TheVariants as explained
-use Rattle.hintcheck_fonts.specs.FontPrograms.{cvt_subject, font_of, font_subject, glyph_subject}
+use Rattle.hintcheck_programs.specs.FontPrograms.{cvt_subject, font_of, font_subject, glyph_subject}
 use Rattle.hintcheck.specs.Listing.{Calls, Names}
-use Rattle.hintcheck_fonts.specs.Programs.{EndsWith, HasLeastFamily, IsRefusal, Subject}
+use Rattle.hintcheck_programs.specs.Programs.{EndsWith, HasLeastFamily, IsRefusal, Subject}
 use Rattle.hintcheck_report.specs.Places.{reported_at}
 use Rattle.hintcheck_report.specs.declared.refused.Refused.{Refused}
 

@@ -57,8 +57,6 @@ command_fault_text (fault.Form place) =
 command_fault_text fault.NoCertificate =
     Some (codes "43 certificate form at byte 0: not a certificate")
 command_fault_text fault.OutOfMemory = Some (codes "9 out of memory")
-command_fault_text fault.ScanFault = Some (codes "fault of a font")
-command_fault_text fault.ScanUnfinished = Some (codes "unfinished font")
 command_fault_text fault.Budget = Some (codes "46 budget")
 command_fault_text (fault.Unopened why) = Some (codes "44 read" ++ unopened_text why)
 command_fault_text fault.Read = Some (codes "44 read")

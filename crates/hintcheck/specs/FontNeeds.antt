@@ -15,8 +15,9 @@ use Rattle.hintcheck_words.specs.declared.words.Profile.TheVariants.{Strict, Sym
 -- The bytes hold a font, and this is what it needs by this profile: by the symbolic one, where its
 -- search makes some number of steps for each verdict.
 abbrev pub HaveNeeds : Profile → List ℕ → Needs → Type 0
-HaveNeeds Strict bytes needs = (d : FontData) × Reads bytes d × AreNeeds judged_by.Strict d needs
-HaveNeeds Symbolic bytes needs = (steps : ℕ) × (d : FontData) × Reads bytes d
+HaveNeeds (Strict points) bytes needs =
+    (d : FontData) × Reads bytes d × AreNeeds judged_by.Strict d needs
+HaveNeeds (Symbolic most) bytes needs = (steps : ℕ) × (d : FontData) × Reads bytes d
     × AreNeeds (judged_by.Symbolic steps) d needs
 
 -- what a font needs of one number, and what it declares: `maxStorage 3 of 64`

@@ -17,15 +17,15 @@ use Rattle.hintcheck.specs.Commands.{status_of}
 use Rattle.hintcheck.specs.Explanations.{status_of_explained}
 use Rattle.hintcheck.specs.FaultTexts.{container_text, unopened_text}
 use Rattle.hintcheck.specs.RefusalClasses.{class_text}
-use Rattle.hintcheck_fonts.specs.Verdicts.{Judgement}
+use Rattle.hintcheck_programs.specs.Verdicts.{Judgement}
 use Rattle.hintcheck.specs.declared.commands.faults.CommandFault.{CommandFault}
 use Rattle.hintcheck.specs.declared.commands.faults.CommandFault.TheVariants as fault
 use Rattle.hintcheck_report.specs.declared.refused.Refused.{Refused}
 
 -- the profile in a word
 abbrev pub profile_name : Profile → List ℕ
-profile_name Strict = codes "strict"
-profile_name Symbolic = codes "symbolic"
+profile_name (Strict points) = codes "strict"
+profile_name (Symbolic steps) = codes "symbolic"
 
 -- how the object of a font file begins: the version of the form, the file's name, by which profile
 -- the font is checked, and the exit status

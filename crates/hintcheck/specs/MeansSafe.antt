@@ -13,18 +13,18 @@ use Rattle.hintcheck.specs.CommandFaults.{IsFaultOfFontFile, MeansNoFault, Tells
 use Rattle.hintcheck.specs.Commands.{status_of}
 use Rattle.hintcheck.specs.declared.commands.faults.CommandFault.{CommandFault}
 use Rattle.hintcheck_explain.specs.declared.asked.Explained.{Explained}
-use Rattle.hintcheck_fonts.specs.BarePrograms.{bare_font, bare_subject}
+use Rattle.hintcheck_programs.specs.BarePrograms.{bare_font, bare_subject}
 use Rattle.hintcheck.specs.Explanations.{HoldAcceptedProgram, HoldExplained, HoldRefusedProgram}
-use Rattle.hintcheck_fonts.specs.FontPrograms.{IsSafeFont, IsSafeGlyph}
+use Rattle.hintcheck_programs.specs.FontPrograms.{IsSafeFont, IsSafeGlyph}
 use Rattle.hintcheck.specs.KnownRefusals.{AreLines, IsKnown, counts}
 use Rattle.hintcheck.specs.Listing.{HoldUnlistedProgram}
-use Rattle.hintcheck_fonts.specs.Programs.{HasGoodFamily, IsRefusal}
+use Rattle.hintcheck_programs.specs.Programs.{HasGoodFamily, IsRefusal}
 use Rattle.hintcheck.specs.RefusalClasses.{number_of_class}
 use Rattle.hintcheck.specs.ScannedNames.{HoldsOfNames}
 use Rattle.hintcheck.specs.SymbolicExplanations.{HoldSymbolicAcceptedProgram, HoldSymbolicExplained, HoldSymbolicRefusedProgram}
 use Rattle.hintcheck.specs.SymbolicAnswers.{SpellGlyph, SpellSymbolicSafeGlyph, SpellSymbolicVerdict}
 use Rattle.hintcheck_fonts.specs.FontAnswers.{HoldRefusedFont, HoldSafeFont, HoldSymbolicRefusedFont, HoldSymbolicSafeFont, IsSymbolicVerdictOn, IsVerdictOn}
-use Rattle.hintcheck_fonts.specs.Verdicts.{Judgement}
+use Rattle.hintcheck_programs.specs.Verdicts.{Judgement}
 use Rattle.hintcheck_fonts.specs.declared.request.Request.{Request as VerdictRequest}
 use Rattle.hintcheck_fonts.specs.declared.request.Request.TheVariants as asked
 use Rattle.hintcheck_report.specs.ReasonNumbers.{IsReasonWord}
@@ -43,36 +43,36 @@ pub record SpellSafeGlyph (maxp : List ℕ) (cvt points contours : ℕ)
 
 -- the words spell a `maxp` table and a glyph program, which is safe by this profile
 abbrev pub SpellSafeBy : Profile → List ℕ → ℕ → ℕ → ℕ → List ℕ → Type 0
-SpellSafeBy Strict maxp cvt points contours program =
+SpellSafeBy (Strict most) maxp cvt points contours program =
     SpellSafeGlyph maxp cvt points contours program
-SpellSafeBy Symbolic maxp cvt points contours program =
+SpellSafeBy (Symbolic most) maxp cvt points contours program =
     SpellSymbolicSafeGlyph maxp cvt points contours program
 
 -- the bytes hold a font, whose programs are safe by this profile
 abbrev pub HoldSafeBy : Profile → List ℕ → Type 0
-HoldSafeBy Strict bytes = HoldSafeFont bytes
-HoldSafeBy Symbolic bytes = HoldSymbolicSafeFont bytes
+HoldSafeBy (Strict points) bytes = HoldSafeFont bytes
+HoldSafeBy (Symbolic steps) bytes = HoldSymbolicSafeFont bytes
 
 -- the bytes hold a font, and the word is the name of a program of it that is accepted by this profile
 abbrev pub HoldAcceptedBy : Profile → List ℕ → List ℕ → Type 0
-HoldAcceptedBy Strict bytes word = HoldAcceptedProgram bytes word
-HoldAcceptedBy Symbolic bytes word = HoldSymbolicAcceptedProgram bytes word
+HoldAcceptedBy (Strict points) bytes word = HoldAcceptedProgram bytes word
+HoldAcceptedBy (Symbolic steps) bytes word = HoldSymbolicAcceptedProgram bytes word
 
 -- the bytes hold a font, and the word is the name of a program of it, of which this is answered by
 -- this profile
 abbrev pub HoldExplainedBy : Profile → List ℕ → List ℕ → Explained → Type 0
-HoldExplainedBy Strict bytes word e = HoldExplained bytes word e
-HoldExplainedBy Symbolic bytes word e = HoldSymbolicExplained bytes word e
+HoldExplainedBy (Strict points) bytes word e = HoldExplained bytes word e
+HoldExplainedBy (Symbolic steps) bytes word e = HoldSymbolicExplained bytes word e
 
 -- the verdict is that of this profile on the font that is in the bytes
 abbrev pub IsVerdictBy : Profile → List ℕ → Judgement → Type 0
-IsVerdictBy Strict bytes judgement = IsVerdictOn bytes judgement
-IsVerdictBy Symbolic bytes judgement = IsSymbolicVerdictOn bytes judgement
+IsVerdictBy (Strict points) bytes judgement = IsVerdictOn bytes judgement
+IsVerdictBy (Symbolic steps) bytes judgement = IsSymbolicVerdictOn bytes judgement
 
 -- what is asked of a verdict by this profile, the symbolic one with some number of steps
 abbrev pub IsRequestOf : Profile → VerdictRequest → Type 0
-IsRequestOf Strict request = request ≡ asked.Strict
-IsRequestOf Symbolic request = (steps : ℕ) × (request ≡ asked.Symbolic steps)
+IsRequestOf (Strict most) request = request ≡ asked.Strict
+IsRequestOf (Symbolic most) request = (steps : ℕ) × (request ≡ asked.Symbolic steps)
 
 -- The verdict of this profile on the font in the bytes refuses no program for a possible fault.
 -- Those that it refuses are undecided or left out: this doesn't tell that they are safe.
@@ -121,9 +121,9 @@ IsSafeScan options fonts (Some file) = HoldOnlyKnownFonts options fonts
 -- bytes hold a font whose program of this name is accepted; without a name, a safe font, unless the
 -- font's word is the number of a reason. A listing and an upgrade tell nothing of safety.
 abbrev pub IsSafeRequest : Request → Type 0
-IsSafeRequest (bare maxp cvt points contours program budget profile) =
+IsSafeRequest (bare maxp cvt points contours program profile) =
     SpellSafeBy profile maxp cvt points contours (unwrap_or program [])
-IsSafeRequest (verdict font budget profile) = (bytes : List ℕ) × HoldSafeBy profile bytes
+IsSafeRequest (verdict font profile) = (bytes : List ℕ) × HoldSafeBy profile bytes
 IsSafeRequest (scan fonts options expected) =
     HoldsOfNames options.words fonts (λ names. IsSafeScan options names expected)
 IsSafeRequest (explain font None place options) =
@@ -156,14 +156,14 @@ pub record SpellRefusedGlyph (maxp : List ℕ) (cvt points contours : ℕ)
 -- the words spell a `maxp` table and a program, which is refused by this profile: by the symbolic
 -- one this tells nothing of it
 abbrev pub SpellRefusedBy : Profile → List ℕ → ℕ → ℕ → ℕ → List ℕ → Type 0
-SpellRefusedBy Strict maxp cvt points contours program =
+SpellRefusedBy (Strict most) maxp cvt points contours program =
     SpellRefusedGlyph maxp cvt points contours program
-SpellRefusedBy Symbolic maxp cvt points contours program = SpellGlyph maxp program
+SpellRefusedBy (Symbolic most) maxp cvt points contours program = SpellGlyph maxp program
 
 -- the bytes hold a font, and its verdict by this profile names refused programs
 abbrev pub HoldRefusedBy : Profile → List ℕ → Type 0
-HoldRefusedBy Strict bytes = HoldRefusedFont bytes
-HoldRefusedBy Symbolic bytes = HoldSymbolicRefusedFont bytes
+HoldRefusedBy (Strict points) bytes = HoldRefusedFont bytes
+HoldRefusedBy (Symbolic steps) bytes = HoldSymbolicRefusedFont bytes
 
 -- The verdict of this profile on the font in the bytes refuses some program for a possible fault.
 pub record HoldPossibleFault (profile : Profile) (bytes : List ℕ) : Type 0 where
@@ -180,8 +180,8 @@ HoldFailing other profile bytes = HoldRefusedBy profile bytes
 -- the bytes hold a font, and the word is the name of a program of it that is refused by this profile, or
 -- before which one is
 abbrev pub HoldUnacceptedBy : Profile → List ℕ → List ℕ → Type 0
-HoldUnacceptedBy Strict bytes word = HoldRefusedProgram bytes word
-HoldUnacceptedBy Symbolic bytes word = HoldSymbolicRefusedProgram bytes word
+HoldUnacceptedBy (Strict points) bytes word = HoldRefusedProgram bytes word
+HoldUnacceptedBy (Symbolic steps) bytes word = HoldSymbolicRefusedProgram bytes word
 
 -- The bytes hold a font.
 pub record HoldFont (bytes : List ℕ) : Type 0 where
@@ -206,9 +206,9 @@ pub record SpellVerdict (maxp : List ℕ) (cvt points contours : ℕ) (program :
 
 -- the verdict is that of this profile on the glyph program that the words spell
 abbrev pub SpellVerdictBy : Profile → List ℕ → ℕ → ℕ → ℕ → List ℕ → Judgement → Type 0
-SpellVerdictBy Strict maxp cvt points contours program judgement =
+SpellVerdictBy (Strict most) maxp cvt points contours program judgement =
     SpellVerdict maxp cvt points contours program judgement
-SpellVerdictBy Symbolic maxp cvt points contours program judgement =
+SpellVerdictBy (Symbolic most) maxp cvt points contours program judgement =
     SpellSymbolicVerdict maxp cvt points contours program judgement
 
 -- The verdict counts the programs of the font that is in the bytes; where it names no refused one,
@@ -223,9 +223,9 @@ pub record IsCheckOn (bytes : List ℕ) (judgement : Judgement) : Type 0 where
 -- The verdict is the one that is asked for: on the glyph program of `bare`; and for `verdict`,
 -- `find` and `check` on a font that some bytes hold. The others ask for no verdict of this kind.
 abbrev pub IsVerdictAsked : Request → Judgement → Type 0
-IsVerdictAsked (bare maxp cvt points contours program budget profile) judgement =
+IsVerdictAsked (bare maxp cvt points contours program profile) judgement =
     SpellVerdictBy profile maxp cvt points contours (unwrap_or program []) judgement
-IsVerdictAsked (verdict font budget profile) judgement =
+IsVerdictAsked (verdict font profile) judgement =
     (bytes : List ℕ) × IsVerdictBy profile bytes judgement
 IsVerdictAsked (find font certificate budget) judgement =
     (bytes : List ℕ) × IsVerdictOn bytes judgement
@@ -272,9 +272,9 @@ IsRefusedScan options fonts (Some file) = HoldUnknownFont options fonts
 -- font whose program of this name is refused, or one before it. For `list`, some bytes hold a font
 -- whose program of this name can't be cut or isn't structured. An upgrade is never refused.
 abbrev pub IsRefusedRequest : Request → Type 0
-IsRefusedRequest (bare maxp cvt points contours program budget profile) =
+IsRefusedRequest (bare maxp cvt points contours program profile) =
     SpellRefusedBy profile maxp cvt points contours (unwrap_or program [])
-IsRefusedRequest (verdict font budget profile) = (bytes : List ℕ) × HoldRefusedBy profile bytes
+IsRefusedRequest (verdict font profile) = (bytes : List ℕ) × HoldRefusedBy profile bytes
 IsRefusedRequest (scan fonts options expected) =
     HoldsOfNames options.words fonts (λ names. IsRefusedScan options names expected)
 IsRefusedRequest (explain font None place options) =

@@ -4,7 +4,7 @@ use Rattle.std.specs.Fmt.{decimal}
 use Rattle.std.specs.Io.KnownBytes.{Appends}
 use Rattle.tt_code.specs.Refusals.{number_of}
 use Rattle.tt_code.specs.declared.reason.Reason.{Reason}
-use Rattle.hintcheck_words.specs.Requests.{Request, bare, check, explain, find, list, meaning, scan, upgrade, verdict}
+use Rattle.hintcheck_words.specs.Requests.{Request, bare, check, explain, find, list, meaning, scan, upgrade, verdict, points_of}
 use Rattle.hintcheck_words.specs.declared.words.Detail.{Detail}
 use Rattle.hintcheck_words.specs.declared.words.ExplainOptions.{ExplainOptions}
 use Rattle.hintcheck_words.specs.declared.words.Format.{Format}
@@ -16,7 +16,7 @@ use Rattle.hintcheck.specs.CalledGlyphs.{called_of}
 use Rattle.hintcheck.specs.CauseAnswers.{PrintsCauses}
 use Rattle.hintcheck.specs.Commands.{status_of}
 use Rattle.hintcheck.specs.ExpectedScans.{PrintsScanning}
-use Rattle.hintcheck.specs.CommandFaults.{IsFaultOfWords, IsUnexplained}
+use Rattle.hintcheck.specs.CommandFaults.{HasToldFault, IsReported, IsUnexplained}
 use Rattle.hintcheck.specs.Explanations.{status_of_explained}
 use Rattle.hintcheck.specs.JsonObjects.{explanation_object, unread_object}
 use Rattle.hintcheck.specs.Listing.{HoldListedProgram, HoldToldProgram}
@@ -24,21 +24,20 @@ use Rattle.hintcheck.specs.MeansSafe.{HoldExplainedBy, IsVerdictAsked}
 use Rattle.hintcheck.specs.ScannedNames.{HoldsOfNames}
 use Rattle.hintcheck.specs.SiteWords.{AskForSite}
 use Rattle.tt_symbolic_check.specs.declared.site.Site.{Site}
-use Rattle.hintcheck.specs.Scans.{IsOfScan}
 use Rattle.hintcheck.specs.Texts.{upgraded_line, verdict_text}
 use Rattle.hintcheck_explain.specs.Texts.{WritesFirst, reason_line}
 use Rattle.hintcheck_explain.specs.declared.asked.Explained.{Explained}
-use Rattle.hintcheck_fonts.specs.Upgrades.{IsNumberOfPrograms}
-use Rattle.hintcheck_fonts.specs.Verdicts.{Judgement}
+use Rattle.hintcheck_certificates.specs.Upgrades.{IsNumberOfPrograms}
+use Rattle.hintcheck_programs.specs.Verdicts.{Judgement}
 use Rattle.hintcheck.specs.declared.commands.faults.CommandFault.{CommandFault}
 
 -- the profile by which what is asked for is checked
 abbrev pub profile_of : Request → Profile
-profile_of (bare maxp cvt points contours program budget profile) = profile
-profile_of (verdict font budget profile) = profile
+profile_of (bare maxp cvt points contours program profile) = profile
+profile_of (verdict font profile) = profile
 profile_of (scan fonts options expected) = options.profile
 profile_of (explain font program place options) = options.profile
-profile_of other = Strict
+profile_of other = Strict None
 
 -- The lines of the verdict that is asked for were written, where the written bytes are known: of
 -- one that refuses no program where the status is 0, and of one that refuses some where it is 1.
@@ -74,7 +73,7 @@ pub data PrintsExplanation (font word : List ℕ) (site : Option Site) (options 
       (explanation_object font options.profile word (called_of (post_of bytes) e) e text)
       → PrintsExplanation font word site options (status_of_explained e) old new
   unexplained : (reported : CommandFault) (old new : Option (List ℕ))
-      → IsUnexplained word site options.budget reported
+      → IsUnexplained word site (points_of options.profile) reported
       → Appends old new (unread_object font options.profile reported)
       → PrintsExplanation font word site options (status_of reported) old new
 
@@ -96,10 +95,10 @@ pub record PrintsReason (word : List ℕ) (status : ℕ) (old new : Option (List
 -- What was asked for is answered in these lines; those that explain one program are left
 -- unspecified, beside the object in which they may be.
 abbrev pub Prints : Request → ℕ → Option (List ℕ) → Option (List ℕ) → Type 0
-Prints (bare maxp cvt points contours program budget profile) status old new =
-    PrintsVerdict (bare maxp cvt points contours program budget profile) status old new
-Prints (verdict font budget profile) status old new =
-    PrintsVerdict (verdict font budget profile) status old new
+Prints (bare maxp cvt points contours program profile) status old new =
+    PrintsVerdict (bare maxp cvt points contours program profile) status old new
+Prints (verdict font profile) status old new =
+    PrintsVerdict (verdict font profile) status old new
 Prints (scan fonts options expected) status old new =
     HoldsOfNames options.words fonts
     (λ names. PrintsScanning options names expected status old new)
@@ -123,12 +122,16 @@ pub record MeansPrinted (words : List (List ℕ)) (status : ℕ)
   pub meant : meaning words ≡ Some request
   pub printed : Prints request status old new
 
--- The words get no answer, for a fault that gives this status. Where that is a scan's, the scan's
--- lines were written all the same, and this is the greatest status of its fonts; where it is told in
--- an explanation's object, that was written.
-pub record TellsScanned (words : List (List ℕ)) (status : ℕ)
+-- The words ask for something of which a fault is told, which gives this status, and what tells it
+-- was written: the lines of a scan, whose greatest status of its fonts this is, or the object of an
+-- explanation.
+pub record PrintsFault (words : List (List ℕ)) (status : ℕ)
     (old new : Option (List ℕ)) : Type 0 where
-  pub reported : CommandFault
-  pub why : IsFaultOfWords words reported
-  pub status_is : status ≡ status_of reported
-  pub scanned : IsOfScan reported → MeansPrinted words status old new
+  pub request : Request
+  pub meant : meaning words ≡ Some request
+  pub told : HasToldFault request status
+  pub printed : Prints request status old new
+
+-- the words have a fault that gives this status, which is reported, or told in what was printed
+abbrev pub TellsPrinted : List (List ℕ) → ℕ → Option (List ℕ) → Option (List ℕ) → Type 0
+TellsPrinted words status old new = IsReported words status ⊎ PrintsFault words status old new

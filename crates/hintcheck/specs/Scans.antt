@@ -25,9 +25,10 @@ use Rattle.hintcheck.specs.Listing.{hex_digits}
 use Rattle.hintcheck.specs.MeansSafe.{IsVerdictBy}
 use Rattle.hintcheck.specs.RefusalClasses.{class_text, number_failing, number_of_class}
 use Rattle.hintcheck.specs.Texts.{profile_text}
-use Rattle.hintcheck_fonts.specs.Verdicts.{Judgement}
+use Rattle.hintcheck_programs.specs.Verdicts.{Judgement}
 use Rattle.hintcheck.specs.declared.commands.faults.CommandFault.{CommandFault}
 use Rattle.hintcheck.specs.declared.commands.faults.CommandFault.TheVariants as fault
+use Rattle.hintcheck_words.specs.Requests.{points_of}
 use Rattle.hintcheck_report.specs.declared.refused.Refused.{Refused}
 
 -- what comes of a font file: the bytes of the font, and the verdict on it; or why there is none
@@ -38,9 +39,10 @@ pub data Answer : Type 0 where
 -- The verdict is that of this profile on the font in the bytes: no contract of the runtime tells
 -- that they are those of the file. Or the fault is one of a font file, and a budget's only where
 -- there is a budget.
-abbrev pub IsAnswer : Profile → Option ℕ → Answer → Type 0
-IsAnswer profile budget (judged bytes judgement) = IsVerdictBy profile bytes judgement
-IsAnswer profile budget (unread reported) = IsFaultOfFontFile reported × IsWithin budget reported
+abbrev pub IsAnswer : Profile → Answer → Type 0
+IsAnswer profile (judged bytes judgement) = IsVerdictBy profile bytes judgement
+IsAnswer profile (unread reported) =
+    IsFaultOfFontFile reported × IsWithin (points_of profile) reported
 
 -- the exit status where a scan fails for this many programs: 0 for none, and otherwise 1
 abbrev pub status_of_failing : ℕ → ℕ
@@ -200,14 +202,7 @@ pub record PrintsScan (options : ScanOptions) (names : List (List ℕ)) (status 
     (old new : Option (List ℕ)) : Type 0 where
   pub scanned : List Scanned
   pub names_are : map (λ s. s.name) scanned ≡ names
-  pub answers : All (λ s. IsAnswer options.profile options.budget s.answer) scanned
+  pub answers : All (λ s. IsAnswer options.profile s.answer) scanned
   pub told : All (λ s. HasTold options.format options.profile s.answer s.told) scanned
   pub greatest : status ≡ greatest_status options.fail_on scanned
   pub written : Appends old new (flat_map (text_of options) scanned)
-
--- the fault is told in what is printed: a scan's, which comes after the last line, or that of an
--- explanation's object
-abbrev pub IsOfScan : CommandFault → Type 0
-IsOfScan fault.ScanFault = Unit {0}
-IsOfScan fault.ScanUnfinished = Unit {0}
-IsOfScan other = ⊥

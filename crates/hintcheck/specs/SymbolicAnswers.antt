@@ -3,9 +3,9 @@
 use Rattle.std.specs.Prelude.{◌≡◌, ◌≤◌, ℕ, List, [], length}
 use Rattle.tt_font.specs.Reading.{GlyphData}
 use Rattle.hintcheck_words.specs.HexWords.{Spells}
-use Rattle.hintcheck_fonts.specs.BarePrograms.{bare_font}
+use Rattle.hintcheck_programs.specs.BarePrograms.{bare_font}
 use Rattle.hintcheck_fonts.specs.SymbolicVerdicts.{IsSafeAlone}
-use Rattle.hintcheck_fonts.specs.Verdicts.{Judgement}
+use Rattle.hintcheck_programs.specs.Verdicts.{Judgement}
 
 -- The words spell a `maxp` table and a glyph program, of which no run faults in a font of only this
 -- glyph.

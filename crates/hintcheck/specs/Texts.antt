@@ -8,7 +8,7 @@ use Rattle.hintcheck_words.specs.declared.words.Profile.{Profile}
 use Rattle.hintcheck_words.specs.declared.words.Profile.TheVariants.{Strict, Symbolic}
 use Rattle.hintcheck_report.specs.declared.refused.Refused.{Refused}
 use Rattle.hintcheck_report.specs.Texts.{refused_text}
-use Rattle.hintcheck_fonts.specs.Verdicts.{Judgement}
+use Rattle.hintcheck_programs.specs.Verdicts.{Judgement}
 
 -- a line for each refused program
 abbrev pub refused_lines : List Refused → List ℕ
@@ -16,8 +16,8 @@ refused_lines rs = flat_map (λ r. refused_text r ++ codes "\n") rs
 
 -- what a line that tells a verdict says of the profile
 abbrev pub profile_text : Profile → List ℕ
-profile_text Strict = []
-profile_text Symbolic = codes " (symbolic)"
+profile_text (Strict points) = []
+profile_text (Symbolic steps) = codes " (symbolic)"
 
 -- the end of such a line
 abbrev pub line_end : Profile → List ℕ

@@ -6,7 +6,7 @@ ghost use Rattle.tt_symbolic_check.specs.declared.site.Site.{Site as AnySite};
 ghost use Rattle.hintcheck.specs.Explanations.{BeginsInstruction, HasSite, bytes_at as bytes_of};
 ghost use Rattle.hintcheck.specs.Neighbours.{IsFaultOfSite};
 ghost use Rattle.hintcheck.specs.SiteWords.{IsNoSite, IsOf32Bits, site_text};
-ghost use Rattle.hintcheck_fonts.specs.FontPrograms.{IsFontInRange};
+ghost use Rattle.hintcheck_programs.specs.FontPrograms.{IsFontInRange};
 
 use crate::commands::faults::CommandFault;
 use crate::instruction_list::read_decimal;

@@ -6,7 +6,7 @@ ghost use Rattle.hintcheck.specs.Causes.{AreCauses, is_same_cause, programs_of};
 ghost use Rattle.hintcheck_report.specs.declared.refused.Refused.{Refused};
 ghost use Rattle.hintcheck.specs.Representation.CauseLists.{AreInOrder, is_same_key, cause_key, names_in};
 
-use hintcheck_fonts::report::{Name, Refused};
+use hintcheck_programs::report::{Name, Refused};
 use std::alloc::{AllocError, Global};
 use std::collections::HashMap;
 

@@ -4,10 +4,9 @@
 ghost use Rattle.std.specs.Prelude.{◌≡◌, ◌≢◌, ◌+◌, ◌≤◌, ◌<◌, ◌⊎◌, IfErr, IfOk, List, Err, Ok, OnOk, [], map, option_map, string_bytes, true};
 ghost use Rattle.hintcheck_words.specs.Requests.{asked, explain, is_taken};
 ghost use Rattle.hintcheck.specs.Commands.{IsForVerdict, IsNoWriteFault, TellsFailure, status_of};
-ghost use Rattle.hintcheck.specs.CommandFaults.{HasNoFault, IsFaultOfRequest, IsFaultOfTask, IsFaultOfWords, MeansNoFault, TellsFault};
+ghost use Rattle.hintcheck.specs.CommandFaults.{HasNoFault, HasToldFault, IsFaultOfRequest, IsFaultOfTask, IsFaultOfWords, MeansNoFault, TellsFault};
 ghost use Rattle.hintcheck.specs.MeansSafe.{IsRefusedRequest, IsSafeRequest, IsVerdictAsked, MeansRefused, MeansSafe};
-ghost use Rattle.hintcheck.specs.Printed.{MeansPrinted, Prints, TellsScanned, profile_of};
-ghost use Rattle.hintcheck.specs.Scans.{IsOfScan};
+ghost use Rattle.hintcheck.specs.Printed.{MeansPrinted, Prints, PrintsFault, TellsPrinted, profile_of};
 
 mod bare_task;
 mod cause_lines;
@@ -42,7 +41,7 @@ use explain_reason::{reason_called, tell_reason};
 use explain_task::explain_of_file;
 use faults::CommandFault;
 use find_task::find_verdict;
-use hintcheck_fonts::report::Verdict;
+use hintcheck_programs::report::Verdict;
 use hintcheck_words::{ExplainOptions, Profile, Task, TaskFault, read_words};
 use list_task::list_of_file;
 use scan_task::scan_words;
@@ -70,7 +69,7 @@ fn profile_of_task(task: &Task) -> Profile
         Task::Explain { options, .. } => options.profile,
         Task::Scan { options, .. } => options.profile,
         Task::Find { .. } | Task::Check { .. } | Task::List { .. } | Task::Upgrade { .. } =>
-            Profile::Strict,
+            Profile::Strict { points: None },
     }
 }
 
@@ -92,7 +91,6 @@ fn verdict_on<R: Files + AllocGlobal>(rt: &R, task: &Task) -> Result<Verdict, Co
             points,
             contours,
             program,
-            budget,
             profile,
         } => {
             let words = BareWords {
@@ -102,13 +100,9 @@ fn verdict_on<R: Files + AllocGlobal>(rt: &R, task: &Task) -> Result<Verdict, Co
                 contours: *contours,
                 program: word_or_empty(program),
             };
-            bare_verdict(rt.alloc(), words, *budget, *profile)
+            bare_verdict(rt.alloc(), words, *profile)
         }
-        Task::Verdict {
-            font,
-            budget,
-            profile,
-        } => file_verdict(rt, font, *budget, *profile),
+        Task::Verdict { font, profile } => file_verdict(rt, font, *profile),
         Task::Find {
             font,
             certificate,
@@ -136,7 +130,7 @@ fn tell_explanation<R: Files + AllocGlobal, O: Sink>(
     options: ExplainOptions,
     out: &mut O,
 ) -> Result<u8, CommandFault>
-    ensures status { IfOk result (λ status. status ≤ 1) }
+    ensures status { IfOk result (λ status. status ≤ 3) }
     ensures safe { IfOk result (λ status. status ≡ 0 → IsSafeRequest (explain font.now
         (option_map (λ s. string_bytes s) program.now)
         (option_map (λ s. string_bytes s) place.now) options)) }
@@ -147,15 +141,14 @@ fn tell_explanation<R: Files + AllocGlobal, O: Sink>(
         (option_map (λ s. string_bytes s) program.now)
         (option_map (λ s. string_bytes s) place.now) options)
         status (O.contents out.old) (O.contents out.new)) }
-    ensures scanned { IfErr result (λ fault. IsOfScan fault → Prints (explain font.now
+    ensures told { IfOk result (λ status. 2 ≤ status → HasToldFault (explain font.now
         (option_map (λ s. string_bytes s) program.now)
-        (option_map (λ s. string_bytes s) place.now) options)
-        (status_of fault) (O.contents out.old) (O.contents out.new)) }
+        (option_map (λ s. string_bytes s) place.now) options) status) }
     ensures failures { TellsFailure result (O.failures out.old) (O.failures out.new) }
     ensures faults { IfErr result (IsFaultOfTask (explain font.now
         (option_map (λ s. string_bytes s) program.now)
         (option_map (λ s. string_bytes s) place.now) options)) }
-    ensures none { OnOk result (HasNoFault (explain font.now
+    ensures none { IfOk result (λ status. status ≤ 1 → HasNoFault (explain font.now
         (option_map (λ s. string_bytes s) program.now)
         (option_map (λ s. string_bytes s) place.now) options)) }
 {
@@ -181,16 +174,15 @@ fn do_task<R: Files + AllocGlobal, O: Sink, E: Sink>(
     out: &mut O,
     err: &mut E,
 ) -> Result<u8, CommandFault>
-    ensures status { IfOk result (λ status. status ≤ 1) }
+    ensures status { IfOk result (λ status. status ≤ 3) }
     ensures safe { IfOk result (λ status. status ≡ 0 → IsSafeRequest (asked task.now)) }
     ensures refused { IfOk result (λ status. status ≡ 1 → IsRefusedRequest (asked task.now)) }
     ensures printed { IfOk result
         (λ status. Prints (asked task.now) status (O.contents out.old) (O.contents out.new)) }
-    ensures scanned { IfErr result (λ fault. IsOfScan fault → Prints (asked task.now)
-        (status_of fault) (O.contents out.old) (O.contents out.new)) }
+    ensures told { IfOk result (λ status. 2 ≤ status → HasToldFault (asked task.now) status) }
     ensures failures { TellsFailure result (O.failures out.old) (O.failures out.new) }
     ensures faults { IfErr result (IsFaultOfTask (asked task.now)) }
-    ensures none { OnOk result (HasNoFault (asked task.now)) }
+    ensures none { IfOk result (λ status. status ≤ 1 → HasNoFault (asked task.now)) }
     ensures untold { E.failures err.old ≤ E.failures err.new }
 {
     match task {
@@ -216,9 +208,10 @@ fn do_task<R: Files + AllocGlobal, O: Sink, E: Sink>(
 }
 
 /// Does what the words of a command line ask for and prints the answer to `out`, and returns the
-/// exit status: 0 accepted, listed, upgraded or help, 1 refused. It is `command` except that
-/// reporting the fault is left to the caller: to `err` it prints no more than the line that counts
-/// the fonts of a scan.
+/// exit status: 0 accepted, listed, upgraded or help, 1 refused, and more where what is printed tells
+/// a fault, of a font file of a scan or in the object of an explanation. It is `command` except that
+/// reporting any other fault is left to the caller: to `err` it prints no more than the line that
+/// counts the fonts of a scan.
 ///
 /// # Errors
 /// `Write` exactly where a write to `out` failed; `Usage` for words that the command line doesn't
@@ -226,10 +219,8 @@ fn do_task<R: Files + AllocGlobal, O: Sink, E: Sink>(
 /// names no program of the font; `NoOffset` for one that spells no offset, and `OffsetWord` for an
 /// offset at which no instruction begins; `ClassWord` where a scan is to fail for reasons of a class that doesn't
 /// exist; `ExpectedWord` and `FontWord` where a font can't be in a scan with its file of known
-/// refusals, and `KnownLine` for the first line of that file that names none; `ScanFault` and
-/// `ScanUnfinished` where a font of a scan has a fault, which its line tells, or one of which a
-/// program was to be explained, which the object tells; `Budget` where more points were to be made
-/// than `--points` allows; `CertificateWord`
+/// refusals, and `KnownLine` for the first line of that file that names none; `Budget` where more
+/// points were to be made than `--points` allows; `CertificateWord`
 /// where a font's file is to be its certificate's; `NewWord` where an old certificate's file is to
 /// be the new one's; `Font` for the first fault of the font or of `bare`'s `maxp`, which may be
 /// that memory ran out; `Form`, `Read`, `File` and `OutOfMemory`.
@@ -239,7 +230,7 @@ fn try_command<R: Files + AllocGlobal, O: Sink, E: Sink>(
     out: &mut O,
     err: &mut E,
 ) -> Result<u8, CommandFault>
-    ensures status { IfOk result (λ status. status ≤ 1) }
+    ensures status { IfOk result (λ status. status ≤ 3) }
     ensures safe { IfOk result (λ status. status ≡ 0
         → is_taken (map (λ w. w.now) words.entry.now) ≡ true
         → MeansSafe (map (λ w. w.now) words.entry.now)) }
@@ -252,16 +243,16 @@ fn try_command<R: Files + AllocGlobal, O: Sink, E: Sink>(
     ensures printed { IfOk result (λ status. is_taken (map (λ w. w.now) words.entry.now) ≡ true
         → MeansPrinted (map (λ w. w.now) words.entry.now) status
         (O.contents out.old) (O.contents out.new)) }
-    // Where a font file of a scan has a fault, the lines of all its files are printed before the
-    // fault is returned; and the object that tells a fault in place of an explanation.
-    ensures scanned { IfErr result (λ fault. IsOfScan fault
-        → MeansPrinted (map (λ w. w.now) words.entry.now) (status_of fault)
+    // Where the status is more, a fault gives it that is told in what is printed.
+    ensures told { IfOk result (λ status. 2 ≤ status
+        → PrintsFault (map (λ w. w.now) words.entry.now) status
         (O.contents out.old) (O.contents out.new)) }
     ensures failures { TellsFailure result (O.failures out.old) (O.failures out.new) }
     // A fault is one of the words, of what they name or of printing, and there is none where the
-    // status is returned.
+    // status is 0 or 1.
     ensures faults { IfErr result (IsFaultOfWords (map (λ w. w.now) words.entry.now)) }
-    ensures none { OnOk result (is_taken (map (λ w. w.now) words.entry.now) ≡ true
+    ensures none { IfOk result (λ status. status ≤ 1
+        → is_taken (map (λ w. w.now) words.entry.now) ≡ true
         → MeansNoFault (map (λ w. w.now) words.entry.now)) }
     ensures untold { E.failures err.old ≤ E.failures err.new }
 {
@@ -304,9 +295,9 @@ pub fn command<R: Files + AllocGlobal, O: Sink, E: Sink>(
     // Where the status is 2 or 3, a fault of the words gives it; otherwise they have none where the
     // command line takes them.
     ensures told { 2 ≤ result → TellsFault (map (λ w. w.now) words.entry.now) result }
-    // If that is the fault of a font file of a scan, the lines of all its files are printed; and
-    // likewise the object that tells a fault in place of an explanation.
-    ensures scanned { 2 ≤ result → TellsScanned (map (λ w. w.now) words.entry.now) result
+    // It is reported; or it is that of a font file of a scan, and the lines of all its files are
+    // printed; or the object that tells it in place of an explanation is.
+    ensures scanned { 2 ≤ result → TellsPrinted (map (λ w. w.now) words.entry.now) result
         (O.contents out.old) (O.contents out.new) }
     ensures none { result ≤ 1 → is_taken (map (λ w. w.now) words.entry.now) ≡ true
         → MeansNoFault (map (λ w. w.now) words.entry.now) }
@@ -322,14 +313,13 @@ pub fn command<R: Files + AllocGlobal, O: Sink, E: Sink>(
 }
 
 /// Prints the fault, and returns its exit status. A fault that can't be printed is reported only by
-/// the status; those of a scan's fonts are printed already.
+/// the status.
 fn tell<E: Sink>(err: &mut E, fault: &CommandFault) -> u8
     ensures status { result ≡ status_of fault.now }
     ensures untold { E.failures err.old ≤ E.failures err.new }
 {
     let _ = match fault {
         CommandFault::Usage(text) => write!(err, "{text}"),
-        CommandFault::ScanFault | CommandFault::ScanUnfinished => Ok(()),
         fault => writeln!(err, "fault: {fault}"),
     };
     fault.status()

@@ -7,15 +7,15 @@ ghost use Rattle.tt_abs.specs.StateFlow.{FunctionsFit};
 ghost use Rattle.hintcheck.specs.Commands.{TellsFailure};
 ghost use Rattle.hintcheck.specs.CommandFaults.{IsEndOfWork, IsFaultOfExplaining, IsFaultOfExplanation, IsFaultOfLines};
 ghost use Rattle.hintcheck.specs.Explanations.{HoldPlace, IsAnswered, IsRefusedIn, IsReportOf, TellsProgram, status_of_explained};
-ghost use Rattle.hintcheck_fonts.specs.FontPrograms.{IsFontInRange};
+ghost use Rattle.hintcheck_programs.specs.FontPrograms.{IsFontInRange};
 ghost use Rattle.hintcheck.specs.Listing.{program_in};
 ghost use Rattle.hintcheck.specs.MeansSafe.{HoldExplainedBy};
-ghost use Rattle.hintcheck_fonts.specs.ProgramVerdicts.{IsSubjectOf, with_start};
-ghost use Rattle.hintcheck_fonts.specs.Programs.{Subject};
-ghost use Rattle.hintcheck_fonts.specs.Sessions.{at_start};
-ghost use Rattle.hintcheck_fonts.specs.declared.session.Outcome.{Outcome as AnyOutcome};
-ghost use Rattle.hintcheck_fonts.specs.Representation.ProgramOrder.{IsNext, next_program, stage_of, start_at};
-ghost use Rattle.hintcheck_fonts.specs.Representation.SessionStages.{IsAt, KeepsKnown};
+ghost use Rattle.hintcheck_programs.specs.ProgramVerdicts.{IsSubjectOf, with_start};
+ghost use Rattle.hintcheck_programs.specs.Programs.{Subject};
+ghost use Rattle.hintcheck_programs.specs.Stages.{at_start};
+ghost use Rattle.hintcheck_programs.specs.declared.report.Outcome.{Outcome as AnyOutcome};
+ghost use Rattle.hintcheck_programs.specs.Representation.ProgramOrder.{IsNext, next_program, stage_of, start_at};
+ghost use Rattle.hintcheck_programs.specs.Representation.FontVerdicts.{IsAt, KeepsKnown};
 
 use crate::asked_site::check_site;
 use crate::commands::faults::CommandFault;
@@ -23,12 +23,11 @@ use crate::font_file::font_in;
 use crate::instruction_list::named_program;
 use crate::symbolic_explanation::explain_symbolically;
 use hintcheck_explain::{Asked, Explained, Site, explain, explain_unread};
-use hintcheck_fonts::finding::Finding;
-use hintcheck_fonts::program::{Search, cut};
-use hintcheck_fonts::programs::{FontPrograms, Next, Programs};
-use hintcheck_fonts::report::{Name, Refused};
-use hintcheck_fonts::session::Outcome;
 use hintcheck_fonts::symbolic_verdict::USUAL_STEPS;
+use hintcheck_programs::finding::Finding;
+use hintcheck_programs::program::{Search, cut};
+use hintcheck_programs::programs::{FontPrograms, Next, Programs};
+use hintcheck_programs::report::{Name, Outcome, Refused};
 use hintcheck_words::{ExplainOptions, Profile};
 use std::alloc::{AllocError, Global};
 use tt_abs::{Refusal, Setting};
@@ -288,9 +287,9 @@ pub(crate) fn explain_word<O: Sink>(
     };
     check_site(&read, named.bytes, site)?;
     match options.profile {
-        Profile::Strict => explain_named(alloc, &read, named.name, site, points, out),
-        Profile::Symbolic => {
-            let steps = options.budget.unwrap_or(USUAL_STEPS);
+        Profile::Strict { .. } => explain_named(alloc, &read, named.name, site, points, out),
+        Profile::Symbolic { steps } => {
+            let steps = steps.unwrap_or(USUAL_STEPS);
             explain_symbolically(alloc, &read, named, site, steps, out)
         }
     }

@@ -5,13 +5,13 @@ ghost use Rattle.std.specs.Prelude.{◌≡◌, IfErr, IfOk};
 ghost use Rattle.tt_font.specs.Reading.{Reads};
 ghost use Rattle.hintcheck.specs.CommandFaults.{IsFaultInBudget, IsFaultOfFont};
 ghost use Rattle.hintcheck.specs.MeansSafe.{IsRequestOf, IsVerdictBy};
-ghost use Rattle.hintcheck_fonts.specs.FontPrograms.{IsFontInRange};
+ghost use Rattle.hintcheck_programs.specs.FontPrograms.{IsFontInRange};
 
 use crate::commands::faults::{CommandFault, Numbered};
-use hintcheck_fonts::font::read_font;
-use hintcheck_fonts::report::Verdict;
 use hintcheck_fonts::symbolic_verdict::USUAL_STEPS;
 use hintcheck_fonts::{Request, verdict_by};
+use hintcheck_programs::font::read_font;
+use hintcheck_programs::report::Verdict;
 use hintcheck_report::AnswerFault;
 use hintcheck_words::Profile;
 use std::alloc::Global;
@@ -34,21 +34,20 @@ pub(crate) fn font_in<'a>(alloc: Global, bytes: &'a [u8]) -> Result<Font<'a>, Nu
     }
 }
 
-/// Returns what is asked of a verdict by this profile. The search of the symbolic one makes at most
-/// this many steps, where they are bounded.
-pub(crate) fn request_by(profile: Profile, steps: Option<u64>) -> Request
+/// Returns what is asked of a verdict by this profile.
+pub(crate) fn request_by(profile: Profile) -> Request
     ensures { IsRequestOf profile result }
 {
     match profile {
-        Profile::Strict => Request::Strict,
-        Profile::Symbolic => Request::Symbolic {
+        Profile::Strict { .. } => Request::Strict,
+        Profile::Symbolic { steps } => Request::Symbolic {
             steps: steps.unwrap_or(USUAL_STEPS),
         },
     }
 }
 
-/// Returns the verdict of a profile on a font: the strict one makes at most as many points as the
-/// budget allows, and the search of the symbolic one at most this many steps, where they are bounded.
+/// Returns the verdict of a profile on a font. The strict one makes at most as many points as the
+/// budget allows.
 ///
 /// # Errors
 /// The faults of `Font::read`; `OutOfMemory`; `Budget`.
@@ -57,13 +56,12 @@ pub(crate) fn verdict_in_budget(
     alloc: Global,
     bytes: &[u8],
     profile: Profile,
-    steps: Option<u64>,
     budget: &mut Budget,
 ) -> Result<Verdict, CommandFault>
     ensures given { IfOk result (IsVerdictBy profile bytes.now) }
     ensures faults { IfErr result (IsFaultInBudget bytes.now) }
 {
-    match verdict_by(alloc, bytes, request_by(profile, steps), budget) {
+    match verdict_by(alloc, bytes, request_by(profile), budget) {
         Ok(verdict) => Ok(verdict),
         Err(AnswerFault::Exhausted(Exhausted::Budget)) => Err(CommandFault::Budget),
         Err(fault) => { Err(CommandFault::Font(Numbered::of(fault.into_font_fault(), bytes))) }

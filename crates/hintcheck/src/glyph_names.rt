@@ -3,7 +3,7 @@
 ghost use Rattle.std.specs.Prelude.{◌≡◌, option_map};
 ghost use Rattle.hintcheck.specs.CalledGlyphs.{called as called_by};
 
-use hintcheck_fonts::report::Name;
+use hintcheck_programs::report::Name;
 use tt_names::GlyphNames;
 
 /// Returns the name that the font has for the glyph of a program, if it has one that can be printed.

@@ -15,12 +15,14 @@ mod symbolic_explanation;
 
 pub use commands::command;
 pub use commands::faults::{CommandFault, Container, Unopened};
+pub use hintcheck_certificates::{
+    CheckFontFault, FindFontFault, Outcome, Session, UpgradeFault, check_font, check_font_within,
+    find_font, find_font_within, upgrade,
+};
 pub use hintcheck_explain::Site;
 pub use hintcheck_fonts::{
-    AnswerFault, CheckFontFault, FindFontFault, Name, Outcome, Place, Refused, Session,
-    UpgradeFault, Verdict, bare, bare_symbolic, bare_symbolic_within, bare_within, check_font,
-    check_font_within, find_font, find_font_within, read_font, upgrade, verdict, verdict_symbolic,
-    verdict_symbolic_within, verdict_within,
+    AnswerFault, Name, Place, Refused, Verdict, bare, bare_symbolic, bare_symbolic_within,
+    bare_within, read_font, verdict, verdict_symbolic, verdict_symbolic_within, verdict_within,
 };
 pub use hintcheck_words::{
     Detail, ExplainOptions, FailOn, FontWords, Format, Profile, ScanOptions, Task, TaskFault,

@@ -3,17 +3,17 @@
 ghost use Rattle.std.specs.Prelude.{◌≡◌, ◌<◌, ◌^◌, IfErr, IfOk, length};
 ghost use Rattle.hintcheck.specs.Commands.{TellsFailure};
 ghost use Rattle.hintcheck.specs.CommandFaults.{IsFaultOfExplanation};
-ghost use Rattle.hintcheck_fonts.specs.FontPrograms.{IsFontInRange};
+ghost use Rattle.hintcheck_programs.specs.FontPrograms.{IsFontInRange};
 ghost use Rattle.hintcheck.specs.SymbolicExplanations.{TellsSymbolicProgram, first_against, keeps_from as keeps_from_it};
 
 use crate::commands::faults::CommandFault;
 use crate::explanation::{explain_uncut, tell_unchecked};
 use crate::instruction_list::Named;
 use hintcheck_explain::{Asked, Explained, Site, explain_symbolic};
-use hintcheck_fonts::program::{cut, empty_program};
-use hintcheck_fonts::report::{Name, Refused};
 use hintcheck_fonts::symbolic_check::SymbolicCheck;
 use hintcheck_fonts::symbolic_verdict::refused_programs;
+use hintcheck_programs::program::{cut, empty_program};
+use hintcheck_programs::report::{Name, Refused};
 use std::alloc::{AllocError, Global};
 use tt_abs::{Kind, Refusal, Setting};
 use tt_code::Program;

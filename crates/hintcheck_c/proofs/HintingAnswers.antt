@@ -7,9 +7,9 @@ use Rattle.std.proofs.lemmas.List.{get_or_past}
 use Rattle.tt_font.specs.FileFaults.{font_fault}
 use Rattle.tt_font.specs.Reading.{FontData, Reads}
 use Rattle.tt_font.specs.declared.fault.FontFault.TheVariants as faults
-use Rattle.hintcheck_fonts.specs.FontPrograms.{IsVerdict}
+use Rattle.hintcheck_programs.specs.FontPrograms.{IsVerdict}
 use Rattle.hintcheck_fonts.specs.SymbolicVerdicts.{IsSymbolicVerdict}
-use Rattle.hintcheck_fonts.specs.Verdicts.{Judgement}
+use Rattle.hintcheck_programs.specs.Verdicts.{Judgement}
 use Rattle.tt_setting.specs.declared.exhausted.Exhausted.TheVariants as exhausted
 use Rattle.hintcheck_report.specs.declared.answer_fault.AnswerFault.{AnswerFault}
 use Rattle.hintcheck_report.specs.declared.answer_fault.AnswerFault.TheVariants as fault

@@ -15,12 +15,12 @@ use Rattle.tt_font.specs.Ranges.{AreFewBytes, IsFontInRange}
 use Rattle.tt_font.specs.Reading.{FontData, GlyphData, Reads}
 use Rattle.tt_font.proofs.RangeLemmas.{font_in_range}
 use Rattle.hintcheck_fonts.specs.CvtStarts.{GlyphPrograms}
-use Rattle.hintcheck_fonts.specs.FontPrograms.{AreRefused, IsSafeFont, IsVerdict, accepted, cvt_refused, cvt_subject, font_of, font_refused, font_subject, glyph_subject, no_glyph_left, none_ended, refused}
-use Rattle.hintcheck_fonts.specs.Programs.{EndsWith, HasGoodFamily, HasLeastFamily}
+use Rattle.hintcheck_programs.specs.FontPrograms.{AreRefused, IsSafeFont, IsVerdict, accepted, cvt_refused, cvt_subject, font_of, font_refused, font_subject, glyph_subject, no_glyph_left, none_ended, refused}
+use Rattle.hintcheck_programs.specs.Programs.{EndsWith, HasGoodFamily, HasLeastFamily}
 use Rattle.hintcheck_fonts.specs.SymbolicVerdicts.{AreOthersThan, IsGlyphSetting, IsSymbolicVerdict}
 use Rattle.hintcheck_fonts.specs.SymbolicVerdicts as symbolic
-use Rattle.hintcheck_fonts.specs.Verdicts.{Judgement}
-use Rattle.hintcheck_fonts.proofs.FontSafety.{good_end, good_families_are_safe}
+use Rattle.hintcheck_programs.specs.Verdicts.{Judgement}
+use Rattle.hintcheck_programs.proofs.FontSafety.{good_end, good_families_are_safe}
 use Rattle.hintcheck_fonts.proofs.SymbolicAnswers.{refusal_named}
 use Rattle.hintcheck_report.specs.declared.refused.Refused.{Refused}
 use Rattle.hintcheck_c.specs.MayHint.{AreAccepted, HoldSafeGlyph, HoldSymbolicSafeGlyphs, IsAnothers, MayHint, with_only}

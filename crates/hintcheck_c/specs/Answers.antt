@@ -6,11 +6,11 @@ use Rattle.tt_font.specs.FileFaults.{font_fault}
 use Rattle.tt_font.specs.Reading.{FontData, Reads}
 use Rattle.tt_font.specs.declared.fault.FontFault.{FontFault}
 use Rattle.tt_font.specs.declared.fault.FontFault.TheVariants as font
-use Rattle.hintcheck_fonts.specs.Certificates.{IsChecked}
-use Rattle.hintcheck_fonts.specs.CheckedFonts.{AnswersFinding}
-use Rattle.hintcheck_fonts.specs.FontPrograms.{IsVerdict}
+use Rattle.hintcheck_certificates.specs.Certificates.{IsChecked}
+use Rattle.hintcheck_certificates.specs.CheckedFonts.{AnswersFinding}
+use Rattle.hintcheck_programs.specs.FontPrograms.{IsVerdict}
 use Rattle.hintcheck_fonts.specs.SymbolicVerdicts.{IsSymbolicVerdict}
-use Rattle.hintcheck_fonts.specs.Verdicts.{Judgement}
+use Rattle.hintcheck_programs.specs.Verdicts.{Judgement}
 use Rattle.hintcheck_report.specs.declared.answer_fault.AnswerFault.{AnswerFault}
 use Rattle.hintcheck_report.specs.declared.answer_fault.AnswerFault.TheVariants as fault
 use Rattle.hintcheck_report.specs.declared.refused.Refused.{Refused}

@@ -13,10 +13,10 @@ use Rattle.tt_font.specs.Outlines.{Outline}
 use Rattle.tt_font.specs.Reading.{FontData, GlyphData, Reads}
 use Rattle.hintcheck_fonts.specs.SymbolicLaws.{IsFontSafe}
 use Rattle.hintcheck_fonts.specs.CvtStarts.{GlyphPrograms}
-use Rattle.hintcheck_fonts.specs.FontPrograms.{IsSafeFont, IsVerdict, cvt_subject, font_of, font_subject}
-use Rattle.hintcheck_fonts.specs.Programs.{IsCutInto}
+use Rattle.hintcheck_programs.specs.FontPrograms.{IsSafeFont, IsVerdict, cvt_subject, font_of, font_subject}
+use Rattle.hintcheck_programs.specs.Programs.{IsCutInto}
 use Rattle.hintcheck_fonts.specs.SymbolicVerdicts.{IsGlyphSetting, IsSymbolicVerdict}
-use Rattle.hintcheck_fonts.specs.Verdicts.{Judgement}
+use Rattle.hintcheck_programs.specs.Verdicts.{Judgement}
 use Rattle.hintcheck_report.specs.declared.refused.Refused.{Refused}
 use Rattle.hintcheck_c.specs.Answers.{Answers}
 use Rattle.hintcheck_c.specs.declared.answer.HintcheckAnswer.{HintcheckAnswer}

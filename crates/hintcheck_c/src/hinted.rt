@@ -7,7 +7,7 @@ ghost use Rattle.tt_setting.specs.Budgets.{IsExceeded, Spends};
 ghost use Rattle.tt_font.specs.FileFaults.{font_fault};
 ghost use Rattle.tt_font.specs.Files.{font_glyph_count};
 ghost use Rattle.tt_font.specs.Reading.{FontData, Reads};
-ghost use Rattle.hintcheck_fonts.specs.FontPrograms.{IsVerdict};
+ghost use Rattle.hintcheck_programs.specs.FontPrograms.{IsVerdict};
 ghost use Rattle.hintcheck_fonts.specs.SymbolicVerdicts.{IsSymbolicVerdict};
 ghost use Rattle.hintcheck_report.specs.declared.answer_fault.AnswerFault.{AnswerFault};
 ghost use Rattle.tt_setting.specs.declared.exhausted.Exhausted.{Exhausted as By};

@@ -6,8 +6,8 @@ ghost use Rattle.std.specs.Prelude.{◌≡◌, ◌≢◌, ◌<◌, ◌≤◌, �
 ghost use Rattle.tt_code.specs.Refusals.{number_of, reason_text};
 ghost use Rattle.tt_code.specs.declared.reason.Reason.{Reason};
 ghost use Rattle.tt_setting.specs.Budgets.{IsExceeded, Spends};
-ghost use Rattle.hintcheck_fonts.specs.CheckedFonts.{AnswersFinding};
-ghost use Rattle.hintcheck_fonts.specs.FontPrograms.{IsSafeFont};
+ghost use Rattle.hintcheck_certificates.specs.CheckedFonts.{AnswersFinding};
+ghost use Rattle.hintcheck_programs.specs.FontPrograms.{IsSafeFont};
 ghost use Rattle.hintcheck_fonts.specs.FontAnswers.{HoldRefusedFont, HoldSafeFont, HoldSymbolicRefusedFont, HoldSymbolicSafeFont};
 ghost use Rattle.hintcheck_fonts.specs.SymbolicVerdicts.{IsSymbolicVerdict};
 ghost use Rattle.hintcheck_c.specs.Answers.{AnswersCheck, AnswersCheckFault, AnswersFontFault, AnswersSymbolicVerdict, AnswersVerdict, IsFaultOfCheck, IsFaultOfVerdict};
@@ -27,9 +27,8 @@ mod refusal;
 
 pub use answer::HintcheckAnswer;
 use answer::{answer_verdict, fault_of};
-use hintcheck_fonts::{
-    AnswerFault, Budget, Verdict, check_font_within, verdict_symbolic_within, verdict_within,
-};
+use hintcheck_certificates::check_font_within;
+use hintcheck_fonts::{AnswerFault, Budget, Verdict, verdict_symbolic_within, verdict_within};
 use hintcheck_report::reason_of;
 use hinted::{answer_hinting, answer_no_hinting, judge_hinting, judge_hinting_symbolic};
 use reason::{TEXT_SIZE, c_string_of};

@@ -71,13 +71,11 @@ fn tell_accepted<O: Sink>(searched: Searched<'_>, out: &mut O) -> Result<(), Pri
     let depth = insight.depth;
     let most = searched.setting.limits.stack;
     let steps = insight.steps;
-    let listed = insight.listed;
-    let checked = insight.checked;
+    let heads = insight.heads;
     writeln!(
         out,
         "Greatest depth of the stack: {depth} of at most {most} (maxStackElements)\n\
-        Steps of the search: {steps}\nListed states: {listed}\n\
-        Steps of the check: at most {checked}"
+        Steps of the search: {steps}\nHeads of loops: {heads}"
     )
 }
 

@@ -3,9 +3,12 @@
 use crate::faults::{Fault, fault_text};
 use crate::sessions::refused_in_session;
 use anyhow::{Result, bail, ensure};
+use hintcheck_certificates::{
+    UpgradeFault, check_font, check_font_within, find_font, find_font_within, upgrade,
+};
 use hintcheck_fonts::{
-    Budget, Refused, UpgradeFault, Verdict, bare, bare_within, check_font, check_font_within,
-    find_font, find_font_within, read_font, upgrade, verdict, verdict_symbolic, verdict_within,
+    Budget, Refused, Verdict, bare, bare_within, read_font, verdict, verdict_symbolic,
+    verdict_within,
 };
 use std::alloc::Global;
 use std::fmt::Write;

@@ -1,7 +1,8 @@
 //! The faults of the library's calls, each with its number, as they are printed.
 
 use anyhow::Result;
-use hintcheck_fonts::{AnswerFault, FontFault, UpgradeFault};
+use hintcheck_certificates::UpgradeFault;
+use hintcheck_fonts::{AnswerFault, FontFault};
 use std::alloc::Global;
 use std::fmt::Display;
 use tt_abs::Exhausted;

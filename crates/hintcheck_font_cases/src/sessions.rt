@@ -1,13 +1,12 @@
 //! Sessions: the programs of a font checked one by one.
 
-ghost use Rattle.hintcheck_fonts.specs.FindingSessions.{IsForFinding};
-ghost use Rattle.hintcheck_fonts.specs.Sessions.{IsForChecking};
+ghost use Rattle.hintcheck_certificates.specs.FindingSessions.{IsForFinding};
+ghost use Rattle.hintcheck_certificates.specs.Sessions.{IsForChecking};
 
 use crate::faults::{Fault, fault_text};
 use anyhow::Result;
-use hintcheck_fonts::{
-    Budget, CheckFontFault, FindFontFault, Outcome, Refused, Session, read_font,
-};
+use hintcheck_certificates::{CheckFontFault, FindFontFault, Outcome, Session};
+use hintcheck_fonts::{Budget, Refused, read_font};
 use std::alloc::Global;
 use std::fmt::Write;
 use tt_cases::context::Context;

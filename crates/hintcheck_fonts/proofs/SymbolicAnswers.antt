@@ -1,12 +1,12 @@
 -- Why a program isn't accepted by symbolic states, from where it is told to what is reported.
 use Rattle.std.proofs.Common.{◌≡◌, ◌≤◌, ℕ, List, [], ◌∷◌, arith, length, refl, subst, sym}
 use Rattle.std.specs.List.{All}
-use Rattle.std.specs.Prelude.{Ok, Err, ◌++◌}
+use Rattle.std.specs.Prelude.{Ok}
 use Rattle.std.proofs.lemmas.List.Elements.{All-cons, All-nil}
-use Rattle.hintcheck_fonts.specs.declared.session.Outcome.{Outcome}
-use Rattle.hintcheck_fonts.specs.Representation.ProgramOrder.{TellsOutcome}
-use Rattle.hintcheck_fonts.specs.Representation.SessionStages.{ListsOutcome}
-use Rattle.hintcheck_fonts.specs.Sessions.{refused_as}
+use Rattle.hintcheck_programs.specs.declared.report.Outcome.{Outcome}
+use Rattle.hintcheck_programs.specs.Representation.ProgramOrder.{TellsOutcome, IsJudgedBy}
+use Rattle.hintcheck_programs.specs.Representation.FontVerdicts.{ListsOutcome}
+use Rattle.hintcheck_programs.specs.Stages.{refused_as}
 use Rattle.tt_code.specs.Cut.{Instruction}
 use Rattle.tt_code.specs.Fonts.{Font}
 use Rattle.tt_code.specs.declared.reason.Reason.TheVariants.{NeverEnds, ProgramTooLong}
@@ -23,12 +23,11 @@ use Rattle.tt_family.specs.GoodFamilies.{IsShortEnough}
 use Rattle.tt_font.specs.Reading.{GlyphData}
 use Rattle.tt_symbolic_check.specs.Answers.{IsAnswerBySymbols}
 use Rattle.hintcheck_fonts.specs.SymbolicEnds.{NeverComesToEnd}
-use Rattle.hintcheck_fonts.specs.FontPrograms.{glyph_subject}
-use Rattle.hintcheck_fonts.specs.Representation.ProgramOrder.{IsJudgedBy}
+use Rattle.hintcheck_programs.specs.FontPrograms.{glyph_subject}
 use Rattle.hintcheck_report.specs.Places.{reported_at}
 use Rattle.tt_setting.specs.Refusals.{reason_of}
-use Rattle.hintcheck_fonts.specs.ProgramVerdicts.{IfRefused, IsProgramOf, IsUncut, no_cut, no_structure, with_start}
-use Rattle.hintcheck_fonts.specs.Programs.{Subject}
+use Rattle.hintcheck_programs.specs.ProgramVerdicts.{IfRefused, IsProgramOf, IsUncut, no_cut, no_structure, with_start}
+use Rattle.hintcheck_programs.specs.Programs.{Subject}
 use Rattle.hintcheck_fonts.specs.SymbolicRefusals.{IsRefusedAlone, IsSymbolicAnswer, IsSymbolicRefusal, IsToldInTurn, answered, judged, never_ends, out_of_memory, told_in_turn, too_long, uncut, uncut_alone}
 use Rattle.hintcheck_report.specs.declared.refused.Refused.{Refused as AnyRefused}
 

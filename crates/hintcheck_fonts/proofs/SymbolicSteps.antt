@@ -14,20 +14,19 @@ use Rattle.hintcheck_fonts.specs.SymbolicEnds.{IsGlyphChecked, StartGlyphs, Star
 use Rattle.hintcheck_fonts.specs.CvtStarts.{GlyphPrograms, StartsFontProgram}
 use Rattle.hintcheck_fonts.specs.declared.ends.Ends.{Ends}
 use Rattle.hintcheck_fonts.specs.declared.glyph_starts.GlyphStarts.{GlyphStarts}
-use Rattle.hintcheck_fonts.specs.FontPrograms.{cvt_subject, font_of, font_subject, glyph_subject, judgement_on}
-use Rattle.hintcheck_fonts.specs.Representation.ProgramOrder.{CanGoOn, IsJudgedBy, cvt_done, cvt_stops, font_done, font_stops, glyph_done, glyph_stops, next_program, skipped_to}
-use Rattle.hintcheck_fonts.specs.Representation.SessionStages.{ListsOutcome}
+use Rattle.hintcheck_programs.specs.FontPrograms.{cvt_subject, font_of, font_subject, glyph_subject, judgement_on}
+use Rattle.hintcheck_programs.specs.Representation.ProgramOrder.{CanGoOn, IsJudgedBy, cvt_done, cvt_stops, font_done, font_stops, glyph_done, glyph_stops, next_program, skipped_to}
+use Rattle.hintcheck_programs.specs.Representation.FontVerdicts.{ListsOutcome}
 use Rattle.hintcheck_fonts.specs.Representation.SymbolicChecks.{AnswersBySymbols, AreBegun, AreEnded, AreUnchecked, AreUncheckedTill, IsAfterCvt, IsAfterFont, IsCheckedBy, IsEnded, IsRunnable, TellsRefused, accepted, no_glyph_left, refused}
-use Rattle.hintcheck_fonts.specs.Sessions.{Stage, after_font, at_glyph, at_start, over}
+use Rattle.hintcheck_programs.specs.Stages.{Stage, after_font, at_glyph, at_start, over}
 use Rattle.hintcheck_fonts.specs.SymbolicRefusals.{IsSymbolicRefusal}
 use Rattle.hintcheck_fonts.specs.SymbolicVerdicts.{AreOthersThan, IsGlyphSetting, IsSafeAlone, IsSymbolicVerdict, cvt_refused, font_refused, none_ended, only_program}
 use Rattle.hintcheck_fonts.specs.SymbolicVerdicts as told
 use Rattle.hintcheck_report.specs.declared.refused.Refused.{Refused}
-use Rattle.hintcheck_fonts.specs.declared.session.Outcome.{Outcome}
+use Rattle.hintcheck_programs.specs.declared.report.Outcome.{Outcome}
 use Rattle.hintcheck_fonts.specs.declared.symbolic_check.SymbolicCheck.{SymbolicCheck}
-use Rattle.hintcheck_fonts.proofs.CheckedSections.{dropped}
-use Rattle.hintcheck_fonts.proofs.ProgramSteps.{calls_left}
-use Rattle.hintcheck_fonts.proofs.VerdictSteps.{listed_first, none_dropped}
+use Rattle.hintcheck_programs.proofs.ProgramSteps.{dropped, calls_left}
+use Rattle.hintcheck_programs.proofs.VerdictSteps.{listed_first, none_dropped}
 
 -- what is reported is of the program
 

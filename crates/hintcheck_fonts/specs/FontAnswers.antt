@@ -1,9 +1,9 @@
 -- What an answer on a font's bytes means: they hold a font, of which this is the verdict.
 use Rattle.std.specs.Prelude.{◌≡◌, ◌≢◌, ℕ, List, []}
 use Rattle.tt_font.specs.Reading.{FontData, Reads}
-use Rattle.hintcheck_fonts.specs.FontPrograms.{IsSafeFont, IsVerdict}
+use Rattle.hintcheck_programs.specs.FontPrograms.{IsSafeFont, IsVerdict}
 use Rattle.hintcheck_fonts.specs.SymbolicVerdicts.{IsSymbolicVerdict}
-use Rattle.hintcheck_fonts.specs.Verdicts.{Judgement}
+use Rattle.hintcheck_programs.specs.Verdicts.{Judgement}
 
 -- The verdict is the one on the font that is in the bytes; where it names no refused program, the
 -- font is safe.

@@ -1,8 +1,3 @@
 -- How the code keeps what the definitions speak of: private contracts cite these, and no public one
 -- does.
-pub mod FontVerdicts
-pub mod Judges
-pub mod ProgramOrder
-pub mod ReadProgress
-pub mod SessionStages
 pub mod SymbolicChecks

@@ -2,9 +2,9 @@
 use Rattle.std.specs.Prelude.{ℕ, List}
 use Rattle.tt_font.specs.Reading.{FontData}
 use Rattle.hintcheck_fonts.specs.FontAnswers.{IsSymbolicVerdictOn, IsVerdictOn}
-use Rattle.hintcheck_fonts.specs.FontPrograms.{IsVerdict}
+use Rattle.hintcheck_programs.specs.FontPrograms.{IsVerdict}
 use Rattle.hintcheck_fonts.specs.SymbolicVerdicts.{IsSymbolicVerdict}
-use Rattle.hintcheck_fonts.specs.Verdicts.{Judgement}
+use Rattle.hintcheck_programs.specs.Verdicts.{Judgement}
 use Rattle.hintcheck_fonts.specs.declared.request.Request.{Request}
 use Rattle.hintcheck_fonts.specs.declared.request.Request.TheVariants.{Strict, Symbolic}
 

@@ -17,8 +17,8 @@ use Rattle.tt_family.specs.GoodFamilies.{IsShortEnough}
 use Rattle.tt_font.specs.Reading.{GlyphData}
 use Rattle.tt_symbolic_check.specs.Answers.{IsAnswerBySymbols}
 use Rattle.hintcheck_fonts.specs.SymbolicEnds.{NeverComesToEnd}
-use Rattle.hintcheck_fonts.specs.ProgramVerdicts.{IsProgramOf, IsUncut}
-use Rattle.hintcheck_fonts.specs.Programs.{Subject}
+use Rattle.hintcheck_programs.specs.ProgramVerdicts.{IsProgramOf, IsUncut}
+use Rattle.hintcheck_programs.specs.Programs.{Subject}
 use Rattle.hintcheck_report.specs.Places.{reported_at}
 use Rattle.hintcheck_report.specs.declared.refused.Refused.{Refused as AnyRefused}
 

@@ -11,10 +11,10 @@ use Rattle.hintcheck_fonts.specs.SymbolicLaws.{IsFontSafe}
 use Rattle.hintcheck_fonts.specs.CvtStarts.{GlyphPrograms, StartsFontProgram}
 use Rattle.hintcheck_fonts.specs.declared.ends.Ends.{Ends}
 use Rattle.tt_symbolic_state.specs.CvtMachine.{CvtNeverFaults}
-use Rattle.hintcheck_fonts.specs.FontPrograms.{cvt_subject, font_of, font_subject, glyph_subject, judgement_on}
-use Rattle.hintcheck_fonts.specs.Programs.{IsCutInto}
+use Rattle.hintcheck_programs.specs.FontPrograms.{cvt_subject, font_of, font_subject, glyph_subject, judgement_on}
+use Rattle.hintcheck_programs.specs.Programs.{IsCutInto}
 use Rattle.hintcheck_fonts.specs.SymbolicRefusals.{IsSymbolicRefusal}
-use Rattle.hintcheck_fonts.specs.Verdicts.{Judgement}
+use Rattle.hintcheck_programs.specs.Verdicts.{Judgement}
 use Rattle.hintcheck_report.specs.declared.refused.Refused.{Refused}
 
 -- The glyph's program is no longer than maxSizeOfInstructions, it can be cut, its instructions are

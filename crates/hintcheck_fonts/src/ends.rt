@@ -14,8 +14,8 @@ use std::alloc::{AllocError, Global};
 use tt_code::Reason;
 use tt_setting::{Refusal, Setting, SortedMap};
 use tt_symbolic::NOTHING_KEPT;
-use tt_symbolic_check::{Effort, Start, check};
-use tt_symbolic_search::Search;
+use tt_symbolic_check::Start;
+use tt_symbolic_search::{Effort, Search};
 use tt_symbolic_state::State;
 
 /// What is known at the end of a font program or a CVT program.
@@ -88,7 +88,7 @@ fn known_functions(alloc: Global, states: &[State]) -> Result<SortedMap<u32>, Al
 /// memory. Returns what is known where it ends.
 ///
 /// # Errors
-/// Those of `Search::find` and of `check`; and `NeverEnds`, at the program's first byte, where no run
+/// Those of `Search::check`; and `NeverEnds`, at the program's first byte, where no run
 /// comes to the end.
 #[tactic(auto, using(crate::proofs::SymbolicAnswers::memory_answers, crate::proofs::SymbolicAnswers::symbols_answer))]
 pub fn check_to_end(
@@ -104,9 +104,7 @@ pub fn check_to_end(
     ensures within { IfErr result IsOfNoBudget }
 {
     let starts = [start_with(alloc, functions)?];
-    let found = search.find(setting, &NOTHING_KEPT, &starts, effort)?;
-    let listed = found.listed.as_slice();
-    let states = check(alloc, setting, &NOTHING_KEPT, &starts, listed, found.effort)?;
+    let states = search.check(setting, &NOTHING_KEPT, &starts, effort)?;
     if states.is_empty() {
         return Err(Refusal::in_main(0, Reason::NeverEnds));
     }

@@ -18,8 +18,8 @@ use tt_code::Reason;
 use tt_family::is_short;
 use tt_setting::{Refusal, Setting, SortedMap};
 use tt_symbolic::Kept;
-use tt_symbolic_check::{Effort, Start, check, has_functions};
-use tt_symbolic_search::Search;
+use tt_symbolic_check::{Start, has_functions};
+use tt_symbolic_search::{Effort, Search};
 use tt_symbolic_state::{Cell, State};
 
 /// With what glyph programs start, and which memory entries none of them writes.
@@ -189,10 +189,9 @@ impl GlyphStarts {
 /// one of them lists.
 ///
 /// # Errors
-/// `Refused` too where it is longer than the font allows; those of `Search::find` and of `check`.
+/// `Refused` too where it is longer than the font allows; those of `Search::check`.
 #[tactic(auto, using(crate::proofs::SymbolicAnswers::memory_answers, crate::proofs::SymbolicAnswers::symbols_answer))]
 pub fn check_glyph(
-    alloc: Global,
     search: &mut Search,
     effort: Effort,
     setting: &Setting<'_>,
@@ -208,10 +207,7 @@ pub fn check_glyph(
         return Err(Refusal::in_main(most, Reason::ProgramTooLong));
     }
     let kept = starts.kept();
-    let list = starts.starts.as_slice();
-    let found = search.find(setting, &kept, list, effort)?;
-    let listed = found.listed.as_slice();
-    check(alloc, setting, &kept, list, listed, found.effort)?;
+    search.check(setting, &kept, starts.starts.as_slice(), effort)?;
     Ok(())
 }
 

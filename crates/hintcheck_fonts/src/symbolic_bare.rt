@@ -4,17 +4,17 @@ ghost use Rattle.std.specs.Prelude.{◌≡◌, ◌≤◌, ◌<◌, ◌^◌, ◌�
 ghost use Rattle.std.specs.List.{All};
 ghost use Rattle.tt_font.specs.Conditions.{maxp_fault};
 ghost use Rattle.tt_font.specs.Reading.{GlyphData, font_around, glyph_data};
-ghost use Rattle.hintcheck_fonts.specs.BarePrograms.{IsMemory, bare_font, glyph_with};
-ghost use Rattle.hintcheck_fonts.specs.FontPrograms.{IsFontInRange, font_of};
+ghost use Rattle.hintcheck_programs.specs.BarePrograms.{IsMemory, bare_font, glyph_with};
+ghost use Rattle.hintcheck_programs.specs.FontPrograms.{IsFontInRange, font_of};
 ghost use Rattle.hintcheck_fonts.specs.SymbolicRefusals.{IsRefusedAlone};
 ghost use Rattle.hintcheck_fonts.specs.SymbolicVerdicts.{IsSafeAlone};
 
-use crate::bare_program::refused_glyph;
-use crate::font::list_outcome;
-use crate::programs::refused as refused_outcome;
-use crate::report::{Name, Refused, Verdict};
 use crate::symbolic_check::SymbolicCheck;
 use crate::symbolic_verdict::USUAL_STEPS;
+use hintcheck_programs::bare_program::refused_glyph;
+use hintcheck_programs::font::list_outcome;
+use hintcheck_programs::programs::refused as refused_outcome;
+use hintcheck_programs::report::{Name, Refused, Verdict};
 use std::alloc::{AllocError, Global};
 use tt_abs::Exhausted;
 use tt_code::Limits;

@@ -5,25 +5,24 @@ ghost use Rattle.tt_setting.specs.Entries.{Ascends};
 ghost use Rattle.tt_setting.specs.Refusals.{IsOfNoBudget, told_reason};
 ghost use Rattle.tt_setting.specs.Settings.{setting_of};
 ghost use Rattle.hintcheck_fonts.specs.SymbolicEnds.{StartGlyphs};
-ghost use Rattle.hintcheck_fonts.specs.FontPrograms.{font_of};
-ghost use Rattle.hintcheck_fonts.specs.ProgramVerdicts.{with_start};
+ghost use Rattle.hintcheck_programs.specs.FontPrograms.{font_of};
+ghost use Rattle.hintcheck_programs.specs.ProgramVerdicts.{with_start};
 ghost use Rattle.hintcheck_fonts.specs.SymbolicRefusals.{IsSymbolicAnswer, IsSymbolicRefusal, IsToldInTurn};
-ghost use Rattle.hintcheck_fonts.specs.Representation.FontVerdicts.{ComesToEnd};
+ghost use Rattle.hintcheck_programs.specs.Representation.FontVerdicts.{ComesToEnd};
 ghost use Rattle.hintcheck_fonts.specs.Representation.SymbolicChecks.{AreBegun, IsCheckedBy, IsEnded, IsEndedBy, IsRunnable};
 
 use crate::ends::{Ends, check_to_end};
 use crate::glyph_starts::{GlyphStarts, check_glyph, starts_after};
-use crate::judge::Judge;
-use crate::program::empty_program;
-use crate::report::Name;
+use hintcheck_programs::judge::Judge;
+use hintcheck_programs::program::empty_program;
+use hintcheck_programs::report::Name;
 use std::alloc::{AllocError, Global};
 use std::mem;
 use tt_abs::{Kind, Refusal, Setting};
 use tt_code::Reason;
 use tt_family::Budget;
 use tt_font::Font;
-use tt_symbolic_check::Effort;
-use tt_symbolic_search::{Insight, Question, Search, USUAL_SEARCH};
+use tt_symbolic_search::{Effort, Insight, Question, Search, USUAL_SEARCH};
 
 /// Judges a program by symbolic states, which are found and checked. What was learnt from one program
 /// of a font serves the next ones.
@@ -150,7 +149,7 @@ impl SymbolicCheck {
                 self.ends = check_to_end(alloc, search, effort, setting, functions)?;
                 Ok(())
             }
-            Kind::Glyph { .. } => check_glyph(alloc, search, effort, setting, &self.starts),
+            Kind::Glyph { .. } => check_glyph(search, effort, setting, &self.starts),
         }
     }
 

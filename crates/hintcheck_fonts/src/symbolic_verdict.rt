@@ -7,18 +7,17 @@ ghost use Rattle.tt_font.specs.Conditions.{TestsWithMemory};
 ghost use Rattle.tt_font.specs.FileFaults.{font_fault};
 ghost use Rattle.tt_font.specs.Reading.{FontData, Reads};
 ghost use Rattle.hintcheck_fonts.specs.SymbolicEnds.{StartGlyphs};
-ghost use Rattle.hintcheck_fonts.specs.FontPrograms.{IsFontInRange, judgement_on};
-ghost use Rattle.hintcheck_fonts.specs.Representation.ProgramOrder.{CanGoOn, skipped_to, stage_of};
+ghost use Rattle.hintcheck_programs.specs.FontPrograms.{IsFontInRange, judgement_on};
+ghost use Rattle.hintcheck_programs.specs.Representation.ProgramOrder.{CanGoOn, skipped_to, stage_of};
 ghost use Rattle.hintcheck_fonts.specs.Representation.SymbolicChecks.{AnswersBySymbols, IsAfterCvt, TellsRefused};
-ghost use Rattle.hintcheck_fonts.specs.Sessions.{at_start};
+ghost use Rattle.hintcheck_programs.specs.Stages.{at_start};
 ghost use Rattle.hintcheck_fonts.specs.SymbolicVerdicts.{IsSymbolicVerdict};
 
 use crate::ends::Ends;
-use crate::font::{list_outcome, read_font};
-use crate::programs::{FontPrograms, Programs};
-use crate::report::{Name, Refused, Verdict};
-use crate::session::Outcome;
 use crate::symbolic_check::SymbolicCheck;
+use hintcheck_programs::font::{list_outcome, read_font};
+use hintcheck_programs::programs::{FontPrograms, Programs};
+use hintcheck_programs::report::{Name, Outcome, Refused, Verdict};
 use std::alloc::{AllocError, Global};
 use tt_family::Budget;
 use tt_font::{Font, FontFault};
@@ -180,10 +179,8 @@ pub fn verdict_symbolic(alloc: Global, font: &[u8]) -> Result<Verdict, FontFault
 }
 
 /// Returns the verdict as `verdict_symbolic` does, where the search makes at most so many steps for
-/// the font: a step carries a state over an instruction. The check of what was found for a program
-/// takes up to four times the steps of its last trial, and 10,000 more. A program for which the
-/// steps that are left are too few is refused as `TooManySteps`, and so is each after it that needs a
-/// step.
+/// the font: a step carries a state over an instruction. A program for which the steps that are left
+/// are too few is refused as `TooManySteps`, and so is each after it that needs a step.
 ///
 /// # Errors
 /// As `verdict_symbolic`.

@@ -7,7 +7,7 @@ use Rattle.hintcheck_report.specs.declared.bound.Bound.{Bound}
 use Rattle.hintcheck_report.specs.declared.bound.Bound.TheVariants.{StackElements, Storage, FunctionDefs, ControlValues}
 use Rattle.hintcheck_report.specs.declared.refused.Refused.{Refused}
 use Rattle.hintcheck_fonts.specs.Requests.{GivesVerdict}
-use Rattle.hintcheck_fonts.specs.Verdicts.{Judgement}
+use Rattle.hintcheck_programs.specs.Verdicts.{Judgement}
 use Rattle.hintcheck_needs.specs.declared.font_needs.Need.{Need}
 use Rattle.hintcheck_needs.specs.declared.font_needs.Needs.{Needs}
 use Rattle.hintcheck_fonts.specs.declared.request.Request.{Request}

@@ -35,8 +35,8 @@ rows_in values = rows_of (found_of values)
 
 -- a subcommand and its values
 pub data Request : Type 0 where
-  bare : Text → ℕ → ℕ → ℕ → Option Text → Option ℕ → Profile → Request
-  verdict : Text → Option ℕ → Profile → Request
+  bare : Text → ℕ → ℕ → ℕ → Option Text → Profile → Request
+  verdict : Text → Profile → Request
   scan : List Text → ScanOptions → Option Text → Request
   explain : Text → Option Text → Option Text → ExplainOptions → Request
   find : Text → Text → Option ℕ → Request
@@ -89,13 +89,24 @@ HasLongNumberIfAny rows id = (one_of id rows ≡ None) ⊎ HasLongNumber rows id
 abbrev pub HasFlag : List Row → Text → Type 0
 HasFlag rows id = IfSome (one_of id rows) (λ t. (t ≡ codes "true") ⊎ (t ≡ codes "false"))
 
--- how many points may be made at most, if that is limited; `bare` has it under another id
+-- how many points may be made at most, if that is limited
 abbrev pub points_in : List Row → Option ℕ
 points_in rows = optional_number_in rows (codes "POINTS")
 
--- the profile that is asked for
-abbrev pub profile_in : List Row → Profile
-profile_in rows = if flag_in rows (codes "SYMBOLIC") then profile.Symbolic else profile.Strict
+-- the profile that is asked for, with the limit that the option of this id got, if it got one
+abbrev pub profile_in : List Row → Text → Profile
+profile_in rows limit = if flag_in rows (codes "SYMBOLIC")
+    then profile.Symbolic (optional_number_in rows limit)
+    else profile.Strict (optional_number_in rows limit)
+
+-- how many points a profile may make, if that is limited: only the strict one makes any
+abbrev pub points_of : Profile → Option ℕ
+points_of (profile.Strict points) = points
+points_of (profile.Symbolic steps) = None
+
+-- the profile that is asked for, in other subcommands than `bare`, which has its limit under another id
+abbrev pub profile_asked : List Row → Profile
+profile_asked rows = profile_in rows (codes "POINTS")
 
 -- the form in which an explanation is printed
 abbrev pub format_in : List Row → Format
@@ -130,14 +141,12 @@ unfoldable pub bare_request : List Row → Request
 bare_request rows =
     bare (text_in rows (codes "MAXP")) (number_in rows (codes "CVT"))
     (number_in rows (codes "POINTS")) (number_in rows (codes "CONTOURS"))
-    (optional_in rows (codes "PROGRAM")) (optional_number_in rows (codes "LIMIT"))
-    (profile_in rows)
+    (optional_in rows (codes "PROGRAM")) (profile_in rows (codes "LIMIT"))
 
 -- the verdict on one font as an object of JSON, which is a scan of that font
 abbrev pub json_request : List Row → Request
 json_request rows = scan (text_in rows (codes "FONT") ∷ []) (record {
-  budget = points_in rows;
-  profile = profile_in rows;
+  profile = profile_asked rows;
   fail_on = fail_on.Refused;
   format = format.Json;
   words = font_words.Fonts;
@@ -151,21 +160,19 @@ explain_request rows =
     then json_request rows
     else explain (text_in rows (codes "FONT")) (optional_in rows (codes "PROGRAM"))
     (optional_in rows (codes "OFFSET")) (record {
-      budget = points_in rows;
-      profile = profile_in rows;
+      profile = profile_asked rows;
       format = format_in rows;
     })
 
 -- what `verdict` asks for, by what its arguments got
 unfoldable pub verdict_request : List Row → Request
 verdict_request rows = if flag_in rows (codes "JSON") then json_request rows
-    else verdict (text_in rows (codes "FONT")) (points_in rows) (profile_in rows)
+    else verdict (text_in rows (codes "FONT")) (profile_asked rows)
 
 -- what `scan` asks for, by what its arguments got
 unfoldable pub scan_request : List Row → Request
 scan_request rows = scan (texts_in rows (codes "FONT")) (record {
-  budget = points_in rows;
-  profile = profile_in rows;
+  profile = profile_asked rows;
   fail_on = fail_on_in rows;
   format = scan_format_in rows;
   words = font_words_in rows;
@@ -268,10 +275,9 @@ MeetsSubcommand found = IsSomeAnd found IsReadable
 
 -- what a task asks for, wherever its texts lie in memory
 unfoldable pub asked : Task → Request
-asked (task.Bare maxp cvt points contours program budget profile) =
-    bare (string_bytes maxp) cvt points contours (option_map (λ s. string_bytes s) program) budget
-    profile
-asked (task.Verdict font budget profile) = verdict (string_bytes font) budget profile
+asked (task.Bare maxp cvt points contours program profile) =
+    bare (string_bytes maxp) cvt points contours (option_map (λ s. string_bytes s) program) profile
+asked (task.Verdict font profile) = verdict (string_bytes font) profile
 asked (task.Scan fonts options expected) =
     scan (map (λ s. string_bytes s) fonts.items) options
     (option_map (λ s. string_bytes s) expected)

@@ -3,20 +3,38 @@
 ghost use Rattle.std.specs.Prelude.{◌≡◌, ◌∷◌, [], IfErr, IfOk, Some, codes, is_some, false, map, option_map, string_bytes};
 ghost use Rattle.clap.specs.Words.{app_of, new_app, rule_of, subcommand_rows_of};
 ghost use Rattle.hintcheck_words.specs.CommandLine.{bare, causes as causes_rule, expect as expect_rule, explain, fail_on as fail_on_rule, files_from as files_from_rule, flag, hintcheck, json as json_rule, list, needed as needed_rule, needs as needs_rule, needed_number as number_rule, numbers as numbers_rule, of_texts, of_texts_and_points, optional as optional_rule, points as points_rule, scan, symbolic as symbolic_rule, verdict};
-ghost use Rattle.hintcheck_words.specs.Requests.{HasFlag, HasLongNumberIfAny, HasNumber, HasPoints, IsMemoryIfTaken, IsReadable, IsReadableBare, IsReadableExplain, IsReadableScan, IsReadableVerdict, MeetsSubcommand, TellsFault, asked, bare_request, check_request, detail_in, explain_request, fail_on_in, fail_on_named, faults_in, find_request, flag_in, font_words_in, format_in, json_request, list_request, meaning, met, number_in, optional_in, optional_number_in, profile_in, request_of, rows_in, scan_format_in, scan_request, text_in, texts_in, texts_of, verdict_request};
+ghost use Rattle.hintcheck_words.specs.Requests.{HasFlag, HasLongNumberIfAny, HasNumber, HasPoints, IsMemoryIfTaken, IsReadable, IsReadableBare, IsReadableExplain, IsReadableScan, IsReadableVerdict, MeetsSubcommand, TellsFault, asked, bare_request, check_request, detail_in, explain_request, fail_on_in, fail_on_named, faults_in, find_request, flag_in, font_words_in, format_in, json_request, list_request, meaning, met, number_in, optional_in, optional_number_in, points_of, profile_in, request_of, rows_in, scan_format_in, scan_request, text_in, texts_in, texts_of, verdict_request};
 
 use clap::error::ErrorKind;
 use clap::{Arg, ArgAction, ArgMatches, Command, value_parser};
 use std::alloc::{AllocError, Global};
 use thiserror::Error;
 
-/// By which profile of the analysis programs are checked.
+/// By which profile of the analysis programs are checked, and how much that may take.
 #[derive(Clone, Copy, Debug, PartialEq, Eq)]
 pub enum Profile {
     /// The profile without further premises, which gives up values that are computed.
-    Strict,
+    Strict {
+        /// How many points may be made; None where that isn't limited.
+        points: Option<u64>,
+    },
     /// The profile that follows values that are computed, whose acceptances have further premises.
-    Symbolic,
+    Symbolic {
+        /// How many steps a search may make; None for as many as are usual.
+        steps: Option<u64>,
+    },
+}
+
+impl Profile {
+    /// Returns how many points may be made, where that is limited: only the strict profile makes any.
+    pub fn points(self) -> Option<u64>
+        ensures { result ≡ points_of self }
+    {
+        match self {
+            Profile::Strict { points } => points,
+            Profile::Symbolic { .. } => None,
+        }
+    }
 }
 
 /// For which refused programs a scan fails.
@@ -66,9 +84,7 @@ pub enum FontWords {
 /// How the font files of a scan are checked, and what is printed of them.
 #[derive(Clone, Copy, Debug, PartialEq, Eq)]
 pub struct ScanOptions {
-    /// How many points may be made per font; None where that isn't limited.
-    pub budget: Option<u64>,
-    /// By which profile they are checked.
+    /// By which profile each font is checked.
     pub profile: Profile,
     /// For which refused programs the scan fails.
     pub fail_on: FailOn,
@@ -81,8 +97,6 @@ pub struct ScanOptions {
 /// How a program of a font file is explained.
 #[derive(Clone, Copy, Debug, PartialEq, Eq)]
 pub struct ExplainOptions {
-    /// How many points may be made; None where that isn't limited.
-    pub budget: Option<u64>,
     /// By which profile it is checked.
     pub profile: Profile,
     /// The form in which the explanation is printed: lines or an object of JSON.
@@ -104,8 +118,6 @@ pub enum Task {
         contours: u16,
         /// The word of the program; None where it is left out.
         program: Option<String>,
-        /// How many points may be made; None where that isn't limited.
-        budget: Option<u64>,
         /// By which profile it is checked.
         profile: Profile,
     },
@@ -113,8 +125,6 @@ pub enum Task {
     Verdict {
         /// The name of the font file.
         font: String,
-        /// How many points may be made; None where that isn't limited.
-        budget: Option<u64>,
         /// By which profile they are checked.
         profile: Profile,
     },
@@ -662,15 +672,17 @@ fn is_given(values: &ArgMatches<'_>, id: &str) -> bool
     values.get_flag(id)
 }
 
-/// Returns the profile that the words ask for.
-fn asked_profile(values: &ArgMatches<'_>) -> Profile
-    requires { HasFlag (rows_in values.now) (codes "SYMBOLIC") }
-    ensures { result ≡ profile_in (rows_in values.now) }
+/// Returns the profile that the words ask for, with the limit that they give the option of this id.
+fn asked_profile(values: &ArgMatches<'_>, limit: &str) -> Profile
+    requires symbolic { HasFlag (rows_in values.now) (codes "SYMBOLIC") }
+    requires limit { HasLongNumberIfAny (rows_in values.now) limit.now }
+    ensures { result ≡ profile_in (rows_in values.now) limit.now }
 {
+    let limit = points(values, limit);
     if is_given(values, "SYMBOLIC") {
-        Profile::Symbolic
+        Profile::Symbolic { steps: limit }
     } else {
-        Profile::Strict
+        Profile::Strict { points: limit }
     }
 }
 
@@ -763,8 +775,7 @@ fn bare_task(alloc: Global, values: &ArgMatches<'_>) -> Result<Task, AllocError>
         points: number(values, "POINTS"),
         contours: number(values, "CONTOURS"),
         program: optional_text(alloc, values, "PROGRAM")?,
-        budget: points(values, "LIMIT"),
-        profile: asked_profile(values),
+        profile: asked_profile(values, "LIMIT"),
     })
 }
 
@@ -792,8 +803,7 @@ fn json_task(alloc: Global, values: &ArgMatches<'_>) -> Result<Task, AllocError>
     Ok(Task::Scan {
         fonts: one_text(alloc, font)?,
         options: ScanOptions {
-            budget: points(values, "POINTS"),
-            profile: asked_profile(values),
+            profile: asked_profile(values, "POINTS"),
             fail_on: FailOn::Refused,
             format: Format::Json,
             words: FontWords::Fonts,
@@ -826,8 +836,7 @@ fn explain_task(alloc: Global, values: &ArgMatches<'_>) -> Result<Task, AllocErr
         program: optional_text(alloc, values, "PROGRAM")?,
         place: optional_text(alloc, values, "OFFSET")?,
         options: ExplainOptions {
-            budget: points(values, "POINTS"),
-            profile: asked_profile(values),
+            profile: asked_profile(values, "POINTS"),
             format: asked_format(values),
         },
     })
@@ -846,8 +855,7 @@ fn verdict_task(alloc: Global, values: &ArgMatches<'_>) -> Result<Task, AllocErr
     }
     Ok(Task::Verdict {
         font: text(alloc, values, "FONT")?,
-        budget: points(values, "POINTS"),
-        profile: asked_profile(values),
+        profile: asked_profile(values, "POINTS"),
     })
 }
 
@@ -862,8 +870,7 @@ fn scan_task(alloc: Global, values: &ArgMatches<'_>) -> Result<Task, AllocError>
     Ok(Task::Scan {
         fonts: all_texts(alloc, values, "FONT")?,
         options: ScanOptions {
-            budget: points(values, "POINTS"),
-            profile: asked_profile(values),
+            profile: asked_profile(values, "POINTS"),
             fail_on: asked_class(values),
             format: asked_scan_format(values),
             words: asked_words(values),

@@ -10,6 +10,7 @@ pub mod files;
 mod fonts;
 pub mod kinds;
 mod lengths;
+mod listed_states;
 mod names;
 mod orders;
 mod places;

@@ -1,6 +1,7 @@
 //! Cases of the check by symbolic states.
 
 use crate::context::Context;
+use crate::listed_states::Listed;
 use crate::programs::{Programs, bytes_given, cut_all};
 use crate::words::{Words, number_of};
 use anyhow::Result;
@@ -8,20 +9,18 @@ use std::alloc::{AllocError, Global};
 use std::mem;
 use tt_abs::{Kind, Refusal, Setting};
 use tt_symbolic::kept::{Kept, NOTHING_KEPT};
-use tt_symbolic_check::{Effort, Start, check, start_state};
+use tt_symbolic_check::{Pool, Start, check, start_state};
 use tt_symbolic_state::{Cell, OpenCall, Range, State};
 
-/// How much a check of programs may do: a comparison splits the range of any symbol.
-const WIDE: Effort = Effort {
-    steps: 10_000,
-    widest_compared: 1 << 33,
-};
+/// How many moves a walk may have.
+const MOVES: u64 = 10_000;
 
-/// How much one by listed states may do.
-const SMALL: Effort = Effort {
-    steps: 500,
-    widest_compared: 1 << 16,
-};
+/// How many numbers the range of a symbol may have that a comparison splits, where no states are
+/// listed: a comparison splits the range of any symbol.
+const WIDE: i64 = 1 << 33;
+
+/// How many it may have where states are listed.
+const SMALL: i64 = 1 << 16;
 
 /// Returns the text of what a check tells.
 fn told_text<T: Drop>(alloc: Global, told: Result<T, Refusal>) -> Result<String, AllocError> {
@@ -35,7 +34,18 @@ fn told_text<T: Drop>(alloc: Global, told: Result<T, Refusal>) -> Result<String,
 
 /// Checks a program from a start, and returns what is known at the last of its ends.
 fn end_of(alloc: Global, setting: &Setting<'_>, start: Start) -> Result<Start, Refusal> {
-    let ends = check(alloc, setting, &NOTHING_KEPT, &[start], &[], WIDE)?;
+    let mut guide = Listed::new(alloc, setting, &[], WIDE);
+    let mut pool = Pool::new(alloc);
+    let starts = [start];
+    let ends = check(
+        alloc,
+        &mut pool,
+        setting,
+        &NOTHING_KEPT,
+        &starts,
+        &mut guide,
+        MOVES,
+    )?;
     match ends.last() {
         Some(end) => Ok(Start::after(alloc, end)?),
         None => Ok(Start::unknown(alloc)),
@@ -123,7 +133,10 @@ fn check_glyph(
     let programs = cut_all(alloc, font, &[], glyph)?;
     let for_cvt = cvt_setting(font_setting(context, &programs), &programs);
     let setting = glyph_setting(context, for_cvt, &programs);
-    Ok(told_text(alloc, check(alloc, &setting, kept, starts, listed, SMALL))?)
+    let mut guide = Listed::new(alloc, &setting, listed, SMALL);
+    let mut pool = Pool::new(alloc);
+    let told = check(alloc, &mut pool, &setting, kept, starts, &mut guide, MOVES);
+    Ok(told_text(alloc, told)?)
 }
 
 /// Returns the start at which only function 0 is known, which has its body at 3.

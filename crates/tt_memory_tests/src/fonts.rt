@@ -1,9 +1,9 @@
 //! Calls on whole fonts and on their certificates.
 
 use crate::PROGRAMS;
+use hintcheck_certificates::{check_font, find_font, upgrade};
 use hintcheck_fonts::{
-    AnswerFault, Request, bare, bare_symbolic, check_font, find_font, read_font, upgrade, verdict,
-    verdict_symbolic,
+    AnswerFault, Request, bare, bare_symbolic, read_font, verdict, verdict_symbolic,
 };
 use hintcheck_needs::{Bound, least_enough};
 use std::alloc::Global;

@@ -31,3 +31,10 @@ AreEnds s starts ends =
 abbrev pub KeepsEntries : Setting → Kept → List Start → Type 0
 KeepsEntries s kept starts =
     (m n : CvtMachine) → StartsFrom starts m → CvtRuns s m n → KeepsMemory kept m n
+
+-- a program is checked: this is so of it
+pub record IsChecked (s : Setting) (kept : Kept) (starts : List Start) (ends : List State)
+    : Type 0 where
+  pub safe : IsSafe s starts
+  pub keeps : KeepsEntries s kept starts
+  pub ends_are : AreEnds s starts ends

@@ -80,17 +80,14 @@ pub struct RefusedState {
     pub failed: Failed,
 }
 
-/// What the search tells of a program: of its last trial, the one that found something, or whose
-/// refusal it answered.
+/// What the search tells of a program: of its last trial, the one whose answer it gave.
 pub struct Insight {
     /// How many steps it made.
     pub steps: u64,
     /// How many elements the stack had at most.
     pub depth: usize,
-    /// How many states are listed; 0 after a refusal.
-    pub listed: usize,
-    /// How many steps the check may make; 0 after a refusal.
-    pub checked: u64,
+    /// How many heads of loops there are.
+    pub heads: usize,
     /// The state that was refused; none where no instruction is refused.
     pub refused: Option<RefusedState>,
     /// The first states that came to the site that was asked for.
@@ -105,8 +102,7 @@ impl Drop for Insight {
         let Insight {
             steps: _,
             depth: _,
-            listed: _,
-            checked: _,
+            heads: _,
             refused,
             seen,
             has_more: _,

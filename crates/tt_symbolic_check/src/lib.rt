@@ -1,12 +1,12 @@
-//! The check of a program by listed symbolic states.
+//! The check of a program by a walk of symbolic states.
 #![tactic(auto)]
 
 mod checking;
 mod copying;
 mod covering;
+mod guide;
 mod insight;
 pub mod laws;
-mod place_index;
 mod pool;
 mod site;
 mod splits;
@@ -16,8 +16,10 @@ mod walk;
 pub use checking::check;
 pub use copying::{Split, copied, copy_into, lower, raise};
 pub use covering::{covers, has_functions};
+pub use guide::{Guide, Move};
 pub use insight::{Insight, KnownState, Question, RefusedState, SymbolOrigin};
+pub use pool::Pool;
 pub use site::{START, Site, too_many_steps};
 pub use splits::{Decision, decision_of, wanted};
 pub use start::{Start, start_state};
-pub use walk::{Effort, is_at_end};
+pub use walk::{Pending, Walk, is_at_end};

@@ -1,50 +1,39 @@
-//! The walk: what waits is carried on, a state at a time, until nothing does.
+//! The walk: what waits is carried on, a state at a time, as a guide chooses, until nothing waits.
 
-ghost use Rattle.std.specs.Prelude.{◌≡◌, ◌<◌, ℕ, [], ◌∷◌, ◌++◌, IfErr, IfOk, IfSome, None, OnOk, Some, false, length, slice_get, slice_set, true};
+ghost use Rattle.std.specs.Prelude.{◌≡◌, [], ℕ, IfErr, IfOk, IfSome, OnOk, None, false, length, true, ◌&&◌};
 ghost use Rattle.tt_setting.specs.Refusals.{IsOfNoBudget};
-ghost use Rattle.tt_symbolic_check.specs.Walking.{Begins, EndsAs, Finishes, IsCoveredBy, NothingPending, PutsEnd, PutsPending, Reaches, TakesPending, Walks};
+ghost use Rattle.tt_symbolic_check.specs.Covering.{Covers};
+ghost use Rattle.tt_symbolic_check.specs.Walking.{Begins, EndsAs, Finishes, IsMet, NothingPending, PutsEnd, PutsHead, PutsPending, ReachesFrom, TakesPending};
 
 use crate::copying::{Split, lower, raise};
 use crate::covering::covers_by;
-use crate::place_index::PlaceIndex;
+use crate::guide::{Guide, Move};
 use crate::pool::Pool;
 use crate::site::{Site, too_many_steps};
-use crate::splits::wanted;
 use crate::start::{Start, start_state};
 use std::alloc::{AllocError, Global};
 use tt_setting::{Point, Refusal, Setting, StepFault};
 use tt_symbolic::kept::{Kept, step_keeping};
-use tt_symbolic::step::code_at;
-use tt_symbolic_state::cell::Cell;
 use tt_symbolic_state::state::State;
 
-/// How many listed states at one offset are looked at.
-const MOST_TESTED: u32 = 1024;
-
-/// How much a check may do.
-#[derive(Clone, Copy, Debug, PartialEq, Eq)]
-pub struct Effort {
-    /// How many steps the walk may have.
-    pub steps: u64,
-    /// How many numbers the range of a symbol may have that a comparison splits.
-    pub widest_compared: i64,
-}
+/// The place behind all that waits: what waits there is carried on next.
+const NEXT: usize = usize::MAX;
 
 /// A state that waits to be carried on.
 #[derive(Drop)]
 pub struct Pending {
     /// The state, in a box, so that no step moves it.
     pub state: Box<State>,
-    /// Whether it goes no further where a listed state covers it.
+    /// Whether it may go no further where a head covers it: it has made a step since it was one.
     pub may_stop: bool,
 }
 
 /// What was done so far, and what is still to be done.
 #[derive(Drop)]
 pub struct Walk {
-    /// Which listed states are walked.
-    pub walked: Vec<bool>,
-    /// What waits.
+    /// The states at which others may stop: each is walked itself.
+    pub heads: Vec<State>,
+    /// What waits. The last is carried on next.
     pub pending: Vec<Pending>,
     /// The states at the main program's end.
     pub ends: Vec<State>,
@@ -57,20 +46,45 @@ fn boxed(alloc: Global, state: State) -> Result<Box<State>, AllocError>
     Ok(Box::new(alloc, state)?)
 }
 
-/// Lets a state wait.
-fn put_pending(walk: &mut Walk, state: Box<State>, may_stop: bool) -> Result<(), AllocError>
+/// Lets a state wait at a place, or behind all that waits.
+fn put_pending(
+    walk: &mut Walk,
+    place: usize,
+    state: Box<State>,
+    may_stop: bool,
+) -> Result<(), AllocError>
     ensures { OnOk result (PutsPending state may_stop walk.old walk.new) }
 {
-    walk.pending.push(Pending { state, may_stop })?;
+    let place = place.min(walk.pending.len());
+    walk.pending.insert(place, Pending { state, may_stop })?;
     Ok(())
 }
 
-/// Takes the last of what waits.
-fn take_pending(walk: &mut Walk) -> Option<Pending>
+/// Takes what waits at a place.
+fn take_pending(walk: &mut Walk, place: usize) -> Option<Pending>
+    ensures some { IfSome result (TakesPending walk.old walk.new) }
+    ensures none { result ≡ None → walk.new ≡ walk.old }
+{
+    if place >= walk.pending.len() {
+        return None;
+    }
+    Some(walk.pending.remove(place))
+}
+
+/// Takes what is carried on next.
+fn take_next(walk: &mut Walk) -> Option<Pending>
     ensures some { IfSome result (TakesPending walk.old walk.new) }
     ensures none { result ≡ None → NothingPending walk.old walk.new }
 {
     walk.pending.pop()
+}
+
+/// Puts a state among the heads.
+fn put_head(walk: &mut Walk, state: State) -> Result<(), AllocError>
+    ensures { OnOk result (PutsHead state walk.old walk.new) }
+{
+    walk.heads.push(state)?;
+    Ok(())
 }
 
 /// Puts a state among the ends.
@@ -79,24 +93,6 @@ fn put_end(walk: &mut Walk, state: State) -> Result<(), AllocError>
 {
     walk.ends.push(state)?;
     Ok(())
-}
-
-/// Whether the listed state of this number is walked.
-fn is_walked(walk: &Walk, place: usize) -> bool
-    ensures { result ≡ true → slice_get walk.now.walked.items place ≡ Some true }
-{
-    match walk.walked.as_slice().get(place) {
-        Some(walked) => *walked,
-        None => false,
-    }
-}
-
-/// Notes that the listed state of this number is walked.
-fn mark(walked: &mut Vec<bool>, place: usize)
-    requires { place < length walked.old.items }
-    ensures { walked.new.items ≡ slice_set walked.old.items place true }
-{
-    walked[place] = true;
 }
 
 /// Whether the state is at the main program's end.
@@ -115,243 +111,336 @@ pub fn is_at_end(setting: &Setting<'_>, state: &State) -> bool
     }
 }
 
-/// Finds a listed state that covers the state, and returns its number.
-fn find(
-    assigned: &mut Vec<Option<Cell>>,
-    listed: &[State],
-    index: &PlaceIndex,
-    state: &State,
-) -> Result<Option<usize>, AllocError>
-    ensures { IfOk result (λ found. IfSome found (λ i. IsCoveredBy listed.now i state.now)) }
-{
-    let mut place = index.first(state);
-    for i in 0..MOST_TESTED {
-        let Some(there) = listed.get(place) else {
-            return Ok(None);
-        };
-        let covered = covers_by(assigned, state, there)?;
-        if covered {
-            return Ok(Some(place));
-        }
-        place = index.after(place);
-    }
-    Ok(None)
-}
-
-/// Stops at a listed state, which is walked in its turn where it isn't yet.
-fn stop_at(
-    pool: &mut Pool,
-    setting: &Setting<'_>,
-    kept: &Kept<'_>,
-    listed: &[State],
-    place: usize,
-    walk: &mut Walk,
-) -> Result<(), AllocError>
-    ensures { OnOk result (Reaches setting.now kept.now listed.now walk.old walk.new
-        (λ final. slice_get final.walked.items place ≡ Some true)) }
-{
-    if is_walked(walk, place) {
-        return Ok(());
-    }
-    let Some(there) = listed.get(place) else {
-        return Err(AllocError);
-    };
-    if place >= walk.walked.len() {
-        return Err(AllocError);
-    }
-    let copy = pool.copied(there)?;
-    mark(&mut walk.walked, place);
-    put_pending(walk, copy, false)?;
-    Ok(())
-}
-
-/// Lets both parts of a state wait.
+/// Carries on the lower part of a state, and lets the upper one wait at a place.
 fn split_up(
     pool: &mut Pool,
     setting: &Setting<'_>,
     kept: &Kept<'_>,
-    listed: &[State],
     walk: &mut Walk,
-    state: Box<State>,
+    entry: Pending,
     split: Split,
+    place: usize,
 ) -> Result<(), AllocError>
-    ensures { OnOk result (Reaches setting.now kept.now listed.now walk.old walk.new
-        (λ final. Walks setting.now kept.now listed.now final false state.value)) }
+    ensures { OnOk result
+        (ReachesFrom setting.now kept.now walk.old walk.new entry.may_stop entry.state.value) }
 {
+    let Pending { state, may_stop } = entry;
     let mut low = pool.copied(&state)?;
     lower(&mut low, split);
     let mut high = state;
     raise(&mut high, split);
-    put_pending(walk, high, false)?;
-    put_pending(walk, low, false)?;
+    put_pending(walk, place, high, may_stop)?;
+    put_pending(walk, NEXT, low, may_stop)?;
     Ok(())
 }
 
-/// Lets what a step makes of a state wait.
-fn step_on(
+/// Carries on what a step makes of a state.
+fn step_on<G: Guide>(
     setting: &Setting<'_>,
     kept: &Kept<'_>,
-    listed: &[State],
     walk: &mut Walk,
     state: Box<State>,
+    guide: &mut G,
 ) -> Result<(), StepFault>
     requires { EndsAs setting.now state.value false }
-    ensures { OnOk result (Reaches setting.now kept.now listed.now walk.old walk.new
-        (λ final. Walks setting.now kept.now listed.now final false state.value)) }
+    ensures { OnOk result
+        (ReachesFrom setting.now kept.now walk.old walk.new false state.value) }
 {
     let mut next = state;
-    step_keeping(setting, kept, &mut next)?;
-    put_pending(walk, next, true)?;
-    Ok(())
-}
-
-/// Carries on a state that isn't at the main program's end: by its parts, or by a step.
-fn split_or_step(
-    pool: &mut Pool,
-    setting: &Setting<'_>,
-    kept: &Kept<'_>,
-    listed: &[State],
-    walk: &mut Walk,
-    state: Box<State>,
-    widest: i64,
-) -> Result<(), StepFault>
-    requires { EndsAs setting.now state.value false }
-    ensures { OnOk result (Reaches setting.now kept.now listed.now walk.old walk.new
-        (λ final. Walks setting.now kept.now listed.now final false state.value)) }
-{
-    let split = match code_at(setting, &state) {
-        Some(code) => wanted(code, &state, widest),
-        None => None,
-    };
-    match split {
-        Some(split) => {
-            split_up(pool, setting, kept, listed, walk, state, split)?;
+    match step_keeping(setting, kept, &mut next) {
+        Ok(()) => {
+            guide.stepped(&next)?;
+            put_pending(walk, NEXT, next, true)?;
             Ok(())
         }
-        None => step_on(setting, kept, listed, walk, state),
+        Err(fault) => {
+            guide.refused(&next, &fault)?;
+            Err(fault)
+        }
     }
 }
 
-/// Carries a state on: to the ends, by its parts, or by a step.
-fn carry_on(
-    pool: &mut Pool,
+/// Carries a state on: to the ends, or by a step.
+fn carry_on<G: Guide>(
     setting: &Setting<'_>,
     kept: &Kept<'_>,
-    listed: &[State],
     walk: &mut Walk,
     state: Box<State>,
-    widest: i64,
+    guide: &mut G,
 ) -> Result<(), StepFault>
-    ensures { OnOk result (Reaches setting.now kept.now listed.now walk.old walk.new
-        (λ final. Walks setting.now kept.now listed.now final false state.value)) }
+    ensures { OnOk result
+        (ReachesFrom setting.now kept.now walk.old walk.new false state.value) }
 {
     if is_at_end(setting, &state) {
         put_end(walk, Box::into_inner(state))?;
         return Ok(());
     }
-    split_or_step(pool, setting, kept, listed, walk, state, widest)
+    step_on(setting, kept, walk, state, guide)
 }
 
-/// Returns the number of a listed state at which the state that waited may stop, if there is one.
-fn met(
-    pool: &mut Pool,
-    listed: &[State],
-    index: &PlaceIndex,
-    entry: &Pending,
-) -> Result<Option<usize>, AllocError>
-    ensures { IfOk result (λ found. IfSome found (λ i. (entry.now.may_stop ≡ true)
-        × IsCoveredBy listed.now i entry.now.state.value)) }
-{
-    if !entry.may_stop {
-        return Ok(None);
-    }
-    find(&mut pool.assigned, listed, index, &entry.state)
-}
-
-/// Carries on what was taken, or stops it at a listed state.
-fn go_on(
+/// Carries on a wider state in place of the one that was taken, if that covers it.
+fn widen<G: Guide>(
     pool: &mut Pool,
     setting: &Setting<'_>,
     kept: &Kept<'_>,
-    listed: &[State],
-    index: &PlaceIndex,
     walk: &mut Walk,
     entry: Pending,
-    widest: i64,
-) -> Result<(), StepFault>
-    ensures { OnOk result (Reaches setting.now kept.now listed.now walk.old walk.new
-        (λ final. Walks setting.now kept.now listed.now final entry.may_stop entry.state.value)) }
+    wider: Box<State>,
+    guide: &mut G,
+) -> Result<(), AllocError>
+    ensures { OnOk result
+        (ReachesFrom setting.now kept.now walk.old walk.new entry.may_stop entry.state.value) }
 {
-    let found = met(pool, listed, index, &entry)?;
-    match found {
-        Some(place) => {
-            pool.keep(entry.state)?;
-            stop_at(pool, setting, kept, listed, place, walk)?;
-            Ok(())
-        }
-        None => carry_on(pool, setting, kept, listed, walk, entry.state, widest),
+    let Pending { state, may_stop } = entry;
+    let covers = covers_by(&mut pool.assigned, &state, &wider)?;
+    guide.tested(covers)?;
+    if covers {
+        pool.keep(state)?;
+        put_pending(walk, NEXT, wider, may_stop)?;
+        return Ok(());
     }
-}
-
-/// Carries on what was taken, or stops it at a listed state, and tells where it is refused.
-fn advance(
-    pool: &mut Pool,
-    setting: &Setting<'_>,
-    kept: &Kept<'_>,
-    listed: &[State],
-    index: &PlaceIndex,
-    walk: &mut Walk,
-    entry: Pending,
-    widest: i64,
-) -> Result<(), Refusal>
-    ensures walks { OnOk result (Reaches setting.now kept.now listed.now walk.old walk.new
-        (λ final. Walks setting.now kept.now listed.now final entry.may_stop entry.state.value)) }
-    ensures within { IfErr result IsOfNoBudget }
-{
-    let place = Site::of(&entry.state);
-    match go_on(pool, setting, kept, listed, index, walk, entry, widest) {
-        Ok(()) => Ok(()),
-        Err(fault) => Err(place.refused(fault)),
-    }
-}
-
-/// Puts false at the end.
-fn push_false(walked: &mut Vec<bool>) -> Result<(), AllocError>
-    ensures { OnOk result (walked.new.items ≡ walked.old.items ++ false ∷ []) }
-{
-    walked.push(false)?;
+    pool.keep(wider)?;
+    put_pending(walk, NEXT, state, may_stop)?;
     Ok(())
 }
 
-/// Makes the list of which listed states are walked: none is.
-fn none_walked(alloc: Global, count: usize) -> Result<Vec<bool>, AllocError>
-    ensures { IfOk result (λ walked. (i : ℕ) → slice_get walked.items i ≡ Some true → ⊥) }
+/// Whether both are so.
+fn both(one: bool, other: bool) -> bool
+    ensures { result ≡ (one && other) }
 {
-    let mut walked = Vec::new(alloc);
-    for i in 0..count {
-        push_false(&mut walked)?;
+    one && other
+}
+
+/// Whether a state covers both of two.
+fn covers_both(
+    pool: &mut Pool,
+    one: &State,
+    other: &State,
+    joined: &State,
+) -> Result<bool, AllocError>
+    ensures { IfOk result (λ b. b ≡ true
+        → Covers one.now joined.now × Covers other.now joined.now) }
+{
+    let covers = covers_by(&mut pool.assigned, one, joined)?;
+    if !covers {
+        return Ok(false);
     }
-    Ok(walked)
+    covers_by(&mut pool.assigned, other, joined)
+}
+
+/// Lets a joined state wait in place of the one that was taken and of one that waits at a place, if
+/// it covers both.
+fn join<G: Guide>(
+    pool: &mut Pool,
+    setting: &Setting<'_>,
+    kept: &Kept<'_>,
+    walk: &mut Walk,
+    entry: Pending,
+    place: usize,
+    joined: Box<State>,
+    guide: &mut G,
+) -> Result<(), AllocError>
+    ensures { OnOk result
+        (ReachesFrom setting.now kept.now walk.old walk.new entry.may_stop entry.state.value) }
+{
+    let Some(other) = take_pending(walk, place) else {
+        guide.tested(false)?;
+        return put_pending(walk, NEXT, entry.state, entry.may_stop);
+    };
+    let covers = covers_both(pool, &entry.state, &other.state, &joined)?;
+    guide.tested(covers)?;
+    if covers {
+        put_pending(walk, place, joined, both(entry.may_stop, other.may_stop))?;
+        pool.keep(entry.state)?;
+        pool.keep(other.state)?;
+        return Ok(());
+    }
+    pool.keep(joined)?;
+    put_pending(walk, place, other.state, other.may_stop)?;
+    put_pending(walk, NEXT, entry.state, entry.may_stop)?;
+    Ok(())
+}
+
+/// Lets a state go no further, if one that waits at a place covers it: that waits for both.
+fn give_way<G: Guide>(
+    pool: &mut Pool,
+    setting: &Setting<'_>,
+    kept: &Kept<'_>,
+    walk: &mut Walk,
+    entry: Pending,
+    place: usize,
+    guide: &mut G,
+) -> Result<(), AllocError>
+    ensures { OnOk result
+        (ReachesFrom setting.now kept.now walk.old walk.new entry.may_stop entry.state.value) }
+{
+    let Some(other) = take_pending(walk, place) else {
+        guide.tested(false)?;
+        return put_pending(walk, NEXT, entry.state, entry.may_stop);
+    };
+    let covers = covers_by(&mut pool.assigned, &entry.state, &other.state)?;
+    guide.tested(covers)?;
+    if covers {
+        let may_stop = both(entry.may_stop, other.may_stop);
+        put_pending(walk, place, other.state, may_stop)?;
+        pool.keep(entry.state)?;
+        return Ok(());
+    }
+    put_pending(walk, place, other.state, other.may_stop)?;
+    put_pending(walk, NEXT, entry.state, entry.may_stop)?;
+    Ok(())
+}
+
+/// Makes a head of a state, which is carried on: it stops at no head before its next step.
+fn begin_head(
+    pool: &mut Pool,
+    setting: &Setting<'_>,
+    kept: &Kept<'_>,
+    walk: &mut Walk,
+    entry: Pending,
+) -> Result<(), AllocError>
+    ensures { OnOk result
+        (ReachesFrom setting.now kept.now walk.old walk.new entry.may_stop entry.state.value) }
+{
+    let copy = pool.copied(&entry.state)?;
+    put_head(walk, Box::into_inner(entry.state))?;
+    put_pending(walk, NEXT, copy, false)?;
+    Ok(())
+}
+
+/// Whether the head of this number covers a state that may stop.
+fn may_stop_at(
+    pool: &mut Pool,
+    walk: &Walk,
+    entry: &Pending,
+    place: usize,
+) -> Result<bool, AllocError>
+    ensures { IfOk result (λ b. b ≡ true
+        → (entry.now.may_stop ≡ true) × IsMet walk.now entry.now.state.value) }
+{
+    match walk.heads.get(place) {
+        Some(head) if entry.may_stop => {
+            let covers = covers_by(&mut pool.assigned, &entry.state, head)?;
+            Ok(covers)
+        }
+        _ => Ok(false),
+    }
+}
+
+/// Lets a state go no further, if the head of this number covers it.
+fn stop<G: Guide>(
+    pool: &mut Pool,
+    setting: &Setting<'_>,
+    kept: &Kept<'_>,
+    walk: &mut Walk,
+    entry: Pending,
+    place: usize,
+    guide: &mut G,
+) -> Result<(), AllocError>
+    ensures { OnOk result
+        (ReachesFrom setting.now kept.now walk.old walk.new entry.may_stop entry.state.value) }
+{
+    let stops = may_stop_at(pool, walk, &entry, place)?;
+    guide.tested(stops)?;
+    if stops {
+        pool.keep(entry.state)?;
+        return Ok(());
+    }
+    put_pending(walk, NEXT, entry.state, entry.may_stop)?;
+    Ok(())
+}
+
+/// Does with a state what was chosen.
+fn go_on<G: Guide>(
+    pool: &mut Pool,
+    setting: &Setting<'_>,
+    kept: &Kept<'_>,
+    walk: &mut Walk,
+    entry: Pending,
+    chosen: Move,
+    guide: &mut G,
+) -> Result<(), StepFault>
+    ensures { OnOk result
+        (ReachesFrom setting.now kept.now walk.old walk.new entry.may_stop entry.state.value) }
+{
+    match chosen {
+        Move::Go => {
+            carry_on(setting, kept, walk, entry.state, guide)?;
+            Ok(())
+        }
+        Move::Split(split, place) => {
+            split_up(pool, setting, kept, walk, entry, split, place)?;
+            Ok(())
+        }
+        Move::Wait(place) => {
+            put_pending(walk, place, entry.state, entry.may_stop)?;
+            Ok(())
+        }
+        Move::Widen(wider) => {
+            widen(pool, setting, kept, walk, entry, wider, guide)?;
+            Ok(())
+        }
+        Move::Yield(place) => {
+            give_way(pool, setting, kept, walk, entry, place, guide)?;
+            Ok(())
+        }
+        Move::Join(place, joined) => {
+            join(pool, setting, kept, walk, entry, place, joined, guide)?;
+            Ok(())
+        }
+        Move::Head => {
+            begin_head(pool, setting, kept, walk, entry)?;
+            Ok(())
+        }
+        Move::Stop(place) => {
+            stop(pool, setting, kept, walk, entry, place, guide)?;
+            Ok(())
+        }
+        Move::GiveUp(_, fault) => Err(fault),
+    }
+}
+
+/// Returns where a move is refused that was chosen for a state.
+fn site_of(state: &State, chosen: &Move) -> Site {
+    match chosen {
+        Move::GiveUp(site, _) => *site,
+        _ => Site::of(state),
+    }
+}
+
+/// Does with a state what the guide chooses, and tells where it is refused.
+fn advance<G: Guide>(
+    pool: &mut Pool,
+    setting: &Setting<'_>,
+    kept: &Kept<'_>,
+    walk: &mut Walk,
+    entry: Pending,
+    guide: &mut G,
+) -> Result<(), Refusal>
+    ensures walks { OnOk result
+        (ReachesFrom setting.now kept.now walk.old walk.new entry.may_stop entry.state.value) }
+    ensures within { IfErr result IsOfNoBudget }
+{
+    let chosen = guide.choose(walk, &entry.state, pool);
+    let site = site_of(&entry.state, &chosen);
+    match go_on(pool, setting, kept, walk, entry, chosen, guide) {
+        Ok(()) => Ok(()),
+        Err(fault) => Err(site.refused(fault)),
+    }
 }
 
 /// Makes the walk that has done nothing, and in which nothing waits.
-fn fresh_walk(
-    alloc: Global,
-    setting: &Setting<'_>,
-    kept: &Kept<'_>,
-    starts: &[Start],
-    listed: &[State],
-) -> Result<Walk, AllocError>
-    ensures { IfOk result (Begins setting.now kept.now listed.now 0 starts.now) }
+fn fresh_walk(alloc: Global, setting: &Setting<'_>, kept: &Kept<'_>, starts: &[Start]) -> Walk
+    ensures { Begins setting.now kept.now 0 starts.now result }
 {
-    Ok(Walk {
-        walked: none_walked(alloc, listed.len())?,
+    Walk {
+        heads: Vec::new(alloc),
         pending: Vec::new(alloc),
         ends: Vec::new(alloc),
-    })
+    }
 }
 
-/// Lets each start wait.
+/// Lets each start wait: the last is carried on next.
 ///
 /// # Errors
 /// If memory runs out.
@@ -360,48 +449,37 @@ pub fn begin(
     setting: &Setting<'_>,
     kept: &Kept<'_>,
     starts: &[Start],
-    listed: &[State],
 ) -> Result<Walk, AllocError>
-    ensures { IfOk result (Begins setting.now kept.now listed.now (length starts.now) starts.now) }
+    ensures { IfOk result (Begins setting.now kept.now (length starts.now) starts.now) }
 {
-    let mut walk = fresh_walk(alloc, setting, kept, starts, listed)?;
+    let mut walk = fresh_walk(alloc, setting, kept, starts);
     for i in 0..starts.len() {
         let start = start_state(alloc, &starts[i])?;
         let state = boxed(alloc, start)?;
-        put_pending(&mut walk, state, true)?;
+        put_pending(&mut walk, NEXT, state, true)?;
     }
     Ok(walk)
 }
 
-/// Carries on what waits, until nothing does.
+/// Carries on what waits, as the guide chooses, until nothing waits.
 ///
 /// # Errors
-/// `TooManySteps`, at the program's start, where something waits after so many steps; otherwise
-/// where an instruction is refused and why, or that memory ran out.
-pub fn walk_on(
+/// `TooManySteps`, at the program's start, where something waits after so many moves; otherwise
+/// where an instruction is refused and why, where the guide gives up, or that memory ran out.
+pub fn walk_on<G: Guide>(
     pool: &mut Pool,
     setting: &Setting<'_>,
     kept: &Kept<'_>,
-    listed: &[State],
-    index: &PlaceIndex,
     walk: &mut Walk,
-    effort: Effort,
+    guide: &mut G,
+    moves: u64,
 ) -> Result<(), Refusal>
-    ensures finishes { OnOk result (Finishes setting.now kept.now listed.now walk.old walk.new) }
+    ensures finishes { OnOk result (Finishes setting.now kept.now walk.old walk.new) }
     ensures within { IfErr result IsOfNoBudget }
 {
-    for step in 0..effort.steps {
-        match take_pending(walk) {
-            Some(entry) => advance(
-                pool,
-                setting,
-                kept,
-                listed,
-                index,
-                walk,
-                entry,
-                effort.widest_compared,
-            )?,
+    for step in 0..moves {
+        match take_next(walk) {
+            Some(entry) => advance(pool, setting, kept, walk, entry, guide)?,
             None => return Ok(()),
         }
     }

@@ -3,7 +3,7 @@
 use crate::cell_names::CellName;
 use crate::origins::{NOWHERE, Origins, Wanted};
 use crate::stepping::Before;
-use crate::track::Track;
+use crate::track::Seen;
 use std::alloc::{AllocError, Global};
 use tt_code::kinds::{Control, Operand, Reference, Row, StackOp};
 use tt_code::{Effect, Reason};
@@ -90,7 +90,7 @@ fn is_direct(before: &Before, reason: Reason) -> bool {
 fn of_cells(
     alloc: Global,
     origins: &Origins,
-    track: &Track,
+    track: Seen<'_>,
     cells: &[Cell],
     wanted: Wanted,
     apart: &[CellName],
@@ -111,11 +111,11 @@ fn of_cells(
 fn of_splits(
     alloc: Global,
     origins: &Origins,
-    track: &Track,
+    track: Seen<'_>,
     wanted: Wanted,
     apart: &[CellName],
 ) -> Result<Vec<CellName>, AllocError> {
-    for origin in track.splits.as_slice().iter().rev() {
+    for origin in track.history.splits.as_slice().iter().rev() {
         if *origin != NOWHERE {
             let found = origins.nearest(alloc, *origin, wanted, apart)?;
             if !found.is_empty() {
@@ -131,7 +131,7 @@ fn of_splits(
 pub(crate) fn culprits(
     alloc: Global,
     origins: &Origins,
-    track: &Track,
+    track: Seen<'_>,
     before: &Before,
     reason: Reason,
     apart: &[CellName],

@@ -1,11 +1,11 @@
-//! Merges of two states: the least listed state that shows both, with widened ranges.
+//! Merges of two states: a state that shows both, with widened ranges.
 
-use crate::boxes::{Area, Symbols, is_wide, listed_near};
+use crate::boxes::{Area, Sharing, Symbols, is_wide, listed_near, rename};
 use crate::cell_names::{CellName, Part};
 use crate::origin_notes::{Meeting, Point};
 use crate::origins::{NOWHERE, OriginNumber, Origins};
 use crate::thresholds::{End, GREATEST, LEAST, widened};
-use crate::track::Track;
+use crate::track::{History, Level, Seen, Track, cell_count, copy_list};
 use std::alloc::{AllocError, Global};
 use std::collections::HashMap;
 use std::mem;
@@ -15,6 +15,10 @@ use tt_symbolic_state::stack::Stack;
 
 /// Strides are below this.
 const MOST_STRIDE: u64 = 1 << 20;
+
+/// How many symbols a merged state may have besides two for each cell, until those that no cell has
+/// are left out.
+const MOST_SPARE_SYMBOLS: usize = 64;
 
 /// How many divisions find a common divisor at most.
 const MOST_DIVISIONS: u32 = 100;
@@ -152,16 +156,25 @@ impl Steps {
     }
 }
 
+/// How two states are merged.
+#[derive(Clone, Copy)]
+pub(crate) struct Manner {
+    /// Whether a cell that is the same in both keeps its symbol, so that it is related still to
+    /// others that have it.
+    pub sharing: Sharing,
+    /// How often what is merged has risen before.
+    pub rises: u32,
+}
+
 /// A merge: a track is made to show what an old one shows too.
 #[derive(Drop)]
 struct Blending<'a> {
-    old: &'a Track,
+    old: Seen<'a>,
     /// The symbols that the track had.
     mine: Symbols,
     /// The symbols that it gets.
     new: Symbols,
-    /// How often what is merged has risen before.
-    rises: u32,
+    manner: Manner,
 }
 
 impl Blending<'_> {
@@ -172,6 +185,34 @@ impl Blending<'_> {
         if theirs == own { Some(own) } else { None }
     }
 
+    /// Whether the cell is the same in both states, and stays so.
+    fn is_shared(&self, old: Cell, mine: Cell) -> bool {
+        old == mine && (mine.factor == 0 || self.manner.sharing == Sharing::Kept)
+    }
+
+    /// Lets a cell that is the same in both states have each value of both.
+    fn share(&mut self, merges: &mut Merges, cell: Cell) -> Result<(), AllocError> {
+        let place = cell.symbol as usize;
+        let old = self.old;
+        let theirs = old.state.ranges.get(place).copied();
+        let own = self.mine.ranges.get(place).copied();
+        let (Some(theirs), Some(own)) = (theirs, own) else {
+            return Ok(());
+        };
+        if cell.factor == 0 || theirs == own {
+            return Ok(());
+        }
+        let range = Range {
+            low: theirs.low.min(own.low),
+            high: theirs.high.max(own.high),
+        };
+        let first = old.origin(cell);
+        let second = self.mine.origin(cell);
+        let origin = merges.origins.computed(first, second)?;
+        self.new.set(place, range, origin);
+        Ok(())
+    }
+
     /// Returns a cell that can be each value of both cells.
     fn cell(
         &mut self,
@@ -180,6 +221,10 @@ impl Blending<'_> {
         mine: Cell,
         name: CellName,
     ) -> Result<Cell, AllocError> {
+        if self.is_shared(old, mine) {
+            self.share(merges, mine)?;
+            return Ok(mine);
+        }
         if let Some(number) = self.common_number(old, mine) {
             return Ok(known(number));
         }
@@ -196,12 +241,12 @@ impl Blending<'_> {
     /// Returns the range of the steps of both cells, widened where it has risen often.
     fn hull(&self, thresholds: &[i64], steps: Steps, old: (i64, i64), mine: (i64, i64)) -> Range {
         let low = if mine.0 < old.0 {
-            widened(thresholds, End::Low, old.0, mine.0, self.rises)
+            widened(thresholds, End::Low, old.0, mine.0, self.manner.rises)
         } else {
             old.0
         };
         let high = if mine.1 > old.1 {
-            widened(thresholds, End::High, old.1, mine.1, self.rises)
+            widened(thresholds, End::High, old.1, mine.1, self.manner.rises)
         } else {
             old.1
         };
@@ -226,7 +271,7 @@ impl Blending<'_> {
         let origin = merges.origins.merged(name, lost_number, theirs, own)?;
         if merges.origins.has_notes() {
             let meeting = Meeting {
-                at: Point::of(&self.old.state),
+                at: Point::of(self.old.state),
                 first: number(old, self.old.state.ranges.as_slice()),
                 second: number(mine, self.mine.ranges.as_slice()),
             };
@@ -253,10 +298,10 @@ impl Blending<'_> {
     fn graphics(&mut self, merges: &mut Merges, track: &mut Track) -> Result<(), AllocError> {
         let old = self.old.state.graphics;
         let mine = track.state.graphics;
-        let rp0 = self.cell(merges, old.rp0, mine.rp0, track.name(Part::Rp0))?;
-        let rp1 = self.cell(merges, old.rp1, mine.rp1, track.name(Part::Rp1))?;
-        let rp2 = self.cell(merges, old.rp2, mine.rp2, track.name(Part::Rp2))?;
-        let name = track.name(Part::Loop);
+        let rp0 = self.cell(merges, old.rp0, mine.rp0, track.seen().name(Part::Rp0))?;
+        let rp1 = self.cell(merges, old.rp1, mine.rp1, track.seen().name(Part::Rp1))?;
+        let rp2 = self.cell(merges, old.rp2, mine.rp2, track.seen().name(Part::Rp2))?;
+        let name = track.seen().name(Part::Loop);
         let loop_number = self.cell(merges, old.loop_number, mine.loop_number, name)?;
         let graphics = &mut track.state.graphics;
         graphics.rp0 = rp0;
@@ -277,8 +322,10 @@ impl Blending<'_> {
         let old = self.old;
         let theirs = old.state.stack.as_slice().iter();
         for (height, (cell, other)) in cells.iter_mut().zip(theirs).enumerate() {
-            if cell.factor != 0 || other.factor != 0 || cell.offset != other.offset {
-                let name = track.element_name(height);
+            if self.is_shared(*other, *cell) {
+                self.share(merges, *cell)?;
+            } else {
+                let name = track.seen().element_name(height);
                 *cell = self.cell(merges, *other, *cell, name)?;
             }
         }
@@ -297,14 +344,14 @@ impl Blending<'_> {
         name: CellName,
     ) -> Result<Option<Cell>, AllocError> {
         let Some(old) = old else {
-            drop_entry(merges, name, mine, Point::of(&self.old.state))?;
+            drop_entry(merges, name, mine, Point::of(self.old.state))?;
             return Ok(None);
         };
         let cell = self.cell(merges, old, mine, name)?;
-        if cell.factor != 0 && is_wide(self.new.range(cell), area.width()) {
-            return Ok(None);
-        }
-        Ok(Some(cell))
+        let is_dropped = self.manner.sharing == Sharing::Dropped
+            && cell.factor != 0
+            && is_wide(self.new.range(cell), area.width());
+        Ok(if is_dropped { None } else { Some(cell) })
     }
 }
 
@@ -347,16 +394,11 @@ fn drop_old_entries(
 ) -> Result<(), AllocError> {
     for (place, entry) in theirs.as_slice().iter().enumerate() {
         if listed_near(mine, place, entry.0).is_none() {
-            let name = track.name(part_of(area, entry.0));
+            let name = track.seen().name(part_of(area, entry.0));
             drop_entry(merges, name, entry.1, Point::of(&track.state))?;
         }
     }
     Ok(())
-}
-
-/// Whether the cells are the same known number.
-fn is_same_number(one: Cell, other: Cell) -> bool {
-    one.factor == 0 && other.factor == 0 && one.offset == other.offset
 }
 
 /// Finds out what becomes of the entries of a memory area, which the track lists.
@@ -373,10 +415,11 @@ fn entry_changes(
     for (place, entry) in mine.as_slice().iter().enumerate() {
         let (number, cell) = *entry;
         let other = listed_near(theirs, place, number);
-        if other.is_some_and(|other| is_same_number(other, cell)) {
+        if other.is_some_and(|other| blending.is_shared(other, cell)) {
+            blending.share(merges, cell)?;
             continue;
         }
-        let name = track.name(part_of(area, number));
+        let name = track.seen().name(part_of(area, number));
         let merged = blending.entry(merges, area, other, cell, name)?;
         changes.push(Change {
             number,
@@ -406,7 +449,7 @@ fn blend_entries(
     area: Area,
 ) -> Result<(), AllocError> {
     let old = blending.old;
-    let (mine, theirs) = (area.of(&track.state), area.of(&old.state));
+    let (mine, theirs) = (area.of(&track.state), area.of(old.state));
     drop_old_entries(merges, track, area, mine, theirs)?;
     let changes = entry_changes(alloc, blending, merges, track, area, mine, theirs)?;
     let state = &mut track.state;
@@ -417,8 +460,8 @@ fn blend_entries(
 }
 
 /// Whether the place of the old track is the later one.
-fn is_later(old: &Track, track: &Track) -> bool {
-    for (theirs, own) in old.levels.as_slice().iter().zip(track.levels.as_slice()) {
+fn is_later(old: &[Level], own: &[Level]) -> bool {
+    for (theirs, own) in old.iter().zip(own) {
         if theirs.turn != own.turn {
             return theirs.turn > own.turn;
         }
@@ -429,36 +472,49 @@ fn is_later(old: &Track, track: &Track) -> bool {
     false
 }
 
-/// Makes a track show what an old one of the same frame shows too, with a symbol for each cell that
-/// isn't a number.
+/// Merges the histories of two states.
+fn blend_histories(old: &History, own: &mut History) -> Result<(), AllocError> {
+    if is_later(old.levels.as_slice(), own.levels.as_slice()) {
+        copy_list(&mut own.levels, old.levels.as_slice())?;
+    }
+    own.add_splits(old.splits.as_slice())
+}
+
+/// Leaves out the symbols that no cell has, where these may be many.
+fn tidy(alloc: Global, track: &mut Track) -> Result<(), AllocError> {
+    let cells = cell_count(&track.state);
+    if track.state.ranges.len() > cells.saturating_mul(2).saturating_add(MOST_SPARE_SYMBOLS) {
+        rename(alloc, track, Sharing::Kept)?;
+    }
+    Ok(())
+}
+
+/// Makes a track show what an old one of the same frame shows too.
 pub(crate) fn blend(
     alloc: Global,
     merges: &mut Merges,
-    old: &Track,
+    old: Seen<'_>,
     track: &mut Track,
-    rises: u32,
+    manner: Manner,
 ) -> Result<(), AllocError> {
+    let mine = Symbols::take(alloc, track);
+    let new = match manner.sharing {
+        Sharing::Kept => mine.copied(alloc)?,
+        Sharing::Dropped => Symbols::new(alloc),
+    };
     let mut blending = Blending {
         old,
-        mine: Symbols::take(alloc, track),
-        new: Symbols::new(alloc),
-        rises,
+        mine,
+        new,
+        manner,
     };
     blending.calls(merges, track)?;
     blending.graphics(merges, track)?;
     blending.stack(alloc, merges, track)?;
     blend_entries(alloc, &mut blending, merges, track, Area::Storage)?;
     blend_entries(alloc, &mut blending, merges, track, Area::Controls)?;
-    if is_later(old, track) {
-        track.levels = Vec::from_slice(alloc, old.levels.as_slice())?;
-    }
-    track.add_splits(old.splits.as_slice())?;
-    let Blending {
-        old: _,
-        mine: _,
-        new,
-        rises: _,
-    } = blending;
+    blend_histories(old.history, &mut track.history)?;
+    let Blending { new, .. } = blending;
     new.put(track);
-    Ok(())
+    tidy(alloc, track)
 }

@@ -41,7 +41,7 @@ impl Symbols {
     pub(crate) fn take(alloc: Global, track: &mut Track) -> Symbols {
         Symbols {
             ranges: mem::replace(&mut track.state.ranges, Vec::new(alloc)),
-            origins: mem::replace(&mut track.origins, Vec::new(alloc)),
+            origins: mem::replace(&mut track.history.origins, Vec::new(alloc)),
         }
     }
 
@@ -49,7 +49,25 @@ impl Symbols {
     pub(crate) fn put(self, track: &mut Track) {
         let Symbols { ranges, origins } = self;
         track.state.ranges = ranges;
-        track.origins = origins;
+        track.history.origins = origins;
+    }
+
+    /// Makes a copy.
+    pub(crate) fn copied(&self, alloc: Global) -> Result<Symbols, AllocError> {
+        Ok(Symbols {
+            ranges: Vec::from_slice(alloc, self.ranges.as_slice())?,
+            origins: Vec::from_slice(alloc, self.origins.as_slice())?,
+        })
+    }
+
+    /// Gives the symbol of this number another range and another origin.
+    pub(crate) fn set(&mut self, place: usize, range: Range, origin: OriginNumber) {
+        if let Some(old) = self.ranges.get_mut(place) {
+            *old = range;
+        }
+        if let Some(old) = self.origins.get_mut(place) {
+            *old = origin;
+        }
     }
 
     /// Adds a symbol, and returns its number.

@@ -9,16 +9,15 @@ use tt_symbolic_check::KnownState;
 pub(crate) fn known_state(
     alloc: Global,
     all: &Origins,
-    track: Box<Track>,
+    track: Track,
 ) -> Result<KnownState, AllocError> {
-    let Track {
-        state,
-        origins: numbers,
-        ..
-    } = Box::into_inner(track);
+    let Track { state, history } = track;
     let mut origins = Vec::new(alloc);
-    for number in numbers.as_slice() {
+    for number in history.origins.as_slice() {
         origins.push(all.symbol_origin(alloc, *number)?)?;
     }
-    Ok(KnownState { state, origins })
+    Ok(KnownState {
+        state: Box::into_inner(state),
+        origins,
+    })
 }

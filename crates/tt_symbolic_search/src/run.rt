@@ -1,38 +1,29 @@
-//! A run of the search: from the starts of a program until nothing waits, or until a state is
-//! refused.
+//! A run of the search: the guide of one walk, from the starts of a program on.
 
-ghost use Rattle.tt_setting.specs.Refusals.{IsOfNoBudget};
-
-use crate::arrivals::{Arrival, Arrivals};
 use crate::blame::culprits;
 use crate::blending::Merges;
 use crate::boxes::{Sharing, rename};
 use crate::cell_names::CellName;
 use crate::known_states::known_state;
 use crate::marks::Marks;
-use crate::origins::{NOWHERE, Origins, of_merges};
-use crate::signature::{Functions, signature};
-use crate::stepping::{Before, Led, step_on};
-use crate::track::Track;
-use crate::waiting::Waiting;
+use crate::origins::{NOWHERE, of_merges};
+use crate::signature::Functions;
+use crate::stepping::{Before, Led, Stepping, after_step, before_step};
+use crate::track::{History, Seen, Track, weight};
+use crate::waiting::{Purpose, Waiting};
 use crate::writes::Writes;
 use std::alloc::{AllocError, Global};
+use std::collections::{HashMap, HashSet};
 use std::mem;
-use tt_code::block_keyword::BlockKeyword;
-use tt_code::{Reason, keyword_of_code};
-use tt_setting::{Failed, Kind, Refusal, Setting, StepFault};
+use tt_code::Reason;
+use tt_setting::{Failed, Kind, Setting, StepFault};
 use tt_symbolic::kept::Kept;
 use tt_symbolic::step::code_at;
 use tt_symbolic_check::{
-    Insight, Question, RefusedState, START, Site, Start, decision_of, is_at_end, lower, raise,
-    start_state, wanted,
+    Guide, Insight, Move, Pool, Question, RefusedState, START, Site, Split, Start, Walk,
+    decision_of, is_at_end, wanted,
 };
-
-/// How many steps a state makes beside another one before it is put down.
-const MOST_CROWDED: u32 = 40;
-
-/// After how many turns of a known number a state is put down.
-const TURNS_TOGETHER: u32 = 1000;
+use tt_symbolic_state::State;
 
 /// How many splits are made before one step at most.
 const MOST_SPLITS: u32 = 4096;
@@ -44,65 +35,20 @@ const MOST_SPARE_SYMBOLS: usize = 256;
 /// How many of the states are kept that come to a site which is asked for.
 const MOST_SEEN: usize = 16;
 
-/// Why a run ends before nothing waits.
-#[derive(Drop)]
-pub(crate) struct Stop {
-    /// Where.
-    place: Site,
-    /// Why.
-    fault: StepFault,
-    /// Cells whose numbers are to be kept apart.
-    pub apart: Vec<CellName>,
-}
+/// How many cells the states may have in all that wait or are kept.
+const MOST_CELLS: usize = 8_000_000;
 
-impl Stop {
-    /// Makes a stop without cells to blame.
-    fn new(alloc: Global, place: Site, fault: StepFault) -> Stop {
-        Stop {
-            place,
-            fault,
-            apart: Vec::new(alloc),
-        }
-    }
-
-    /// Makes the stop of a run for want of memory.
-    pub(crate) fn out_of_memory(alloc: Global, error: AllocError) -> Stop {
-        Stop::new(alloc, START, StepFault::from(error))
-    }
-
-    /// Makes the stop of a run that would need more steps than it may make, or more listed states.
-    pub(crate) fn too_many_steps(alloc: Global) -> Stop {
-        Stop::new(alloc, START, StepFault::from(Reason::TooManySteps))
-    }
-
-    /// Returns the test that failed, if the program is refused.
-    pub(crate) fn failed(&self) -> Option<Failed> {
-        match &self.fault {
-            StepFault::Refused(failed) => Some(*failed),
-            StepFault::OutOfMemory(_) => None,
-        }
-    }
-
-    /// Returns the reason for which the program is refused, if it is.
-    pub(crate) fn reason(&self) -> Option<Reason> {
-        Some(self.failed()?.reason())
-    }
-
-    /// Returns the refusal, of the instruction at its place.
-    pub(crate) fn refusal(self) -> Refusal
-        ensures { IsOfNoBudget result }
-    {
-        self.place.refused(self.fault)
-    }
-}
+/// How many states may wait.
+const MOST_WAITING: usize = 1 << 14;
 
 /// What a run may rely on.
 #[derive(Clone, Copy)]
-pub(crate) struct Task<'a> {
+pub(crate) struct Task<'t, 'm> {
     pub alloc: Global,
-    pub setting: &'a Setting<'a>,
-    pub kept: Kept<'a>,
-    pub apart: &'a [CellName],
+    pub setting: &'t Setting<'t>,
+    /// The entries whose writes are noted, if they are.
+    pub noted: Option<Kept<'t>>,
+    pub apart: &'m [CellName],
     pub widest_compared: i64,
     /// How many steps it may make.
     pub most_steps: u64,
@@ -112,57 +58,109 @@ pub(crate) struct Task<'a> {
     pub question: Option<Question>,
 }
 
-/// The state that is carried on.
-#[derive(Drop)]
-struct Way {
-    track: Box<Track>,
-    /// Whether it waited until now: it isn't put down before it has made a step.
-    is_first: bool,
-    /// Where its last step has led.
-    led: Led,
-    /// How many steps it has made one after the other while another state waited behind it.
-    crowded: u32,
+/// How far the decision is about where a state is put down.
+#[derive(Clone, Copy, Debug, PartialEq, Eq)]
+pub(crate) enum Stage {
+    /// It waited until now.
+    Taken(Purpose),
+    /// It has just made a step.
+    Fresh,
+    /// The head of this signature doesn't cover it.
+    AtHead(u64),
+    /// The one that waits at this place of the list doesn't cover it.
+    AtWaiting(usize),
+    /// It can't be joined with the one that waits there.
+    Alone,
+    /// It was widened, to become the head of this signature, which has risen so often.
+    ToBeHead(u64, u32),
+    /// It isn't put down where it is.
+    Settled,
 }
 
-impl Way {
-    /// Notes that a step was made, and whether another state waits behind this one now.
-    fn count_step(&mut self, waiting: &Waiting) {
-        self.is_first = false;
-        self.crowded = if waiting.has_behind(&self.track) {
-            self.crowded.saturating_add(1)
-        } else {
-            0
-        };
-    }
+/// The state that is carried on.
+#[derive(Drop)]
+pub(crate) struct Way {
+    pub history: Box<History>,
+    stage: Stage,
+    /// Where its last step has led.
+    pub led: Led,
+    /// How many steps it has made one after the other while another state waited behind it: 0 where
+    /// none does.
+    pub crowded: u32,
+    /// How often it was split where it is.
+    splits: u32,
+    /// Whether what isn't needed was left out of it where it is.
+    is_tidied: bool,
+}
+
+/// What becomes of the state that is carried on, if the cover test succeeds that was chosen.
+#[derive(Drop)]
+pub(crate) enum Asked {
+    /// No test was chosen.
+    Nothing,
+    /// It goes no further.
+    GoesNoFurther,
+    /// It is joined with the one that waits at this place of the list; the joined one has this
+    /// history.
+    Joined(usize, Box<History>),
+    /// It has this history, and is otherwise the same.
+    Tidied(Box<History>),
+    /// It has this history, and is to become the head of this signature, which has risen so often.
+    Widened(Box<History>, u64, u32),
+}
+
+/// The head of a loop.
+#[derive(Drop)]
+pub(crate) struct Head {
+    /// Its number in the walk.
+    pub number: usize,
+    /// How often heads of its signature were replaced by wider ones.
+    pub rises: u32,
+    pub history: Box<History>,
+}
+
+/// What a refusal tells.
+#[derive(Drop)]
+pub(crate) struct Stop {
+    /// The test that failed.
+    pub failed: Failed,
+    /// Cells whose numbers are to be kept apart.
+    pub apart: Vec<CellName>,
 }
 
 /// A run of the search.
 #[derive(Drop)]
-pub(crate) struct Run {
-    pub arrivals: Arrivals,
-    marks: Marks,
+pub(crate) struct Run<'t, 'm> {
+    pub task: Task<'t, 'm>,
+    pub merges: &'m mut Merges,
+    writes: &'m mut Writes,
     way: Option<Way>,
+    asked: Asked,
+    pub waiting: Waiting,
+    /// The latest head of each signature.
+    pub heads: HashMap<u64, Head>,
+    /// The signatures of states that came back once, which no head has yet: most of them, those of
+    /// turns that are told apart, come back never again.
+    pub came_back: HashSet<u64>,
+    pub marks: Marks,
+    /// How many cells the heads and the ends have.
+    pub kept_cells: usize,
     before: Before,
-    /// Where a kept entry was first written.
-    pub first_write: Option<Site>,
+    stepping: Option<Stepping>,
     /// How many steps were made: never more than it may make.
     pub steps: u64,
+    /// Whether one more would be needed.
+    is_spent: bool,
+    /// Why the instruction was refused that was refused.
+    pub stop: Option<Stop>,
     /// How many elements the stack had at most.
     depth: usize,
     /// The state before its last step, where the answer is to be explained.
-    last: Option<Box<Track>>,
+    last: Option<Track>,
     /// The first states that came to the site that is asked for.
-    seen: Vec<Box<Track>>,
+    seen: Vec<Track>,
     /// Whether more states came there.
     has_more: bool,
-}
-
-/// Whether an instruction of this code ends the part of an IF or of an ELSE.
-fn is_end_of_if(code: Option<u8>) -> bool {
-    match code {
-        Some(code) => keyword_of_code(code) == BlockKeyword::Eif,
-        None => false,
-    }
 }
 
 /// Whether all starts have the same functions.
@@ -183,25 +181,44 @@ pub(crate) fn told_functions(setting: &Setting<'_>, starts: &[Start]) -> Functio
     }
 }
 
-/// Makes the track of a start.
-fn start_track(alloc: Global, start: &Start) -> Result<Box<Track>, AllocError> {
-    let state = start_state(alloc, start)?;
-    let track = Track::start(alloc, state)?;
-    Ok(Box::new(alloc, track)?)
+/// Whether a state has many symbols that no cell has.
+fn is_untidy(state: &State) -> bool {
+    let most = state.stack.len().saturating_mul(2);
+    state.ranges.len() > most.saturating_add(MOST_SPARE_SYMBOLS)
 }
 
-impl Run {
-    /// Makes a run that has done nothing, in which nothing waits, and which uses the memory of these
-    /// tracks.
-    fn empty(task: &Task<'_>, spare: Vec<Box<Track>>) -> Result<Run, AllocError> {
+impl<'t, 'm> Run<'t, 'm> {
+    /// Makes the run of a walk in which these starts wait, and which uses the memory of these
+    /// histories.
+    pub(crate) fn new(
+        task: Task<'t, 'm>,
+        merges: &'m mut Merges,
+        writes: &'m mut Writes,
+        starts: &[Start],
+        spare: Vec<Box<History>>,
+    ) -> Result<Run<'t, 'm>, AllocError> {
         let alloc = task.alloc;
+        let mut waiting = Waiting::new(alloc, spare);
+        for start in starts {
+            let history = Box::new(alloc, History::start(alloc, start.ranges.len())?)?;
+            waiting.put_start(history)?;
+        }
         Ok(Run {
-            arrivals: Arrivals::new(alloc, task.functions, spare),
-            marks: Marks::new(alloc, task.setting)?,
+            task,
+            merges,
+            writes,
             way: None,
+            asked: Asked::Nothing,
+            waiting,
+            heads: HashMap::new(alloc),
+            came_back: HashSet::new(alloc),
+            marks: Marks::new(alloc, task.setting)?,
+            kept_cells: 0,
             before: Before::new(alloc),
-            first_write: None,
+            stepping: None,
             steps: 0,
+            is_spent: false,
+            stop: None,
             depth: 0,
             last: None,
             seen: Vec::new(alloc),
@@ -209,171 +226,205 @@ impl Run {
         })
     }
 
-    /// Makes a run that has done nothing, in which the starts wait, and which uses the memory of
-    /// these tracks.
-    pub(crate) fn begin(
-        task: &Task<'_>,
-        starts: &[Start],
-        spare: Vec<Box<Track>>,
-    ) -> Result<Run, AllocError> {
-        let mut run = Run::empty(task, spare)?;
-        for start in starts {
-            let track = start_track(task.alloc, start)?;
-            run.arrivals.put_part(task.alloc, track)?;
-        }
-        Ok(run)
+    /// Takes the histories whose memory may be used again.
+    pub(crate) fn take_spare(&mut self) -> Vec<Box<History>> {
+        mem::replace(&mut self.waiting.histories, Vec::new(self.task.alloc))
     }
 
-    /// Whether the state must be put down where it is, since a loop is there that may not end.
-    fn must_arrive(&self, way: &Way) -> bool {
-        if !self.arrivals.waiting.is_empty() {
-            return true;
-        }
-        let turn = way.track.levels.last().map_or(0, |level| level.turn);
-        turn % TURNS_TOGETHER == TURNS_TOGETHER - 1
-            || way
-                .track
-                .state
-                .calls
-                .iter()
-                .any(|call| call.left.factor != 0)
+    /// Makes a copy of a state with its history.
+    pub(crate) fn copied(&mut self, pool: &mut Pool, track: Seen<'_>) -> Result<Track, AllocError> {
+        Ok(Track {
+            state: pool.copied(track.state)?,
+            history: self.waiting.copied(track.history)?,
+        })
     }
 
-    /// Returns how the state arrives where it is, if it may be put down there. The instruction there
-    /// has this code.
-    fn arrival(&self, task: &Task<'_>, way: &Way, code: Option<u8>) -> Option<Arrival> {
-        let state = &way.track.state;
-        if is_at_end(task.setting, state) {
-            return Some(Arrival::AtEnd);
+    /// Takes what is known beside the state that is carried on.
+    fn next_way(&mut self, state: &State) -> Result<Way, AllocError> {
+        if let Some(way) = self.way.take() {
+            return Ok(way);
         }
-        if way.is_first {
-            return None;
-        }
-        if way.led == Led::Back && self.must_arrive(way) {
-            return Some(Arrival::Back);
-        }
-        if self.marks.at(Site::of(state)) {
-            return Some(Arrival::AtListed);
-        }
-        let is_meeting = way.led != Led::On || is_end_of_if(code);
-        if !is_meeting && way.crowded <= MOST_CROWDED {
-            return None;
-        }
-        if self.arrivals.waiting.has_behind(&way.track) {
-            return Some(Arrival::Onward);
-        }
-        None
-    }
-
-    /// Puts the state down, if it is to be put down where it is; otherwise returns it.
-    fn arrive(
-        &mut self,
-        task: &Task<'_>,
-        merges: &mut Merges,
-        way: Way,
-        code: Option<u8>,
-    ) -> Result<Option<Way>, AllocError> {
-        let Some(arrival) = self.arrival(task, &way, code) else {
-            return Ok(Some(way));
+        let alloc = self.task.alloc;
+        let (purpose, history) = match self.waiting.take()? {
+            Some(taken) => taken,
+            None => {
+                let history = History::start(alloc, state.ranges.len())?;
+                (Purpose::Part, Box::new(alloc, history)?)
+            }
         };
-        let signature = signature(&way.track, task.functions, task.apart);
-        if arrival == Arrival::AtListed
-            && !self.arrivals.has(signature)
-            && !self.arrivals.waiting.has_behind(&way.track)
-        {
-            return Ok(Some(way));
-        }
-        let state = &way.track.state;
-        self.marks.set(Site::of(state));
-        let Way { track, .. } = way;
-        self.arrivals
-            .arrive(task.alloc, merges, track, signature, arrival)?;
-        Ok(None)
+        Ok(Way {
+            history,
+            stage: Stage::Taken(purpose),
+            led: Led::On,
+            crowded: 0,
+            splits: 0,
+            is_tidied: false,
+        })
     }
 
-    /// Lets the upper parts of the state wait that an instruction of this code splits off.
-    fn split(&mut self, task: &Task<'_>, track: &mut Track, code: u8) -> Result<(), AllocError> {
-        for _ in 0..MOST_SPLITS {
-            let Some(split) = wanted(code, &track.state, task.widest_compared) else {
-                return Ok(());
-            };
-            let origin = track.origins.get(split.symbol as usize).copied();
-            track.note_split(of_merges(origin.unwrap_or(NOWHERE)))?;
-            let mut upper = self.arrivals.copied(task.alloc, track)?;
-            raise(&mut upper.state, split);
-            lower(&mut track.state, split);
-            self.arrivals.put_part(task.alloc, upper)?;
-        }
-        Ok(())
+    /// Notes what becomes of the state if the cover test of a move succeeds, and how it is carried on
+    /// otherwise. Returns the move.
+    pub(crate) fn ask(&mut self, way: Way, asked: Asked, otherwise: Stage, chosen: Move) -> Move {
+        self.way = Some(Way {
+            stage: otherwise,
+            ..way
+        });
+        self.asked = asked;
+        chosen
     }
 
-    /// Leaves out the symbols that no cell has, where these may be many.
-    fn tidy(&self, task: &Task<'_>, track: &mut Track) -> Result<(), AllocError> {
-        let most = track.state.stack.len().saturating_mul(2);
-        if track.state.ranges.len() > most.saturating_add(MOST_SPARE_SYMBOLS) {
-            rename(task.alloc, track, Sharing::Kept)?;
+    /// Chooses what becomes of the state that is carried on.
+    ///
+    /// # Errors
+    /// `TooManySteps`, where more steps would be needed than may be made, or too much memory.
+    fn chosen(&mut self, walk: &Walk, state: &State, pool: &mut Pool) -> Result<Move, StepFault> {
+        let cells = self.kept_cells.saturating_add(self.waiting.cells);
+        if self.is_spent || cells > MOST_CELLS || self.waiting.len() > MOST_WAITING {
+            return Err(StepFault::from(Reason::TooManySteps));
         }
-        Ok(())
+        let way = self.next_way(state)?;
+        let chosen = match way.stage {
+            Stage::Fresh => self.arrive(walk, state, pool, way),
+            Stage::AtHead(signature) => self.rise(walk, state, pool, way, signature),
+            Stage::AtWaiting(index) => self.join(walk, state, pool, way, index),
+            Stage::Alone => self.stay_alone(state, way),
+            Stage::ToBeHead(signature, rises) => {
+                self.put_down(state, way, Purpose::Head(signature, rises))
+            }
+            Stage::Taken(Purpose::Head(signature, rises)) => {
+                self.become_head(walk, state, way, signature, rises)
+            }
+            Stage::Taken(_) | Stage::Settled => self.go_on(state, pool, way),
+        };
+        Ok(chosen?)
     }
 
-    /// Explains the refusal of a step.
-    fn explained(
-        &self,
-        task: &Task<'_>,
-        merges: &Merges,
-        track: &Track,
-        place: Site,
-        fault: StepFault,
-    ) -> Result<Stop, AllocError> {
-        let mut stop = Stop::new(task.alloc, place, fault);
-        if let Some(reason) = stop.reason() {
-            stop.apart = culprits(
-                task.alloc,
-                &merges.origins,
-                track,
-                &self.before,
-                reason,
-                task.apart,
-            )?;
+    /// Carries the state on where it is: splits it, leaves out what isn't needed, or makes a step.
+    pub(crate) fn go_on(
+        &mut self,
+        state: &State,
+        pool: &mut Pool,
+        way: Way,
+    ) -> Result<Move, AllocError> {
+        let Some(code) = code_at(self.task.setting, state) else {
+            return self.go_out(state, way);
+        };
+        if decision_of(code).is_none() {
+            return self.step(state, pool, way, code);
         }
-        Ok(stop)
+        match wanted(code, state, self.task.widest_compared) {
+            Some(split) if way.splits < MOST_SPLITS => self.split(state, way, split),
+            _ if is_untidy(state) && !way.is_tidied => self.tidy(state, pool, way),
+            _ => self.step(state, pool, way, code),
+        }
+    }
+
+    /// Carries a state on that is at no instruction: to the ends, or to its refusal.
+    fn go_out(&mut self, state: &State, way: Way) -> Result<Move, AllocError> {
+        self.stepping = None;
+        if is_at_end(self.task.setting, state) {
+            self.kept_cells = self.kept_cells.saturating_add(weight(state));
+            self.waiting.spare(way.history)?;
+        } else {
+            self.way = Some(way);
+        }
+        Ok(Move::Go)
+    }
+
+    /// Splits the state: its upper part waits.
+    fn split(&mut self, state: &State, way: Way, split: Split) -> Result<Move, AllocError> {
+        let mut way = way;
+        let origin = way.history.origins.get(split.symbol as usize).copied();
+        way.history
+            .note_split(of_merges(origin.unwrap_or(NOWHERE)))?;
+        way.splits = way.splits.saturating_add(1);
+        let upper = self.waiting.copied(&way.history)?;
+        let track = Seen {
+            state,
+            history: &upper,
+        };
+        let place = self.waiting.place_of(track)?;
+        let index = self
+            .waiting
+            .put(place, Purpose::Part, weight(state), upper)?;
+        Ok(self.ask(
+            way,
+            Asked::Nothing,
+            Stage::Settled,
+            Move::Split(split, index),
+        ))
+    }
+
+    /// Leaves out the symbols that no cell has.
+    fn tidy(&mut self, state: &State, pool: &mut Pool, way: Way) -> Result<Move, AllocError> {
+        let track = Seen {
+            state,
+            history: &way.history,
+        };
+        let mut copy = self.copied(pool, track)?;
+        rename(self.task.alloc, &mut copy, Sharing::Kept)?;
+        let Track { state, history } = copy;
+        let way = Way {
+            is_tidied: true,
+            ..way
+        };
+        Ok(self.ask(
+            way,
+            Asked::Tidied(history),
+            Stage::Settled,
+            Move::Widen(state),
+        ))
+    }
+
+    /// Makes a step of the state, by the instruction of this code.
+    fn step(
+        &mut self,
+        state: &State,
+        pool: &mut Pool,
+        way: Way,
+        code: u8,
+    ) -> Result<Move, AllocError> {
+        let track = Seen {
+            state,
+            history: &way.history,
+        };
+        self.keep(pool, track)?;
+        if let Some(kept) = self.task.noted {
+            if Writes::are_wanted(self.task.setting, state, &kept, code) {
+                self.writes.note(self.task.setting, state, &kept)?;
+            }
+        }
+        let stepping = before_step(self.merges, track, code, &mut self.before)?;
+        self.stepping = Some(stepping);
+        self.way = Some(way);
+        Ok(Move::Go)
     }
 
     /// Keeps the state before its step, as far as an explanation needs it.
-    fn keep(&mut self, task: &Task<'_>, track: &Track) -> Result<(), AllocError> {
-        let Some(question) = task.question else {
+    fn keep(&mut self, pool: &mut Pool, track: Seen<'_>) -> Result<(), AllocError> {
+        let Some(question) = self.task.question else {
             return Ok(());
         };
-        if question.is_on(task.setting.kind, Site::of(&track.state)) {
-            self.see(task.alloc, track)?;
-        }
-        match &mut self.last {
-            Some(last) => last.copy_from(task.alloc, track),
-            None => {
-                self.last = Some(Box::new(task.alloc, track.copied(task.alloc)?)?);
-                Ok(())
+        if question.is_on(self.task.setting.kind, Site::of(track.state)) {
+            if self.seen.len() < MOST_SEEN {
+                let copy = self.copied(pool, track)?;
+                self.seen.push(copy)?;
+            } else {
+                self.has_more = true;
             }
         }
-    }
-
-    /// Keeps a state that came to the site that is asked for, if not many did before.
-    fn see(&mut self, alloc: Global, track: &Track) -> Result<(), AllocError> {
-        if self.seen.len() >= MOST_SEEN {
-            self.has_more = true;
-            return Ok(());
+        let copy = self.copied(pool, track)?;
+        if let Some(last) = self.last.replace(copy) {
+            pool.keep(last.state)?;
         }
-        self.seen.push(Box::new(alloc, track.copied(alloc)?)?)?;
         Ok(())
     }
 
     /// Takes out what is told of the run to explain it: also of the last state, if that was refused
     /// where this test failed.
-    pub(crate) fn insight(
-        &mut self,
-        alloc: Global,
-        origins: &Origins,
-        failed: Option<Failed>,
-    ) -> Result<Insight, AllocError> {
+    pub(crate) fn insight(&mut self, failed: Option<Failed>) -> Result<Insight, AllocError> {
+        let alloc = self.task.alloc;
+        let origins = &self.merges.origins;
         let mut seen = Vec::new(alloc);
         for track in mem::replace(&mut self.seen, Vec::new(alloc)) {
             seen.push(known_state(alloc, origins, track)?)?;
@@ -388,136 +439,118 @@ impl Run {
         Ok(Insight {
             steps: self.steps,
             depth: self.depth,
-            listed: 0,
-            checked: 0,
+            heads: self.heads.len(),
             refused,
             seen,
             has_more: self.has_more,
         })
     }
 
-    /// Makes a step of the state, by the instruction of this code.
-    fn step(
-        &mut self,
-        task: &Task<'_>,
-        merges: &mut Merges,
-        writes: &mut Writes,
-        way: &mut Way,
-        code: Option<u8>,
-    ) -> Result<(), Stop> {
-        let place = Site::of(&way.track.state);
-        self.keep(task, &way.track)
-            .map_err(|error| Stop::out_of_memory(task.alloc, error))?;
-        let track = &mut way.track;
-        let Some(code) = code else {
-            let fault = StepFault::from(Reason::Target);
-            return Err(Stop::new(task.alloc, place, fault));
+    /// Follows a step of the state that is carried on.
+    fn follow(&mut self, state: &State) -> Result<(), AllocError> {
+        let (Some(way), Some(stepping)) = (&mut self.way, &self.stepping) else {
+            return Ok(());
         };
-        if Writes::are_wanted(task.setting, &track.state, &task.kept, code) {
-            let noted = writes.note(task.setting, &track.state, &task.kept);
-            noted.map_err(|error| Stop::out_of_memory(task.alloc, error))?;
-            self.first_write = self.first_write.or(Some(place));
-        }
-        let done = step_on(
-            task.alloc,
-            task.setting,
-            merges,
-            track,
-            code,
-            &mut self.before,
-        );
-        match done {
-            Ok(led) => {
-                way.led = led;
-                self.depth = self.depth.max(way.track.state.stack.len());
+        way.led = after_step(
+            self.task.alloc,
+            self.task.setting,
+            self.merges,
+            state,
+            &mut way.history,
+            stepping,
+            &self.before,
+        )?;
+        way.stage = Stage::Fresh;
+        way.splits = 0;
+        way.is_tidied = false;
+        let track = Seen {
+            state,
+            history: &way.history,
+        };
+        way.crowded = if self.waiting.has_behind(track) {
+            way.crowded.saturating_add(1)
+        } else {
+            0
+        };
+        Ok(())
+    }
+
+    /// Does what was to become of the state that was carried on, as the cover test has succeeded.
+    fn succeed(&mut self, way: Way, asked: Asked) -> Result<(), AllocError> {
+        match asked {
+            Asked::Nothing => self.way = Some(way),
+            Asked::GoesNoFurther => self.waiting.spare(way.history)?,
+            Asked::Joined(index, history) => {
+                self.waiting.exchange(index, history)?;
+                self.waiting.spare(way.history)?;
             }
-            Err(fault) => {
-                let explained = self.explained(task, merges, &way.track, place, fault);
-                return Err(explained.unwrap_or_else(|error| Stop::out_of_memory(
-                    task.alloc, error,
-                )));
+            Asked::Tidied(history) => self.way = Some(Way { history, ..way }),
+            Asked::Widened(history, signature, rises) => {
+                self.way = Some(Way {
+                    history,
+                    stage: Stage::ToBeHead(signature, rises),
+                    ..way
+                });
             }
         }
         Ok(())
     }
+}
 
-    /// Prepares the state for the instruction of this code: splits it, and leaves out what isn't
-    /// needed.
-    fn prepare(
-        &mut self,
-        task: &Task<'_>,
-        track: &mut Track,
-        code: Option<u8>,
-    ) -> Result<(), AllocError> {
-        match code {
-            Some(code) if decision_of(code).is_some() => {
-                self.split(task, track, code)?;
-                self.tidy(task, track)
-            }
-            _ => Ok(()),
+impl Guide for Run<'_, '_> {
+    fn choose(&mut self, walk: &Walk, state: &State, pool: &mut Pool) -> Move {
+        match self.chosen(walk, state, pool) {
+            Ok(chosen) => chosen,
+            Err(fault) => Move::GiveUp(START, fault),
         }
     }
 
-    /// Returns the state that is carried on, or the first that waits.
-    fn next_way(&mut self, alloc: Global) -> Result<Option<Way>, AllocError> {
-        if let Some(way) = self.way.take() {
-            return Ok(Some(way));
+    fn tested(&mut self, covers: bool) -> Result<(), AllocError> {
+        let asked = mem::replace(&mut self.asked, Asked::Nothing);
+        if !covers {
+            return Ok(());
         }
-        let Some(track) = self.arrivals.take(alloc)? else {
-            return Ok(None);
-        };
-        Ok(Some(Way {
-            track,
-            is_first: true,
-            led: Led::On,
-            crowded: 0,
-        }))
+        match self.way.take() {
+            Some(way) => self.succeed(way, asked),
+            None => Ok(()),
+        }
     }
 
-    /// Puts the state down, or returns it once it is prepared for the instruction of this code;
-    /// nothing where the state was put down.
-    fn approach(
-        &mut self,
-        task: &Task<'_>,
-        merges: &mut Merges,
-        way: Way,
-        code: Option<u8>,
-    ) -> Result<Option<Way>, AllocError> {
-        let Some(mut way) = self.arrive(task, merges, way, code)? else {
-            return Ok(None);
-        };
-        self.prepare(task, &mut way.track, code)?;
-        Ok(Some(way))
+    /// After the last step that may be made, one more is only tried: where it is refused, that refusal
+    /// is the one that is told.
+    fn stepped(&mut self, state: &State) -> Result<(), AllocError> {
+        self.follow(state)?;
+        self.depth = self.depth.max(state.stack.len());
+        if self.steps >= self.task.most_steps {
+            self.is_spent = true;
+        } else {
+            self.steps = self.steps.saturating_add(1);
+        }
+        Ok(())
     }
 
-    /// Carries on the state that is on its way, or the first that waits. Returns whether there was
-    /// one. After the last step that may be made, one more is only tried: where it is refused, that
-    /// refusal is the one that is told.
-    pub(crate) fn advance(
-        &mut self,
-        task: &Task<'_>,
-        merges: &mut Merges,
-        writes: &mut Writes,
-    ) -> Result<bool, Stop> {
-        let taken = self
-            .next_way(task.alloc)
-            .map_err(|error| Stop::out_of_memory(task.alloc, error))?;
-        let Some(way) = taken else {
-            return Ok(false);
+    fn refused(&mut self, state: &State, fault: &StepFault) -> Result<(), AllocError> {
+        let StepFault::Refused(failed) = fault else {
+            return Ok(());
         };
-        let code = code_at(task.setting, &way.track.state);
-        let approached = self.approach(task, merges, way, code);
-        let approached = approached.map_err(|error| Stop::out_of_memory(task.alloc, error));
-        let Some(mut way) = approached? else {
-            return Ok(true);
+        let apart = match (&self.way, &self.stepping) {
+            (Some(way), Some(_)) => culprits(
+                self.task.alloc,
+                &self.merges.origins,
+                Seen {
+                    state,
+                    history: &way.history,
+                },
+                &self.before,
+                failed.reason(),
+                self.task.apart,
+            )?,
+            _ => Vec::new(self.task.alloc),
         };
-        self.step(task, merges, writes, &mut way, code)?;
-        if self.steps >= task.most_steps {
-            return Err(Stop::too_many_steps(task.alloc));
-        }
-        self.steps = self.steps.saturating_add(1);
-        way.count_step(&self.arrivals.waiting);
-        self.way = Some(way);
-        Ok(true)
+        self.stop = Some(Stop {
+            failed: *failed,
+            apart,
+        });
+        Ok(())
     }
 }

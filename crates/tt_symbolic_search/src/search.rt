@@ -1,8 +1,10 @@
-//! The search of a font: what was learnt from its programs so far, and the listed states of the next.
+//! The search of a font: what was learnt from its programs so far, and the walks of the next.
 
-ghost use Rattle.std.specs.Prelude.{IfErr};
+ghost use Rattle.std.specs.Prelude.{IfErr, IfOk, IfSome};
 ghost use Rattle.tt_setting.specs.Refusals.{IsOfNoBudget};
+ghost use Rattle.tt_setting.specs.Settings.{setting_of};
 ghost use Rattle.tt_symbolic_check.specs.Answers.{IsAnswerBySymbols};
+ghost use Rattle.tt_symbolic_check.specs.Checked.{AreEnds, IsChecked, IsSafe, KeepsEntries};
 
 use crate::blending::Merges;
 use crate::cell_names::CellName;
@@ -10,15 +12,15 @@ use crate::origins::Origins;
 use crate::run::{Run, Stop, Task, told_functions};
 use crate::starts;
 use crate::thresholds::thresholds;
-use crate::track::Track;
+use crate::track::History;
 use crate::writes::Writes;
 use std::alloc::{AllocError, Global};
 use std::collections::HashMap;
 use std::mem;
 use tt_code::Reason;
-use tt_setting::{Refusal, Setting, StepFault};
-use tt_symbolic::kept::Kept;
-use tt_symbolic_check::{Effort, Insight, Question, Start, too_many_steps};
+use tt_setting::{Failed, Refusal, Setting, StepFault};
+use tt_symbolic::kept::{Kept, NOTHING_KEPT};
+use tt_symbolic_check::{Insight, Pool, Question, Site, Start, check, too_many_steps};
 use tt_symbolic_state::State;
 
 /// How often a program is searched at most, each time with more that was learnt.
@@ -33,29 +35,19 @@ pub const USUAL_SEARCH: Effort = Effort {
     widest_compared: 1 << 16,
 };
 
-/// How many times the steps of the search the check may have, splits and stops counted.
-const CHECKED_AGAIN: u64 = 4;
+/// How many moves a walk may have for each step: splits and stops are moves too.
+const MOVES_PER_STEP: u64 = 1 << 14;
 
-/// How many steps the check may have besides.
-const MORE_CHECKED: u64 = 10_000;
+/// How many moves it may have besides.
+const MORE_MOVES: u64 = 1 << 30;
 
-/// More than the starts that a program may have.
-const STARTS_BOUND: u64 = 1 << 20;
-
-/// What was found for a program.
-pub struct Found {
-    /// The listed states by which the program is to be checked.
-    pub listed: Vec<State>,
-    /// How many steps the check may have, and which comparisons it splits.
-    pub effort: Effort,
-}
-
-// Written out, so that who holds what was found proves in one step that its memory is given back.
-impl Drop for Found {
-    fn drop(self) {
-        let Found { listed, effort: _ } = self;
-        drop(listed);
-    }
+/// How much may be done for a program.
+#[derive(Clone, Copy, Debug, PartialEq, Eq)]
+pub struct Effort {
+    /// How many steps all walks of it may have together.
+    pub steps: u64,
+    /// How many numbers the range of a symbol may have that a comparison splits.
+    pub widest_compared: i64,
 }
 
 /// The search of a font.
@@ -75,8 +67,10 @@ pub struct Search {
     question: Option<Question>,
     /// What is told of the last trial to explain its answer.
     insight: Option<Insight>,
-    /// Tracks of earlier runs that are no longer needed, whose memory is used again.
-    spare: Vec<Box<Track>>,
+    /// States of earlier walks that are no longer needed, whose memory is used again.
+    pool: Pool,
+    /// Their histories.
+    spare: Vec<Box<History>>,
 }
 
 // Written out, so that who holds a search proves in one step that its memory is given back.
@@ -91,6 +85,7 @@ impl Drop for Search {
             steps: _,
             question,
             insight,
+            pool,
             spare,
         } = self;
         drop(alloc);
@@ -99,19 +94,49 @@ impl Drop for Search {
         drop(writes);
         drop(question);
         drop(insight);
+        drop(pool);
         drop(spare);
     }
 }
 
-/// What is searched for a program.
+/// What becomes of a program's trials.
 #[derive(Drop)]
-struct Trial<'a> {
-    setting: &'a Setting<'a>,
-    kept: Kept<'a>,
-    starts: &'a [Start],
+struct Trial {
     effort: Effort,
-    /// Why the last run stopped.
-    has_stopped: Option<Stop>,
+    /// How many steps the search had made before.
+    before: u64,
+    /// What the last walk's refusal tells.
+    stop: Option<Stop>,
+    /// The last refusal from which something was learnt.
+    refused: Option<(Site, Failed)>,
+}
+
+impl Trial {
+    /// Returns the last refusal from which something was learnt.
+    fn last_refusal(&self) -> Refusal
+        ensures { IsOfNoBudget result }
+    {
+        match self.refused {
+            Some((site, failed)) => site.refused(StepFault::Refused(failed)),
+            None => too_many_steps(),
+        }
+    }
+
+    /// Notes a refusal from which something is learnt.
+    fn note_refusal(&mut self, refusal: &Refusal) {
+        if let Refusal::Refused {
+            spot,
+            offset,
+            failed,
+        } = refusal
+        {
+            let site = Site {
+                spot: *spot,
+                offset: *offset,
+            };
+            self.refused = Some((site, *failed));
+        }
+    }
 }
 
 impl Search {
@@ -130,11 +155,12 @@ impl Search {
             steps: 0,
             question: None,
             insight: None,
+            pool: Pool::new(alloc),
             spare: Vec::new(alloc),
         }
     }
 
-    /// Asks that the answers of `find` be explained from now on, or no longer.
+    /// Asks that the answers of `check` be explained from now on, or no longer.
     pub fn ask(&mut self, question: Option<Question>) {
         self.question = question;
     }
@@ -162,43 +188,40 @@ impl Search {
         starts::starts_after(self.alloc, &mut self.merges, ends, &self.writes, apart)
     }
 
-    /// Finds the listed states by which a program that starts in one of these ways is to be checked.
+    /// Searches a program that starts in one of these ways, and checks it: by walks, of which each
+    /// knows more of what is to be kept apart. Returns the states at the main program's end. The
+    /// program writes none of the kept entries.
     ///
     /// # Errors
-    /// `Refused` with the place of an instruction and its reason, where no states were found; with
-    /// `KeptEntry` for one that writes kept entries: `starts_after` leaves these out from now on; with
-    /// `TooManySteps`, at the program's start, where more steps would be needed or too many states
-    /// are listed. `Exhausted`, if memory runs out.
+    /// `Refused` with the place of an instruction and its reason, where a run may fault or not enough is
+    /// known; with `KeptEntry` for one that writes kept entries: `starts_after` leaves these out from
+    /// now on; with `TooManySteps`, at the program's start, where more steps would be needed, or too
+    /// much memory. `Exhausted`, if memory runs out.
     #[tactic(auto, using(tt_symbolic_check::specs::Answers::answered_by_symbols))]
-    pub fn find(
+    pub fn check(
         &mut self,
         setting: &Setting<'_>,
         kept: &Kept<'_>,
         starts: &[Start],
         effort: Effort,
-    ) -> Result<Found, Refusal>
+    ) -> Result<Vec<State>, Refusal>
+        ensures safe { IfOk result (λ ends. IsSafe (setting_of setting.now) starts.now) }
+        ensures kept { IfOk result
+            (λ ends. KeepsEntries (setting_of setting.now) kept.now starts.now) }
+        ensures ends { IfOk result
+            (λ ends. AreEnds (setting_of setting.now) starts.now ends.items) }
         ensures answer { IfErr result (IsAnswerBySymbols setting.now) }
         ensures within { IfErr result IsOfNoBudget }
     {
         self.merges.thresholds = thresholds(self.alloc, setting)?;
         self.apart.retain(|name| name.body.is_some());
         let learnt = self.apart.len();
-        let before = self.steps;
-        let mut trial = Trial {
-            setting,
-            kept: *kept,
-            starts,
-            effort: Effort {
-                widest_compared: effort.widest_compared.max(self.widest),
-                ..effort
-            },
-            has_stopped: None,
-        };
+        let mut trial = self.begin_trials(effort);
         for _ in 0..MOST_TRIALS {
-            match self.try_once(&mut trial, before) {
-                Ok(Some(found)) => {
+            match self.try_once(setting, kept, starts, &mut trial) {
+                Ok(Some(ends)) => {
                     self.widest = trial.effort.widest_compared;
-                    return Ok(found);
+                    return Ok(ends);
                 }
                 Ok(None) => {}
                 Err(refusal) => {
@@ -208,9 +231,19 @@ impl Search {
             }
         }
         self.apart.truncate(learnt);
-        match trial.has_stopped {
-            Some(stop) => Err(stop.refusal()),
-            None => Err(too_many_steps()),
+        Err(trial.last_refusal())
+    }
+
+    /// Begins the trials of a program.
+    fn begin_trials(&self, effort: Effort) -> Trial {
+        Trial {
+            effort: Effort {
+                widest_compared: effort.widest_compared.max(self.widest),
+                ..effort
+            },
+            before: self.steps,
+            stop: None,
+            refused: None,
         }
     }
 
@@ -220,147 +253,145 @@ impl Search {
         self.merges.dropped.clear();
         if self.question.is_some() {
             self.merges.origins.take_notes(self.alloc);
-        }
-    }
-
-    /// Notes what a run tells, where its answer is to be explained.
-    fn note_run(&mut self, run: &mut Run, stop: Option<&Stop>) -> Result<(), AllocError> {
-        if self.question.is_some() {
-            let failed = match stop {
-                Some(stop) if run.first_write.is_none() => stop.failed(),
-                _ => None,
-            };
-            let insight = run.insight(self.alloc, &self.merges.origins, failed)?;
-            self.insight = Some(insight);
-        }
-        Ok(())
-    }
-
-    /// Notes what was found, where that is to be explained.
-    fn note_found(&mut self, found: &Found) {
-        if let Some(insight) = &mut self.insight {
-            if self.question.is_some() {
-                insight.listed = found.listed.len();
-                insight.checked = found.effort.steps;
-            }
-        }
-    }
-
-    /// Takes what was found out of a run that came to its end, and keeps its memory for the next one.
-    fn take_found(&mut self, trial: &Trial<'_>, run: &mut Run) -> Result<Found, AllocError> {
-        let listed = run.arrivals.take_listed(self.alloc)?;
-        self.spare = run.arrivals.take_spare(self.alloc);
-        Ok(Found {
-            listed,
-            effort: Effort {
-                steps: run
-                    .steps
-                    .saturating_mul(CHECKED_AGAIN)
-                    .saturating_add(MORE_CHECKED),
-                ..trial.effort
-            },
-        })
-    }
-
-    /// Searches once. Returns what was found; nothing, where more was learnt.
-    fn try_once(&mut self, trial: &mut Trial<'_>, before: u64) -> Result<Option<Found>, Refusal>
-        ensures { IfErr result IsOfNoBudget }
-    {
-        self.begin_run();
-        if self.question.is_some() {
             self.insight = None;
         }
-        let (mut run, stop) = self.run(trial, before)?;
-        self.note_run(&mut run, stop.as_ref())?;
-        if let Some(place) = run.first_write {
-            return Err(place.refused(StepFault::from(Reason::KeptEntry)));
-        }
-        match stop {
-            None => {
-                let found = self.take_found(trial, &mut run)?;
-                self.note_found(&found);
-                Ok(Some(found))
+    }
+
+    /// Walks a program once. Returns its ends; nothing, where more was learnt.
+    fn try_once(
+        &mut self,
+        setting: &Setting<'_>,
+        kept: &Kept<'_>,
+        starts: &[Start],
+        trial: &mut Trial,
+    ) -> Result<Option<Vec<State>>, Refusal>
+        ensures checked { IfOk result (λ found. IfSome found
+            (λ ends. IsChecked (setting_of setting.now) kept.now starts.now ends.items)) }
+        ensures within { IfErr result IsOfNoBudget }
+    {
+        match self.walk(setting, kept, starts, trial, None) {
+            Ok(ends) => Ok(Some(ends)),
+            Err(refusal) if reason_of(&refusal) == Some(Reason::KeptEntry) => {
+                self.note_writes(setting, kept, starts, trial)?;
+                Err(refusal)
             }
-            Some(stop) => {
-                self.learn(trial, stop)?;
+            Err(refusal) => {
+                self.learn(trial, refusal)?;
                 Ok(None)
             }
         }
     }
 
-    /// Makes a run: until nothing waits, or until it stops.
+    /// Walks a program that writes kept entries once more, to note all of these.
     ///
     /// # Errors
-    /// `TooManySteps`, also where kept entries were written before; `Exhausted`.
-    fn run(&mut self, trial: &Trial<'_>, before: u64) -> Result<(Run, Option<Stop>), Refusal>
+    /// `TooManySteps`; `Exhausted`.
+    fn note_writes(
+        &mut self,
+        setting: &Setting<'_>,
+        kept: &Kept<'_>,
+        starts: &[Start],
+        trial: &mut Trial,
+    ) -> Result<(), Refusal>
         ensures { IfErr result IsOfNoBudget }
     {
-        let used = self.steps.saturating_sub(before);
-        let spare = mem::replace(&mut self.spare, Vec::new(self.alloc));
-        let task = Task {
-            alloc: self.alloc,
-            setting: trial.setting,
-            kept: trial.kept,
-            apart: self.apart.as_slice(),
-            widest_compared: trial.effort.widest_compared,
-            most_steps: trial.effort.steps.saturating_sub(used),
-            functions: told_functions(trial.setting, trial.starts),
-            question: self.question,
-        };
-        let mut run = Run::begin(&task, trial.starts, spare)?;
-        let stop = run_on(&mut run, &task, &mut self.merges, &mut self.writes);
-        self.steps = self.steps.saturating_add(run.steps);
-        match stop {
-            Some(met) if met.reason() == Some(Reason::TooManySteps) => Err(met.refusal()),
-            stop => Ok((run, stop)),
+        match self.walk(setting, &NOTHING_KEPT, starts, trial, Some(*kept)) {
+            Err(refusal) if is_beyond(&refusal) => Err(refusal),
+            _ => Ok(()),
         }
     }
 
-    /// Learns from a stop which cells are to be kept apart, or that all comparisons are to be split.
+    /// Walks a program once; notes the writes of these entries, if they are to be noted.
+    fn walk<'t>(
+        &mut self,
+        setting: &'t Setting<'t>,
+        kept: &Kept<'_>,
+        starts: &[Start],
+        trial: &mut Trial,
+        noted: Option<Kept<'t>>,
+    ) -> Result<Vec<State>, Refusal>
+        ensures checked { IfOk result
+            (λ ends. IsChecked (setting_of setting.now) kept.now starts.now ends.items) }
+        ensures within { IfErr result IsOfNoBudget }
+    {
+        self.begin_run();
+        let used = self.steps.saturating_sub(trial.before);
+        let most_steps = trial.effort.steps.saturating_sub(used);
+        let spare = mem::replace(&mut self.spare, Vec::new(self.alloc));
+        let task = Task {
+            alloc: self.alloc,
+            setting,
+            noted,
+            apart: self.apart.as_slice(),
+            widest_compared: trial.effort.widest_compared,
+            most_steps,
+            functions: told_functions(setting, starts),
+            question: self.question,
+        };
+        let mut run = Run::new(task, &mut self.merges, &mut self.writes, starts, spare)?;
+        let moves = most_steps
+            .saturating_mul(MOVES_PER_STEP)
+            .saturating_add(MORE_MOVES);
+        let pool = &mut self.pool;
+        let answer = check(self.alloc, pool, setting, kept, starts, &mut run, moves);
+        self.steps = self.steps.saturating_add(run.steps);
+        trial.stop = run.stop.take();
+        self.spare = run.take_spare();
+        if self.question.is_some() && !is_final(&answer) {
+            let failed = match (&noted, &trial.stop) {
+                (None, Some(stop)) => Some(stop.failed),
+                _ => None,
+            };
+            self.insight = Some(run.insight(failed)?);
+        }
+        answer
+    }
+
+    /// Learns from a refusal which cells are to be kept apart, or that all comparisons are to be split.
     ///
     /// # Errors
     /// The refusal, where nothing can be learnt from it.
-    fn learn(&mut self, trial: &mut Trial<'_>, stop: Stop) -> Result<(), Refusal>
+    fn learn(&mut self, trial: &mut Trial, refusal: Refusal) -> Result<(), Refusal>
+        requires { IsOfNoBudget refusal }
         ensures { IfErr result IsOfNoBudget }
     {
-        if !stop.apart.is_empty() {
-            self.apart.extend_from_slice(stop.apart.as_slice())?;
-            trial.has_stopped = Some(stop);
-            return Ok(());
+        if let Some(Stop { apart, .. }) = trial.stop.take() {
+            if !apart.is_empty() {
+                self.apart.extend_from_slice(apart.as_slice())?;
+                trial.note_refusal(&refusal);
+                return Ok(());
+            }
         }
-        let is_unknown = stop.reason() == Some(Reason::UnknownOperand);
+        let is_unknown = reason_of(&refusal) == Some(Reason::UnknownOperand);
         if !is_unknown || trial.effort.widest_compared >= WIDEST {
-            return Err(stop.refusal());
+            return Err(refusal);
         }
         trial.effort.widest_compared = WIDEST;
-        trial.has_stopped = Some(stop);
+        trial.note_refusal(&refusal);
         Ok(())
     }
 }
 
-/// Carries on what waits in a run, until nothing does, or until it stops. Returns why it stopped.
-fn run_on(
-    run: &mut Run,
-    task: &Task<'_>,
-    merges: &mut Merges,
-    writes: &mut Writes,
-) -> Option<Stop> {
-    // A state is put down at most once before each step, and once at its end.
-    for _ in 0..task
-        .most_steps
-        .saturating_mul(2)
-        .saturating_add(STARTS_BOUND)
-    {
-        match run.advance(task, merges, writes) {
-            Ok(true) => {}
-            Ok(false) => return None,
-            Err(stop) => return Some(stop),
-        }
-        match run.arrivals.make_room(task.alloc) {
-            Ok(true) => {}
-            Ok(false) => break,
-            Err(error) => return Some(Stop::out_of_memory(task.alloc, error)),
-        }
+/// Returns the reason for which a program is refused, if it is.
+fn reason_of(refusal: &Refusal) -> Option<Reason> {
+    match refusal {
+        Refusal::Refused { failed, .. } => Some(failed.reason()),
+        Refusal::Exhausted(_) => None,
     }
-    Some(Stop::too_many_steps(task.alloc))
+}
+
+/// Whether a walk was too long, or memory ran out.
+fn is_beyond(refusal: &Refusal) -> bool {
+    match reason_of(refusal) {
+        Some(reason) => reason == Reason::TooManySteps,
+        None => true,
+    }
+}
+
+/// Whether nothing is told of a walk that was answered so.
+fn is_final(answer: &Result<Vec<State>, Refusal>) -> bool {
+    match answer {
+        Ok(_) => false,
+        Err(refusal) => is_beyond(refusal),
+    }
 }

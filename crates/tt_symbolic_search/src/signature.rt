@@ -1,7 +1,7 @@
 //! Signatures: states of one signature are merged, others are kept apart.
 
 use crate::cell_names::{CellName, Part};
-use crate::track::Track;
+use crate::track::Seen;
 use tt_symbolic_state::State;
 use tt_symbolic_state::cell::{Cell, bounds};
 use tt_symbolic_state::state::Zone;
@@ -70,19 +70,19 @@ fn mix_functions(hash: u64, state: &State) -> u64 {
 }
 
 /// Returns the height below which the elements of the stack are the main program's own.
-fn main_height(track: &Track) -> usize {
+fn main_height(track: Seen<'_>) -> usize {
     let mut height = track.state.stack.len();
-    for level in 1..track.levels.len() {
-        height = height.min(track.levels[level].base as usize);
+    for level in 1..track.history.levels.len() {
+        height = height.min(track.history.levels[level].base as usize);
     }
     height
 }
 
 /// Returns a hash of the known numbers of the elements of the stack that are the main program's
 /// own, after others.
-fn mix_main_elements(hash: u64, track: &Track) -> u64 {
+fn mix_main_elements(hash: u64, track: Seen<'_>) -> u64 {
     let height = main_height(track);
-    if let Some(noted) = track.noted_hash(height) {
+    if let Some(noted) = track.history.noted_hash(height) {
         return mix(hash, i64::from_ne_bytes(noted.to_ne_bytes()));
     }
     let mut own = 0;
@@ -96,34 +96,34 @@ fn mix_main_elements(hash: u64, track: &Track) -> u64 {
 
 /// Returns a hash of an element that a body has put on the stack, at each of its levels, after
 /// others.
-fn mix_element(hash: u64, track: &Track, body: Option<u32>, place: u32) -> u64 {
+fn mix_element(hash: u64, track: Seen<'_>, body: Option<u32>, place: u32) -> u64 {
     let mut hash = hash;
     let cells = track.state.stack.as_slice();
-    for level in 1..track.levels.len() {
+    for level in 1..track.history.levels.len() {
         if track.body_at(level) != body {
             continue;
         }
-        let end = match track.levels.get(level.saturating_add(1)) {
+        let end = match track.history.levels.get(level.saturating_add(1)) {
             Some(next) => next.base as usize,
             None => cells.len(),
         };
-        let height = (track.levels[level].base as usize).saturating_add(place as usize);
+        let height = (track.history.levels[level].base as usize).saturating_add(place as usize);
         if height < end {
-            hash = mix_cell(hash, &track.state, cells.get(height).copied());
+            hash = mix_cell(hash, track.state, cells.get(height).copied());
         }
     }
     hash
 }
 
 /// Returns a hash of a cell that is kept apart, after others.
-fn mix_apart(hash: u64, track: &Track, name: CellName) -> u64 {
+fn mix_apart(hash: u64, track: Seen<'_>, name: CellName) -> u64 {
     if let Part::Stack(place) = name.part {
         return mix_element(hash, track, name.body, place);
     }
     if name.body != track.body() {
         return hash;
     }
-    let state = &track.state;
+    let state = track.state;
     let cell = match name.part {
         Part::Rp0 => Some(state.graphics.rp0),
         Part::Rp1 => Some(state.graphics.rp1),
@@ -146,8 +146,8 @@ pub(crate) enum Functions {
 }
 
 /// Returns a hash of where a state is, so that only states of the same are merged.
-pub(crate) fn place_signature(track: &Track, functions: Functions) -> u64 {
-    let state = &track.state;
+pub(crate) fn place_signature(track: Seen<'_>, functions: Functions) -> u64 {
+    let state = track.state;
     let depth = i64::try_from(state.stack.len()).unwrap_or(0);
     let here = mix(mix(0, i64::from(state.offset)), depth);
     let hash = mix_zones(mix_calls(here, state), state);
@@ -158,7 +158,7 @@ pub(crate) fn place_signature(track: &Track, functions: Functions) -> u64 {
 }
 
 /// Returns a hash of where a state is, and of what is kept apart.
-pub(crate) fn signature(track: &Track, functions: Functions, apart: &[CellName]) -> u64 {
+pub(crate) fn signature(track: Seen<'_>, functions: Functions, apart: &[CellName]) -> u64 {
     let mut hash = mix_main_elements(place_signature(track, functions), track);
     for name in apart {
         hash = mix_apart(hash, track, *name);

@@ -1,21 +1,26 @@
 //! The starts of glyph programs: what all ends of the CVT program show, without the entries that glyph
 //! programs write.
 
-use crate::blending::{Merges, blend};
+use crate::blending::{Manner, Merges, blend};
 use crate::boxes::{Sharing, rename};
 use crate::cell_names::CellName;
-use crate::inclusion::{have_same_frame, is_within};
 use crate::signature::{Functions, signature};
-use crate::track::Track;
+use crate::track::{History, Track};
 use crate::writes::Writes;
 use std::alloc::{AllocError, Global};
 use tt_setting::SortedMap;
-use tt_symbolic_check::{Start, start_state};
+use tt_symbolic_check::{Start, covers, start_state};
 use tt_symbolic_state::State;
 use tt_symbolic_state::cell::Cell;
 
 /// How many starts are kept apart at most.
 const MOST_STARTS: usize = 8;
+
+/// How starts are merged: each cell gets a symbol of its own.
+const BOXES: Manner = Manner {
+    sharing: Sharing::Dropped,
+    rises: 0,
+};
 
 /// Leaves out the entries with these indexes.
 fn leave_out(entries: &mut SortedMap<Cell>, indexes: &[u16]) {
@@ -32,74 +37,54 @@ fn state_after(alloc: Global, end: &State, writes: &Writes) -> Result<State, All
     start_state(alloc, &start)
 }
 
-/// Starts that are merged where their signatures are the same.
+/// A start, with its signature.
 #[derive(Drop)]
-struct Starts {
-    tracks: Vec<Track>,
-    signatures: Vec<u64>,
+struct Proposed {
+    track: Track,
+    signature: u64,
 }
 
-impl Starts {
-    /// Whether a start is covered already.
-    fn covers(&self, track: &Track) -> bool {
-        for other in self.tracks.iter() {
-            if have_same_frame(&track.state, &other.state, Functions::Untold)
-                && is_within(&track.state, &other.state)
-            {
-                return true;
-            }
-        }
-        false
-    }
-
-    /// Returns the place of a start with which another one is to be merged.
-    fn like(&self, track: &Track, signature: u64) -> Option<usize> {
-        let is_full = self.tracks.len() >= MOST_STARTS;
-        for (place, other) in self.tracks.iter().enumerate() {
-            let is_same = self.signatures.get(place) == Some(&signature);
-            if (is_full || is_same)
-                && have_same_frame(&track.state, &other.state, Functions::Untold)
-            {
-                return Some(place);
-            }
-        }
-        None
-    }
-
-    /// Adds a start, or merges it with another one.
-    fn add(
-        &mut self,
-        alloc: Global,
-        merges: &mut Merges,
-        track: Track,
-        signature: u64,
-    ) -> Result<(), AllocError> {
-        let mut track = track;
-        match self.like(&track, signature) {
-            Some(place) => {
-                if let Some(other) = self.tracks.get_mut(place) {
-                    blend(alloc, merges, other, &mut track, 0)?;
-                    *other = track;
-                }
-                Ok(())
-            }
-            None => {
-                rename(alloc, &mut track, Sharing::Dropped)?;
-                self.tracks.push(track)?;
-                self.signatures.push(signature)?;
-                Ok(())
-            }
+/// Whether a start is covered already.
+fn is_covered(alloc: Global, starts: &[Proposed], state: &State) -> Result<bool, AllocError> {
+    for other in starts {
+        let covered = covers(alloc, state, &other.track.state)?;
+        if covered {
+            return Ok(true);
         }
     }
+    Ok(false)
+}
 
-    /// Makes the list of what the starts show.
-    fn into_list(self, alloc: Global) -> Result<Vec<Start>, AllocError> {
-        let Starts { tracks, .. } = self;
-        let mut list = Vec::new(alloc);
-        for track in tracks {
-            list.push(start_of(track))?;
+/// Returns the place of a start with which one of this signature is to be merged.
+fn like(starts: &[Proposed], signature: u64) -> Option<usize> {
+    if starts.len() >= MOST_STARTS {
+        return Some(0);
+    }
+    starts.iter().position(|other| other.signature == signature)
+}
+
+/// Adds a start, or merges it with another one.
+fn add(
+    alloc: Global,
+    merges: &mut Merges,
+    starts: &mut Vec<Proposed>,
+    track: Track,
+    signature: u64,
+) -> Result<(), AllocError> {
+    let mut track = track;
+    match like(starts.as_slice(), signature) {
+        Some(place) => {
+            if let Some(other) = starts.get_mut(place) {
+                blend(alloc, merges, other.track.seen(), &mut track, BOXES)?;
+                other.track = track;
+            }
+            Ok(())
         }
-        Ok(list)
+        None => {
+            rename(alloc, &mut track, Sharing::Dropped)?;
+            starts.push(Proposed { track, signature })?;
+            Ok(())
+        }
     }
 }
 
@@ -112,7 +97,7 @@ fn start_of(track: Track) -> Start {
         functions,
         ranges,
         ..
-    } = state;
+    } = Box::into_inner(state);
     Start {
         storage,
         controls,
@@ -130,16 +115,21 @@ pub(crate) fn starts_after(
     writes: &Writes,
     apart: &[CellName],
 ) -> Result<Vec<Start>, AllocError> {
-    let mut starts = Starts {
-        tracks: Vec::new(alloc),
-        signatures: Vec::new(alloc),
-    };
+    let mut starts = Vec::new(alloc);
     for end in ends {
-        let track = Track::start(alloc, state_after(alloc, end, writes)?)?;
-        if !starts.covers(&track) {
-            let signature = signature(&track, Functions::Untold, apart);
-            starts.add(alloc, merges, track, signature)?;
+        let state = Box::new(alloc, state_after(alloc, end, writes)?)?;
+        let covered = is_covered(alloc, starts.as_slice(), &state)?;
+        if !covered {
+            let history = Box::new(alloc, History::start(alloc, state.ranges.len())?)?;
+            let track = Track { state, history };
+            let signature = signature(track.seen(), Functions::Untold, apart);
+            add(alloc, merges, &mut starts, track, signature)?;
         }
     }
-    starts.into_list(alloc)
+    let mut list = Vec::new(alloc);
+    for proposed in starts {
+        let Proposed { track, .. } = proposed;
+        list.push(start_of(track))?;
+    }
+    Ok(list)
 }

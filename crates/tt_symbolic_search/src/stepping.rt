@@ -4,15 +4,16 @@ use crate::blending::{Merges, part_of};
 use crate::boxes::Area;
 use crate::origin_notes::Point;
 use crate::origins::{NOWHERE, OriginNumber};
-use crate::track::Track;
+use crate::track::{History, Seen};
 use std::alloc::{AllocError, Global};
 use std::cmp::Ordering;
+use tt_code::block_keyword::BlockKeyword;
 use tt_code::kinds::{Arithmetic, Control, Operand, Pushed, Row, StackOp};
-use tt_code::{Effect, Graphics, Refinement, entry, refinement};
-use tt_setting::{Setting, StepFault};
-use tt_symbolic::step::step;
+use tt_code::{Effect, Graphics, Program, Refinement, entry, keyword_of_code, refinement};
+use tt_setting::{Setting, Spot};
+use tt_symbolic_check::Site;
 use tt_symbolic_state::cell::{Cell, bounds, known, number};
-use tt_symbolic_state::state::Zone;
+use tt_symbolic_state::state::{State, Zone};
 
 /// How many elements most instructions take at most.
 const MOST_TAKEN: usize = 6;
@@ -48,26 +49,26 @@ impl Drop for Before {
 }
 
 /// Returns a count that a cell is, if it isn't too great.
-fn count_of(track: &Track, cell: Option<Cell>) -> usize {
+fn count_of(state: &State, cell: Option<Cell>) -> usize {
     let Some(cell) = cell else {
         return 0;
     };
-    match bounds(cell, track.state.ranges.as_slice()) {
+    match bounds(cell, state.ranges.as_slice()) {
         Some((_, high)) => usize::try_from(high.clamp(0, MOST_COUNTED)).unwrap_or(0),
         None => 0,
     }
 }
 
 /// Returns how many elements a line may take that takes as many as a count says.
-fn taken_by(track: &Track, line: &Row) -> usize {
-    let top = track.state.stack.under(0);
+fn taken_by(state: &State, line: &Row) -> usize {
+    let top = state.stack.under(0);
     match line.operands.last() {
         Some(Operand::LoopPoints(_)) => {
-            let count = count_of(track, Some(track.state.graphics.loop_number));
+            let count = count_of(state, Some(state.graphics.loop_number));
             count.saturating_add(1)
         }
         Some(Operand::PointPairs(_) | Operand::CvtPairs) => {
-            count_of(track, top).saturating_mul(2).saturating_add(1)
+            count_of(state, top).saturating_mul(2).saturating_add(1)
         }
         _ => MOST_TAKEN,
     }
@@ -93,19 +94,19 @@ impl Before {
     }
 
     /// Notes what a state is before a step.
-    fn note(&mut self, track: &Track, effect: &'static Effect) -> Result<(), AllocError> {
+    fn note(&mut self, state: &State, effect: &'static Effect) -> Result<(), AllocError> {
         let count = match effect {
-            Effect::Plain(line) => taken_by(track, line),
+            Effect::Plain(line) => taken_by(state, line),
             _ => MOST_TAKEN,
         };
-        let cells = track.state.stack.as_slice();
+        let cells = state.stack.as_slice();
         let first = cells.len().saturating_sub(count);
         self.taken.clear();
         if let Some(taken) = cells.get(first..) {
             self.taken.extend_from_slice(taken)?;
         }
-        self.graphics = track.state.graphics;
-        self.left = track.state.calls.last().map(|call| call.left);
+        self.graphics = state.graphics;
+        self.left = state.calls.last().map(|call| call.left);
         self.effect = effect;
         Ok(())
     }
@@ -120,7 +121,7 @@ fn takes_one(operation: Arithmetic) -> bool {
 }
 
 /// Returns the origin of what is read at an index.
-fn read_origin(merges: &Merges, track: &Track, area: Area) -> OriginNumber {
+fn read_origin(merges: &Merges, track: Seen<'_>, area: Area) -> OriginNumber {
     let Some(index) = track.state.stack.under(0) else {
         return NOWHERE;
     };
@@ -134,7 +135,7 @@ fn read_origin(merges: &Merges, track: &Track, area: Area) -> OriginNumber {
 }
 
 /// Returns the origin of an element from the top.
-fn element_origin(track: &Track, taken: usize) -> OriginNumber {
+fn element_origin(track: Seen<'_>, taken: usize) -> OriginNumber {
     match track.state.stack.under(taken) {
         Some(cell) => track.origin(cell),
         None => NOWHERE,
@@ -142,13 +143,13 @@ fn element_origin(track: &Track, taken: usize) -> OriginNumber {
 }
 
 /// Returns the origin of a number that is computed from the two upper elements.
-fn origin_of_two(merges: &mut Merges, track: &Track) -> Result<OriginNumber, AllocError> {
+fn origin_of_two(merges: &mut Merges, track: Seen<'_>) -> Result<OriginNumber, AllocError> {
     let second = element_origin(track, 1);
     merges.origins.computed(element_origin(track, 0), second)
 }
 
 /// Returns the origin of what a line pushes, where it pushes a stored number.
-fn stored_origin(merges: &Merges, track: &Track, line: &Row) -> OriginNumber {
+fn stored_origin(merges: &Merges, track: Seen<'_>, line: &Row) -> OriginNumber {
     match line.pushes {
         [Pushed::Stored(_)] => read_origin(merges, track, Area::Storage),
         _ => NOWHERE,
@@ -158,7 +159,7 @@ fn stored_origin(merges: &Merges, track: &Track, line: &Row) -> OriginNumber {
 /// Returns the origin of the symbols that the instruction of this code makes.
 fn origin_of_result(
     merges: &mut Merges,
-    track: &Track,
+    track: Seen<'_>,
     code: u8,
     effect: &Effect,
 ) -> Result<OriginNumber, AllocError> {
@@ -180,13 +181,13 @@ fn origin_of_result(
 }
 
 /// Returns how many elements from the top on the instruction has put there.
-fn put_count(track: &Track, before: &Before) -> usize {
+fn put_count(state: &State, before: &Before) -> usize {
     match before.effect {
         Effect::Plain(line) => line.pushes.len(),
         Effect::Arithmetic(_) => 1,
         Effect::Stack(StackOp::Swap) => 2,
         Effect::Stack(StackOp::Roll) => 3,
-        Effect::Stack(StackOp::MoveIndexed) => count_of(track, before.taken.last().copied()),
+        Effect::Stack(StackOp::MoveIndexed) => count_of(state, before.taken.last().copied()),
         _ => 0,
     }
 }
@@ -196,80 +197,134 @@ fn put_count(track: &Track, before: &Before) -> usize {
 pub(crate) enum Led {
     /// On.
     On,
-    /// To where other ways may meet: after a call, to a next turn of a known number of turns, or by a
-    /// jump.
+    /// To where other ways may meet: behind an EIF, after a call, to a next turn of a known number of
+    /// turns, or by a jump.
     ToMeeting,
     /// Back, to the next turn of an unknown number of turns, or by a jump.
     Back,
 }
 
+/// What is known of a step before it is made.
+#[derive(Clone, Copy)]
+pub(crate) struct Stepping {
+    /// The code of the instruction.
+    code: u8,
+    /// Where it is.
+    at: Point,
+    /// How many calls hadn't returned.
+    depth: usize,
+    /// The origin of the symbols that it makes.
+    origin: OriginNumber,
+}
+
+/// Returns the program that a spot names.
+fn program_of<'a>(setting: &Setting<'a>, spot: Spot) -> &'a Program<'a> {
+    match spot {
+        Spot::Main => setting.main,
+        Spot::Font => setting.font,
+        Spot::Prep => setting.prep,
+    }
+}
+
+/// Whether the state is behind an EIF.
+fn is_behind_end_of_if(setting: &Setting<'_>, state: &State) -> bool {
+    let site = Site::of(state);
+    let Some(before) = site.offset.checked_sub(1) else {
+        return false;
+    };
+    match program_of(setting, site.spot).at(before) {
+        Some(instr) => keyword_of_code(instr.code()) == BlockKeyword::Eif,
+        None => false,
+    }
+}
+
 /// Follows what a control instruction did to the calls: where it has led.
 fn follow(
     alloc: Global,
-    track: &mut Track,
+    setting: &Setting<'_>,
+    state: &State,
+    history: &mut History,
     control: Control,
-    depth: usize,
-    offset: u32,
+    stepping: &Stepping,
 ) -> Result<Led, AllocError> {
-    match track.state.calls.len().cmp(&depth) {
+    match state.calls.len().cmp(&stepping.depth) {
         Ordering::Greater => {
-            track.go_in(alloc)?;
+            history.go_in(alloc, state.stack.as_slice())?;
             Ok(Led::On)
         }
         Ordering::Less => {
-            track.come_back();
+            history.come_back();
             Ok(Led::ToMeeting)
         }
-        Ordering::Equal => Ok(follow_here(track, control, offset)),
+        Ordering::Equal => Ok(follow_here(setting, state, history, control, stepping.at.offset)),
     }
 }
 
 /// Follows a control instruction that opened and closed no call, or began a turn.
-fn follow_here(track: &mut Track, control: Control, offset: u32) -> Led {
+fn follow_here(
+    setting: &Setting<'_>,
+    state: &State,
+    history: &mut History,
+    control: Control,
+    offset: u32,
+) -> Led {
     match control {
         Control::EndFunction => {
-            track.count_turn();
-            match track.state.calls.last() {
+            history.count_turn();
+            match state.calls.last() {
                 Some(call) if call.left.factor != 0 => Led::Back,
                 _ => Led::ToMeeting,
             }
         }
         Control::Jump | Control::JumpIfTrue | Control::JumpIfFalse => {
-            if track.state.offset > offset {
+            if state.offset > offset {
                 return Led::ToMeeting;
             }
-            track.count_turn();
+            history.count_turn();
             Led::Back
         }
+        Control::If | Control::Else if is_behind_end_of_if(setting, state) => Led::ToMeeting,
         _ => Led::On,
     }
 }
 
-/// Carries out the instruction of this code, at which the track is.
-pub(crate) fn step_on(
+/// Notes what a state is before a step by the instruction of this code.
+pub(crate) fn before_step(
+    merges: &mut Merges,
+    track: Seen<'_>,
+    code: u8,
+    before: &mut Before,
+) -> Result<Stepping, AllocError> {
+    let effect = entry(code);
+    before.note(track.state, effect)?;
+    Ok(Stepping {
+        code,
+        at: Point::of(track.state),
+        depth: track.state.calls.len(),
+        origin: origin_of_result(merges, track, code, effect)?,
+    })
+}
+
+/// Follows a step that was made: where it has led.
+pub(crate) fn after_step(
     alloc: Global,
     setting: &Setting<'_>,
     merges: &mut Merges,
-    track: &mut Track,
-    code: u8,
-    before: &mut Before,
-) -> Result<Led, StepFault> {
-    let effect = entry(code);
-    before.note(track, effect)?;
-    let origin = origin_of_result(merges, track, code, effect)?;
-    let depth = track.state.calls.len();
-    let at = Point::of(&track.state);
-    step(setting, &mut track.state)?;
-    let symbols = track.state.ranges.len();
-    if symbols > track.origins.len() {
-        let made = merges.origins.made(origin, at)?;
-        track.origins.resize(symbols, made)?;
+    state: &State,
+    history: &mut History,
+    stepping: &Stepping,
+    before: &Before,
+) -> Result<Led, AllocError> {
+    let symbols = state.ranges.len();
+    if symbols > history.origins.len() {
+        let made = merges.origins.made(stepping.origin, stepping.at)?;
+        history.origins.resize(symbols, made)?;
     }
-    let height = track.state.stack.len();
-    let put = put_count(track, before);
-    track.touch(height.saturating_sub(put));
-    match effect {
-        Effect::Control(control) => Ok(follow(alloc, track, *control, depth, at.offset)?),
+    let put = put_count(state, before);
+    history.touch(state.stack.len().saturating_sub(put));
+    match before.effect {
+        Effect::Control(control) => follow(alloc, setting, state, history, *control, stepping),
+        _ if keyword_of_code(stepping.code) == BlockKeyword::Eif => Ok(Led::ToMeeting),
         _ => Ok(Led::On),
     }
 }

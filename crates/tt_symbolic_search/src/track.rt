@@ -1,11 +1,10 @@
-//! A state on its way, with what the search knows beside it.
+//! The history of a state on its way, as far as the search needs it.
 
 use crate::cell_names::{CellName, Part};
 use crate::origins::{NOWHERE, OriginNumber, origin_in};
 use crate::signature::mix;
 use std::alloc::{AllocError, Global};
 use std::rc::Rc;
-use tt_symbolic_check::{copied, copy_into};
 use tt_symbolic_state::State;
 use tt_symbolic_state::cell::Cell;
 
@@ -21,11 +20,13 @@ pub(crate) struct Level {
     pub base: u32,
 }
 
-/// A state on its way.
+/// Where a state is in the order of the program: for the main program and each call, how many turns
+/// it has seen, and at which offset it is.
+pub(crate) type Progress = Vec<(u32, u32)>;
+
+/// The history of a state, as far as the search needs it.
 #[derive(Drop)]
-pub(crate) struct Track {
-    /// The state.
-    pub state: State,
+pub(crate) struct History {
     /// The origin of each symbol.
     pub origins: Vec<OriginNumber>,
     /// The main program, then each call that hasn't returned.
@@ -33,29 +34,41 @@ pub(crate) struct Track {
     /// The origins of the symbols that were split, the latest last.
     pub splits: Vec<OriginNumber>,
     /// A hash of the known numbers below each height of the stack.
-    pub hashes: Rc<Vec<u64>>,
+    hashes: Rc<Vec<u64>>,
     /// Up to which height these are right.
-    pub hashed: usize,
+    hashed: usize,
 }
 
-/// Where a state is in the order of the program: for the main program and each call, how many turns
-/// it has seen, and at which offset it is.
-pub(crate) type Progress = Vec<(u32, u32)>;
+/// A state with its history.
+#[derive(Drop)]
+pub(crate) struct Track {
+    /// The state.
+    pub state: Box<State>,
+    /// Its history.
+    pub history: Box<History>,
+}
+
+/// The same, lent.
+#[derive(Clone, Copy)]
+pub(crate) struct Seen<'a> {
+    /// The state.
+    pub state: &'a State,
+    /// Its history.
+    pub history: &'a History,
+}
 
 /// Makes a list the same as another one, in the memory that it has, where that is enough.
-fn copy_list<T: Copy>(list: &mut Vec<T>, other: &[T]) -> Result<(), AllocError> {
+pub(crate) fn copy_list<T: Copy>(list: &mut Vec<T>, other: &[T]) -> Result<(), AllocError> {
     list.clear();
     list.extend_from_slice(other)
 }
 
-impl Track {
-    /// Makes the track of a state in which a program starts.
-    pub(crate) fn start(alloc: Global, state: State) -> Result<Track, AllocError> {
-        let origins = vec![in alloc; NOWHERE; state.ranges.len()]?;
+impl History {
+    /// Makes the history of a state in which a program starts, and which has so many symbols.
+    pub(crate) fn start(alloc: Global, symbols: usize) -> Result<History, AllocError> {
         let level = Level { turn: 0, base: 0 };
-        Ok(Track {
-            state,
-            origins,
+        Ok(History {
+            origins: vec![in alloc; NOWHERE; symbols]?,
             levels: vec![in alloc; level]?,
             splits: Vec::new(alloc),
             hashes: Rc::new(alloc, Vec::new(alloc))?,
@@ -64,9 +77,8 @@ impl Track {
     }
 
     /// Makes a copy.
-    pub(crate) fn copied(&self, alloc: Global) -> Result<Track, AllocError> {
-        Ok(Track {
-            state: copied(alloc, &self.state)?,
+    pub(crate) fn copied(&self, alloc: Global) -> Result<History, AllocError> {
+        Ok(History {
             origins: Vec::from_slice(alloc, self.origins.as_slice())?,
             levels: Vec::from_slice(alloc, self.levels.as_slice())?,
             splits: Vec::from_slice(alloc, self.splits.as_slice())?,
@@ -75,57 +87,14 @@ impl Track {
         })
     }
 
-    /// Becomes a copy of another one, in the memory that it has, where that is enough.
-    pub(crate) fn copy_from(&mut self, alloc: Global, other: &Track) -> Result<(), AllocError> {
-        copy_into(alloc, &other.state, &mut self.state)?;
+    /// Becomes a copy of others, in the memory that it has, where that is enough.
+    pub(crate) fn copy_from(&mut self, other: &History) -> Result<(), AllocError> {
         copy_list(&mut self.origins, other.origins.as_slice())?;
         copy_list(&mut self.levels, other.levels.as_slice())?;
         copy_list(&mut self.splits, other.splits.as_slice())?;
         self.hashes = other.hashes.clone()?;
         self.hashed = other.hashed;
         Ok(())
-    }
-
-    /// Returns where it is at a level, if it has that many.
-    fn place_at(&self, level: usize) -> Option<(u32, u32)> {
-        let turn = self.levels.get(level)?.turn;
-        match self.state.calls.get(level) {
-            Some(call) => Some((turn, call.call)),
-            None => Some((turn, self.state.offset)),
-        }
-    }
-
-    /// Makes a place the one where it is, in the memory that the place has, where that is enough.
-    pub(crate) fn put_place(&self, place: &mut Progress) -> Result<(), AllocError> {
-        place.clear();
-        for level in 0..self.levels.len() {
-            if let Some(step) = self.place_at(level) {
-                place.push(step)?;
-            }
-        }
-        Ok(())
-    }
-
-    /// Whether a place comes before the one where it is, or is the same.
-    pub(crate) fn is_at_or_after(&self, place: &[(u32, u32)]) -> bool {
-        for level in 0..place.len() {
-            let theirs = place[level];
-            let Some(own) = self.place_at(level) else {
-                return false;
-            };
-            if theirs < own {
-                return true;
-            }
-            if own < theirs {
-                return false;
-            }
-        }
-        true
-    }
-
-    /// Returns the origin of a cell's symbol.
-    pub(crate) fn origin(&self, cell: Cell) -> OriginNumber {
-        origin_in(self.origins.as_slice(), cell)
     }
 
     /// Remembers that a symbol of this origin was split.
@@ -161,46 +130,7 @@ impl Track {
         }
     }
 
-    /// Returns the name of the innermost body; none in the main program.
-    pub(crate) fn body(&self) -> Option<u32> {
-        let call = self.state.calls.last()?;
-        Some(call.body)
-    }
-
-    /// Returns the body of a level; none for the main program.
-    pub(crate) fn body_at(&self, level: usize) -> Option<u32> {
-        let call = self.state.calls.get(level.checked_sub(1)?)?;
-        Some(call.body)
-    }
-
-    /// Returns the name of a cell of the innermost body's states.
-    pub(crate) fn name(&self, part: Part) -> CellName {
-        CellName {
-            body: self.body(),
-            part,
-        }
-    }
-
-    /// Returns the name of the element at a height of the stack.
-    pub(crate) fn element_name(&self, height: usize) -> CellName {
-        let height = u32::try_from(height).unwrap_or(u32::MAX);
-        let mut name = CellName {
-            body: None,
-            part: Part::Stack(height),
-        };
-        for level in 1..self.levels.len() {
-            let base = self.levels[level].base;
-            if base <= height {
-                name = CellName {
-                    body: self.body_at(level),
-                    part: Part::Stack(height - base),
-                };
-            }
-        }
-        name
-    }
-
-    /// Notes that all elements of the stack below a height are as they were.
+    /// History that all elements of the stack below a height are as they were.
     pub(crate) fn touch(&mut self, height: usize) {
         self.hashed = self.hashed.min(height);
         let Ok(low) = u32::try_from(height) else {
@@ -219,9 +149,8 @@ impl Track {
         self.hashes.get(height).copied()
     }
 
-    /// Notes a hash of the known numbers below each height of the stack.
-    fn note_hashes(&mut self, alloc: Global) -> Result<(), AllocError> {
-        let cells = self.state.stack.as_slice();
+    /// History a hash of the known numbers below each height of the stack.
+    fn note_hashes(&mut self, alloc: Global, cells: &[Cell]) -> Result<(), AllocError> {
         let mut hashes = Vec::with_capacity(alloc, cells.len().saturating_add(1))?;
         let mut hash = 0;
         hashes.push(hash)?;
@@ -236,11 +165,11 @@ impl Track {
         Ok(())
     }
 
-    /// Goes into a call that was just opened.
-    pub(crate) fn go_in(&mut self, alloc: Global) -> Result<(), AllocError> {
-        let depth = self.state.stack.len();
+    /// Goes into a call that was just opened, with these elements on the stack.
+    pub(crate) fn go_in(&mut self, alloc: Global, cells: &[Cell]) -> Result<(), AllocError> {
+        let depth = cells.len();
         if self.levels.len() == 1 && self.noted_hash(depth).is_none() {
-            self.note_hashes(alloc)?;
+            self.note_hashes(alloc, cells)?;
         }
         let base = u32::try_from(depth).unwrap_or(u32::MAX);
         self.levels.push(Level { turn: 0, base })?;
@@ -259,5 +188,111 @@ impl Track {
         if let Some(level) = self.levels.last_mut() {
             level.turn = level.turn.saturating_add(1);
         }
+    }
+}
+
+impl Track {
+    /// Lends the state with its history.
+    pub(crate) fn seen(&self) -> Seen<'_> {
+        Seen {
+            state: &self.state,
+            history: &self.history,
+        }
+    }
+}
+
+/// How many cells the rest of a state is counted as.
+const CELLS_OF_STATE: usize = 32;
+
+/// Returns how many cells a state has, roughly, with what is known beside it.
+pub(crate) fn weight(state: &State) -> usize {
+    cell_count(state).saturating_add(CELLS_OF_STATE)
+}
+
+/// Returns how many cells a state has, but for those of the graphics state and the calls.
+pub(crate) fn cell_count(state: &State) -> usize {
+    state
+        .stack
+        .len()
+        .saturating_add(state.storage.as_slice().len())
+        .saturating_add(state.controls.as_slice().len())
+}
+
+impl Seen<'_> {
+    /// Returns where it is at a level, if it has that many.
+    fn place_at(self, level: usize) -> Option<(u32, u32)> {
+        let turn = self.history.levels.get(level)?.turn;
+        match self.state.calls.get(level) {
+            Some(call) => Some((turn, call.call)),
+            None => Some((turn, self.state.offset)),
+        }
+    }
+
+    /// Makes a place the one where it is, in the memory that the place has, where that is enough.
+    pub(crate) fn put_place(self, place: &mut Progress) -> Result<(), AllocError> {
+        place.clear();
+        for level in 0..self.history.levels.len() {
+            if let Some(step) = self.place_at(level) {
+                place.push(step)?;
+            }
+        }
+        Ok(())
+    }
+
+    /// Whether a place comes before the one where it is, or is the same.
+    pub(crate) fn is_at_or_after(self, place: &[(u32, u32)]) -> bool {
+        for (level, theirs) in place.iter().enumerate() {
+            let Some(own) = self.place_at(level) else {
+                return false;
+            };
+            if *theirs != own {
+                return *theirs < own;
+            }
+        }
+        true
+    }
+
+    /// Returns the origin of a cell's symbol.
+    pub(crate) fn origin(self, cell: Cell) -> OriginNumber {
+        origin_in(self.history.origins.as_slice(), cell)
+    }
+
+    /// Returns the name of the innermost body; none in the main program.
+    pub(crate) fn body(self) -> Option<u32> {
+        let call = self.state.calls.last()?;
+        Some(call.body)
+    }
+
+    /// Returns the body of a level; none for the main program.
+    pub(crate) fn body_at(self, level: usize) -> Option<u32> {
+        let call = self.state.calls.get(level.checked_sub(1)?)?;
+        Some(call.body)
+    }
+
+    /// Returns the name of a cell of the innermost body's states.
+    pub(crate) fn name(self, part: Part) -> CellName {
+        CellName {
+            body: self.body(),
+            part,
+        }
+    }
+
+    /// Returns the name of the element at a height of the stack.
+    pub(crate) fn element_name(self, height: usize) -> CellName {
+        let height = u32::try_from(height).unwrap_or(u32::MAX);
+        let mut name = CellName {
+            body: None,
+            part: Part::Stack(height),
+        };
+        for level in 1..self.history.levels.len() {
+            let base = self.history.levels[level].base;
+            if base <= height {
+                name = CellName {
+                    body: self.body_at(level),
+                    part: Part::Stack(height - base),
+                };
+            }
+        }
+        name
     }
 }

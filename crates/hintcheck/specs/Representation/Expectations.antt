@@ -64,7 +64,7 @@ pub record NotesScan (options : ScanOptions) (names : List (List ℕ)) (status :
     (old new : Option (List ℕ)) (before after : Expected) : Type 0 where
   pub scanned : List Scanned
   pub names_are : map (λ s. s.name) scanned ≡ names
-  pub answers : All (λ s. IsAnswer options.profile options.budget s.answer) scanned
+  pub answers : All (λ s. IsAnswer options.profile s.answer) scanned
   pub told : All (λ s. HasTold options.format options.profile s.answer s.told) scanned
   pub greatest : status ≡ greatest_status options.fail_on scanned
   pub written : Appends old new (flat_map (text_of options) scanned)

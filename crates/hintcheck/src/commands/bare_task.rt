@@ -2,15 +2,16 @@
 //! digits.
 
 ghost use Rattle.std.specs.Prelude.{◌≡◌, ◌≢◌, ◌<◌, IfErr, IfOk, None, Ok, OnOk, option_map, string_bytes, unwrap_or, []};
+ghost use Rattle.hintcheck_words.specs.Requests.{points_of};
 ghost use Rattle.hintcheck.specs.Commands.{IsNoWriteFault};
 ghost use Rattle.hintcheck.specs.CommandFaults.{IsFaultOfGlyph, IsWithin, SpellNoFault};
 ghost use Rattle.hintcheck.specs.MeansSafe.{SpellRefusedBy, SpellSafeBy, SpellVerdictBy};
 
 use super::faults::CommandFault;
-use hintcheck_fonts::bare_program::{bare, bare_within};
-use hintcheck_fonts::report::Verdict;
 use hintcheck_fonts::symbolic_bare::bare_symbolic_within;
 use hintcheck_fonts::symbolic_verdict::USUAL_STEPS;
+use hintcheck_programs::bare_program::{bare, bare_within};
+use hintcheck_programs::report::Verdict;
 use hintcheck_report::AnswerFault;
 use hintcheck_words::{Profile, word_bytes};
 use std::alloc::Global;
@@ -28,13 +29,10 @@ pub(super) struct BareWords<'a> {
     pub program: &'a str,
 }
 
-/// Returns the verdict of a profile on one glyph program against the limits of a `maxp` table. The
-/// strict one makes at most this many points, and the search of the symbolic one this many steps,
-/// where they are bounded.
+/// Returns the verdict of a profile on one glyph program against the limits of a `maxp` table.
 pub(super) fn bare_verdict(
     alloc: Global,
     words: BareWords<'_>,
-    budget: Option<u64>,
     profile: Profile,
 ) -> Result<Verdict, CommandFault>
     ensures safe { IfOk result (λ verdict. verdict.refused ≡ []
@@ -47,7 +45,7 @@ pub(super) fn bare_verdict(
         words.entry.points words.entry.contours words.entry.program.now) }
     ensures fault { IfErr result IsNoWriteFault }
     ensures faults { IfErr result (λ fault. IsFaultOfGlyph
-        words.entry.maxp.now words.entry.program.now fault × IsWithin budget fault) }
+        words.entry.maxp.now words.entry.program.now fault × IsWithin (points_of profile) fault) }
     ensures none { OnOk result (SpellNoFault words.entry.maxp.now words.entry.program.now) }
 {
     let maxp = word_bytes(alloc, words.maxp).map_err(|fault| CommandFault::of_word(
@@ -64,9 +62,11 @@ pub(super) fn bare_verdict(
         contours,
         ..
     } = words;
-    match (profile, budget) {
-        (Profile::Strict, None) => Ok(bare(alloc, &maxp, cvt, points, contours, &program)?),
-        (Profile::Strict, Some(most)) => {
+    match profile {
+        Profile::Strict { points: None } => {
+            Ok(bare(alloc, &maxp, cvt, points, contours, &program)?)
+        }
+        Profile::Strict { points: Some(most) } => {
             let mut budget = Budget::of(most);
             match bare_within(alloc, &maxp, cvt, points, contours, &program, &mut budget) {
                 Ok(verdict) => Ok(verdict),
@@ -74,8 +74,8 @@ pub(super) fn bare_verdict(
                 Err(fault) => Err(CommandFault::from(fault.into_font_fault())),
             }
         }
-        (Profile::Symbolic, budget) => {
-            let steps = budget.unwrap_or(USUAL_STEPS);
+        Profile::Symbolic { steps } => {
+            let steps = steps.unwrap_or(USUAL_STEPS);
             Ok(bare_symbolic_within(alloc, &maxp, cvt, points, contours, &program, steps)?)
         }
     }

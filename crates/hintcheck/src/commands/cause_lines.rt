@@ -12,7 +12,7 @@ use super::faults::CommandFault;
 use super::scan_task::text_of_class;
 use crate::causes::{Cause, causes_of};
 use crate::glyph_names::called;
-use hintcheck_fonts::report::{Name, Place, Refused};
+use hintcheck_programs::report::{Name, Place, Refused};
 use std::alloc::Global;
 use tt_names::GlyphNames;
 use tt_stream::{PrintFailed, Sink};

@@ -1,18 +1,18 @@
 //! The subcommand `check`: the verdict on a font file by its certificate.
 
 ghost use Rattle.std.specs.Prelude.{◌≡◌, ◌+◌, IfErr, IfOk, IfSome, List, Err, Ok, length, ℕ, []};
-ghost use Rattle.hintcheck_fonts.specs.Certificates.{IsChecked};
+ghost use Rattle.hintcheck_certificates.specs.Certificates.{IsChecked};
 ghost use Rattle.hintcheck.specs.Commands.{AtForm, IsNoWriteFault};
 ghost use Rattle.hintcheck.specs.CommandFaults.{IsFaultOfCheck, IsFaultOfChecking, IsWithin};
-ghost use Rattle.hintcheck_fonts.specs.FontPrograms.{IsFontInRange, IsSafeFont};
+ghost use Rattle.hintcheck_programs.specs.FontPrograms.{IsFontInRange, IsSafeFont};
 ghost use Rattle.hintcheck.specs.MeansSafe.{HoldFont, IsCheckOn};
 ghost use Rattle.hintcheck_fonts.specs.FontAnswers.{HoldSafeFont};
 
 use super::faults::CommandFault;
 use super::files::{file_bytes, of_certificate, opened};
 use crate::font_file::font_in;
-use hintcheck_fonts::font_check::check_read_font;
-use hintcheck_fonts::report::Verdict;
+use hintcheck_certificates::font_check::check_read_font;
+use hintcheck_programs::report::Verdict;
 use std::alloc::Global;
 use std::io::Read;
 use std::rt::Files;

@@ -10,7 +10,7 @@ use super::faults::{CommandFault, Unopened};
 use super::files::{file_numbers, is_same_file, opened};
 use super::known_refusals::{line_of, read_lines, write_text};
 use super::{ACCEPTED, REFUSED};
-use hintcheck_fonts::report::Refused;
+use hintcheck_programs::report::Refused;
 use hintcheck_words::FailOn;
 use std::alloc::Global;
 use std::collections::HashSet;

@@ -3,6 +3,7 @@
 
 ghost use Rattle.std.specs.Prelude.{◌≡◌, ◌≤◌, ◌++◌, codes, IfErr, IfOk, List, OnOk, ℕ};
 ghost use Rattle.std.specs.Io.KnownBytes.{Appends};
+ghost use Rattle.hintcheck_words.specs.Requests.{points_of};
 ghost use Rattle.hintcheck.specs.CauseAnswers.{PrintsCauses, PrintsCausesOf};
 ghost use Rattle.hintcheck.specs.CommandFaults.{IsEndOfWork, IsFaultOfFontCauses, IsFaultOfPrinting, IsWithin};
 ghost use Rattle.hintcheck.specs.Commands.{TellsFailure};
@@ -15,7 +16,7 @@ use super::verdict_lines::print_last_line;
 use super::{ACCEPTED, REFUSED};
 use crate::explanation::{ExplainRequest, explain_word};
 use crate::font_file::verdict_in_budget;
-use hintcheck_fonts::report::Name;
+use hintcheck_programs::report::Name;
 use hintcheck_words::ExplainOptions;
 use std::alloc::Global;
 use std::rt::Files;
@@ -82,14 +83,9 @@ fn explain_within<O: Sink>(
     ensures failures { TellsFailure result (O.failures out.old) (O.failures out.new) }
     ensures faults { IfErr result IsFaultOfFontCauses }
 {
-    let ExplainOptions {
-        profile,
-        budget,
-        ..
-    } = options;
-    let verdict = verdict_in_budget(alloc, font, profile, budget, points)?;
+    let verdict = verdict_in_budget(alloc, font, options.profile, points)?;
     let Some(first) = print_causes(alloc, out, font, verdict.refused())? else {
-        print_last_line(out, &verdict, profile)?;
+        print_last_line(out, &verdict, options.profile)?;
         return Ok(ACCEPTED);
     };
     let explanation = explanation_of(alloc, font, first, options, points)?;
@@ -109,9 +105,9 @@ fn explain_font<O: Sink>(
         status (O.contents out.old) (O.contents out.new)) }
     ensures failures { TellsFailure result (O.failures out.old) (O.failures out.new) }
     ensures faults { IfErr result
-        (λ fault. IsFaultOfFontCauses fault × IsWithin options.budget fault) }
+        (λ fault. IsFaultOfFontCauses fault × IsWithin (points_of options.profile) fault) }
 {
-    let Some(most) = options.budget else {
+    let Some(most) = options.profile.points() else {
         return match explain_within(alloc, font, options, &mut Budget::unlimited(), out) {
             // No font has so many points.
             Err(CommandFault::Budget) => Err(CommandFault::OutOfMemory),
@@ -124,9 +120,8 @@ fn explain_font<O: Sink>(
 /// Prints for which causes programs of the font file with this name are refused by a profile, the
 /// most frequent cause first, and after an empty line the explanation of the first program of that
 /// one; or, where all are accepted, the last line of the verdict. Returns the exit status: 0 where all
-/// are accepted, 1 where one is refused. At most this many points are made, where they are bounded;
-/// by the symbolic profile, the search for the verdict and that for the explanation each make at most
-/// so many steps.
+/// are accepted, 1 where one is refused. By the symbolic profile, the search for the verdict and that
+/// for the explanation each make at most as many steps as the profile says.
 ///
 /// # Errors
 /// `Read` where the file can't be opened or read; the faults of `Font::read`; `Write` exactly where a
@@ -146,7 +141,7 @@ pub(super) fn explain_of_font<R: Files + AllocGlobal, O: Sink>(
         PrintsCauses options.profile status (O.contents out.old) (O.contents out.new)) }
     ensures failures { TellsFailure result (O.failures out.old) (O.failures out.new) }
     ensures faults { IfErr result
-        (λ fault. IsFaultOfFontCauses fault × IsWithin options.budget fault) }
+        (λ fault. IsFaultOfFontCauses fault × IsWithin (points_of options.profile) fault) }
 {
     let bytes = file_bytes(rt, name)?;
     explain_font(rt.alloc(), &bytes, options, out)

@@ -1,6 +1,7 @@
 //! One program of a font file, explained in lines.
 
 ghost use Rattle.std.specs.Prelude.{◌≡◌, ◌+◌, ◌≤◌, IfErr, IfOk, List, OnOk, ℕ};
+ghost use Rattle.hintcheck_words.specs.Requests.{points_of};
 ghost use Rattle.hintcheck.specs.Commands.{TellsFailure};
 ghost use Rattle.hintcheck.specs.CommandFaults.{IsFaultOfExplaining, IsFaultOfFileExplaining, IsWithin};
 ghost use Rattle.hintcheck.specs.Explanations.{HoldPlace};
@@ -28,10 +29,10 @@ pub(super) fn explain_by<O: Sink>(
     ensures failures { TellsFailure result (O.failures out.old) (O.failures out.new) }
     ensures faults { IfErr result (λ fault.
         IsFaultOfExplaining bytes.now request.entry.word.now request.entry.site fault
-        × IsWithin request.entry.options.budget fault) }
+        × IsWithin (points_of request.entry.options.profile) fault) }
     ensures none { OnOk result (HoldPlace bytes.now request.entry.word.now request.entry.site) }
 {
-    let Some(most) = request.options.budget else {
+    let Some(most) = request.options.profile.points() else {
         return match explain_word(alloc, bytes, request, &mut Budget::unlimited(), out) {
             // No font has so many points.
             Err(CommandFault::Budget) => Err(CommandFault::OutOfMemory),
@@ -60,7 +61,7 @@ pub(super) fn explain_in_lines<R: Files + AllocGlobal, O: Sink>(
     ensures failures { TellsFailure result (O.failures out.old) (O.failures out.new) }
     ensures faults { IfErr result (λ fault.
         IsFaultOfFileExplaining request.entry.word.now request.entry.site fault
-        × IsWithin request.entry.options.budget fault) }
+        × IsWithin (points_of request.entry.options.profile) fault) }
     ensures none { OnOk result
         ((bytes : List ℕ) × HoldPlace bytes request.entry.word.now request.entry.site) }
 {

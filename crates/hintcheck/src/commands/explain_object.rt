@@ -3,15 +3,15 @@
 ghost use Rattle.std.specs.Prelude.{◌≡◌, ◌≤◌, IfErr, IfOk, List, OnOk, option_map, string_bytes, ℕ};
 ghost use Rattle.std.specs.Io.KnownBytes.{Appends};
 ghost use Rattle.tt_names.specs.Post.{post_of};
+ghost use Rattle.hintcheck_words.specs.Requests.{points_of};
 ghost use Rattle.hintcheck.specs.CalledGlyphs.{called_of};
 ghost use Rattle.hintcheck.specs.JsonObjects.{explanation_object};
-ghost use Rattle.hintcheck.specs.Commands.{IsNoWriteFault, TellsFailure, status_of};
-ghost use Rattle.hintcheck.specs.CommandFaults.{IsFaultOfFileExplaining, IsFaultOfLines, IsFaultOfObject, IsWithin};
+ghost use Rattle.hintcheck.specs.Commands.{IsNoWriteFault, TellsFailure};
+ghost use Rattle.hintcheck.specs.CommandFaults.{IsFaultOfFileExplaining, IsFaultOfLines, IsFaultOfObject, IsToldInObject, IsWithin};
 ghost use Rattle.hintcheck.specs.Explanations.{HoldPlace};
 ghost use Rattle.hintcheck.specs.MeansSafe.{HoldAcceptedBy, HoldExplainedBy, HoldUnacceptedBy};
 ghost use Rattle.hintcheck.specs.Printed.{PrintsExplanation};
 ghost use Rattle.hintcheck.specs.Representation.ToldFaults.{fault_in_memory};
-ghost use Rattle.hintcheck.specs.Scans.{IsOfScan};
 
 use super::explain_lines::explain_by;
 use super::faults::CommandFault;
@@ -85,7 +85,7 @@ fn explanation_in(
     ensures unwritten { IfErr result IsNoWriteFault }
     ensures faults { IfErr result (λ fault.
         IsFaultOfFileExplaining request.entry.word.now request.entry.site fault
-        × IsWithin request.entry.options.budget fault) }
+        × IsWithin (points_of request.entry.options.profile) fault) }
     ensures none { OnOk result (HoldPlace font.now request.entry.word.now request.entry.site) }
 {
     let mut sink = Counted::new(Vec::new(alloc));
@@ -121,7 +121,7 @@ fn explanation_of<R: Files + AllocGlobal>(
     ensures unwritten { IfErr result IsNoWriteFault }
     ensures faults { IfErr result (λ fault.
         IsFaultOfFileExplaining request.entry.word.now request.entry.site fault
-        × IsWithin request.entry.options.budget fault) }
+        × IsWithin (points_of request.entry.options.profile) fault) }
     ensures none { OnOk result
         ((bytes : List ℕ) × HoldPlace bytes request.entry.word.now request.entry.site) }
 {
@@ -152,33 +152,33 @@ fn print_explanation<O: Sink>(
 }
 
 /// Explains one program of the font file with this name in an object, and returns the exit status: 0
-/// accepted; 1 refused, or not checked since one before it is refused.
+/// accepted; 1 refused, or not checked since one before it is refused; and that of the font file's
+/// fault, where the object tells one.
 ///
 /// # Errors
 /// `ProgramName` and `OffsetWord` as `explain_word`; `Write` exactly where a write to `out`
-/// failed; `OutOfMemory` where memory ran out at the object; after the object, `ScanFault` where it
-/// tells a font file's fault with the status 2, and `ScanUnfinished` where that is 3.
+/// failed; `OutOfMemory` where memory ran out at the object.
 pub(super) fn explain_in_object<R: Files + AllocGlobal, O: Sink>(
     rt: &R,
     name: &str,
     request: ExplainRequest<'_>,
     out: &mut O,
 ) -> Result<u8, CommandFault>
-    ensures status { IfOk result (λ status. status ≤ 1) }
+    ensures status { IfOk result (λ status. status ≤ 3) }
     ensures accepted { IfOk result (λ status. status ≡ 0 → (bytes : List ℕ)
         × HoldAcceptedBy request.entry.options.profile bytes request.entry.word.now) }
     ensures refused { IfOk result (λ status. status ≡ 1 → (bytes : List ℕ)
         × HoldUnacceptedBy request.entry.options.profile bytes request.entry.word.now) }
     ensures printed { IfOk result (λ status. PrintsExplanation name.now request.entry.word.now
         request.entry.site request.entry.options status (O.contents out.old) (O.contents out.new)) }
-    ensures told { IfErr result (λ fault. IsOfScan fault
-        → PrintsExplanation name.now request.entry.word.now request.entry.site request.entry.options
-        (status_of fault) (O.contents out.old) (O.contents out.new)) }
+    ensures told { IfOk result (λ status. 2 ≤ status → IsToldInObject request.entry.word.now
+        request.entry.site (points_of request.entry.options.profile) status) }
     ensures failures { TellsFailure result (O.failures out.old) (O.failures out.new) }
     ensures faults { IfErr result
-        (IsFaultOfObject request.entry.word.now request.entry.site request.entry.options.budget) }
-    ensures none { OnOk result
-        ((bytes : List ℕ) × HoldPlace bytes request.entry.word.now request.entry.site) }
+        (IsFaultOfObject request.entry.word.now request.entry.site
+        (points_of request.entry.options.profile)) }
+    ensures none { IfOk result (λ status. status ≤ 1
+        → (bytes : List ℕ) × HoldPlace bytes request.entry.word.now request.entry.site) }
 {
     match explanation_of(rt, name, request) {
         Ok(told) => {
@@ -187,7 +187,7 @@ pub(super) fn explain_in_object<R: Files + AllocGlobal, O: Sink>(
         }
         Err(fault) if fault.is_of_font_file() => {
             print_fault_object(rt.alloc(), out, name, &fault, request.options.profile)?;
-            Err(fault.told())
+            Ok(fault.status())
         }
         Err(fault) => Err(fault),
     }

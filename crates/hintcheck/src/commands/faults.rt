@@ -4,10 +4,9 @@ ghost use Rattle.std.specs.Prelude.{◌≡◌, ◌≤◌};
 ghost use Rattle.hintcheck.specs.Commands.{IsNoWriteFault, fault_of_word, status_of};
 ghost use Rattle.hintcheck.specs.Containers.{container_beside, container_of};
 ghost use Rattle.hintcheck.specs.Representation.ToldFaults.{is_of_font_file};
-ghost use Rattle.hintcheck.specs.Scans.{IsOfScan};
 
 use crate::neighbours::Neighbours;
-use hintcheck_fonts::certificate_upgrade::UpgradeFault;
+use hintcheck_certificates::certificate_upgrade::UpgradeFault;
 use hintcheck_report::AnswerFault;
 use hintcheck_words::{TaskFault, WordFault};
 use std::alloc::AllocError;
@@ -186,10 +185,6 @@ pub enum CommandFault {
     NoCertificate,
     /// Memory ran out.
     OutOfMemory,
-    /// A font of a scan has a fault, which its line tells.
-    ScanFault,
-    /// Memory or the budget ran out at a font of a scan, as its line tells.
-    ScanUnfinished,
     /// More points were to be made than may be.
     Budget,
     /// A file can't be opened.
@@ -245,8 +240,6 @@ impl fmt::Display for CommandFault {
             }
             CommandFault::OutOfMemory => write!(f, "9 out of memory"),
             CommandFault::Budget => write!(f, "46 budget"),
-            CommandFault::ScanUnfinished => write!(f, "unfinished font"),
-            CommandFault::ScanFault => write!(f, "fault of a font"),
             CommandFault::Unopened(why) => write!(f, "44 read{why}"),
             CommandFault::Read => write!(f, "44 read"),
             CommandFault::Write | CommandFault::File => write!(f, "45 write"),
@@ -371,18 +364,6 @@ impl CommandFault {
         )
     }
 
-    /// Returns the fault that stands for this one once it is told in what is printed: its exit
-    /// status is the same.
-    pub(super) fn told(&self) -> CommandFault
-        ensures of_scan { IsOfScan result }
-        ensures status { status_of result ≡ status_of self.now }
-    {
-        match self.status() {
-            UNREADABLE => CommandFault::ScanFault,
-            _ => CommandFault::ScanUnfinished,
-        }
-    }
-
     /// Returns the exit status: 3 where memory or the budget ran out, and otherwise 2.
     pub fn status(&self) -> u8
         ensures status { result ≡ status_of self.now }
@@ -390,7 +371,6 @@ impl CommandFault {
     {
         match self {
             CommandFault::OutOfMemory
-            | CommandFault::ScanUnfinished
             | CommandFault::Budget
             | CommandFault::Font(Numbered(FontFault::OutOfMemory(_), _)) => { UNFINISHED },
             _ => UNREADABLE,

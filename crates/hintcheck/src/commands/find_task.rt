@@ -2,21 +2,21 @@
 
 ghost use Rattle.std.specs.Prelude.{◌≡◌, ◌≢◌, IfErr, IfOk, List, Err, Ok, OnOk, None, ℕ, []};
 ghost use Rattle.std.specs.Io.KnownBytes.{Keeps};
-ghost use Rattle.hintcheck_fonts.specs.BudgetAnswers.{IsOutsideFont};
-ghost use Rattle.hintcheck_fonts.specs.CertificateFaults.{CountsFind, WritesNothing};
-ghost use Rattle.hintcheck_fonts.specs.CertificateTexts.{IsPassingCertificate, WritesText};
+ghost use Rattle.hintcheck_certificates.specs.BudgetAnswers.{IsOutsideFont};
+ghost use Rattle.hintcheck_certificates.specs.CertificateFaults.{CountsFind, WritesNothing};
+ghost use Rattle.hintcheck_certificates.specs.CertificateTexts.{IsPassingCertificate, WritesText};
 ghost use Rattle.hintcheck_report.specs.declared.answer_fault.AnswerFault.{AnswerFault};
 ghost use Rattle.tt_setting.specs.declared.exhausted.Exhausted.{Exhausted as By};
 ghost use Rattle.hintcheck.specs.Commands.{IsNoWriteFault};
 ghost use Rattle.hintcheck.specs.CommandFaults.{IsFaultOfCertifying, IsFaultOfFinding, IsWithin};
-ghost use Rattle.hintcheck_fonts.specs.FontPrograms.{IsFontInRange, IsVerdict};
+ghost use Rattle.hintcheck_programs.specs.FontPrograms.{IsFontInRange, IsVerdict};
 ghost use Rattle.hintcheck_fonts.specs.FontAnswers.{HoldRefusedFont, HoldSafeFont, IsVerdictOn};
 
 use super::faults::CommandFault;
 use super::files::{ROOM, file_bytes, file_numbers, is_same_file, write_rest};
 use crate::font_file::font_in;
-use hintcheck_fonts::certificate::{FindFontFault, find_programs};
-use hintcheck_fonts::report::Verdict;
+use hintcheck_certificates::certificate::{FindFontFault, find_programs};
+use hintcheck_programs::report::Verdict;
 use std::alloc::Global;
 use std::fs;
 use std::io::{BufWriter, Write};

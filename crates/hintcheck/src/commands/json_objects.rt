@@ -14,7 +14,7 @@ use super::faults::{CommandFault, Numbered};
 use super::scan_task::text_of_class;
 use crate::glyph_names::called;
 use hintcheck_explain::Explained;
-use hintcheck_fonts::report::{Refused, Verdict};
+use hintcheck_programs::report::{Refused, Verdict};
 use hintcheck_words::Profile;
 use serde_json::Value;
 use std::alloc::{AllocError, Global};
@@ -34,8 +34,8 @@ fn name_of_profile(profile: Profile) -> &'static str
     ensures { result.now ≡ profile_name profile }
 {
     match profile {
-        Profile::Strict => "strict",
-        Profile::Symbolic => "symbolic",
+        Profile::Strict { .. } => "strict",
+        Profile::Symbolic { .. } => "symbolic",
     }
 }
 

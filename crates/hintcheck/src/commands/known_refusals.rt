@@ -10,7 +10,7 @@ ghost use Rattle.hintcheck.specs.KnownRefusals.{AreLines, HasName, IsFirstBadLin
 use super::faults::CommandFault;
 use super::files::read_file;
 use crate::instruction_list::{read_name, read_number};
-use hintcheck_fonts::report::Refused;
+use hintcheck_programs::report::Refused;
 use std::alloc::{AllocError, Global};
 use std::collections::HashSet;
 use std::io::{Read, Write};

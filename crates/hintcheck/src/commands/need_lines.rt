@@ -15,22 +15,17 @@ use std::alloc::Global;
 use tt_family::Budget;
 use tt_stream::{PrintFailed, Sink};
 
-/// Returns what the font in these bytes needs by this profile. The search for each verdict of the
-/// symbolic one makes at most this many steps, where they are bounded.
+/// Returns what the font in these bytes needs by this profile, of which only the steps of each search
+/// may be limited.
 ///
 /// # Errors
 /// `OutOfMemory`.
 #[tactic(auto, using(crate::proofs::AskedVerdicts::asked_needs))]
-fn needs_by(
-    alloc: Global,
-    font: &[u8],
-    profile: Profile,
-    steps: Option<u64>,
-) -> Result<Needs, CommandFault>
+fn needs_by(alloc: Global, font: &[u8], profile: Profile) -> Result<Needs, CommandFault>
     ensures needs { IfOk result (HaveNeeds profile font.now) }
     ensures fault { IfErr result (λ fault. fault ≡ CommandFault.OutOfMemory) }
 {
-    let request = request_by(profile, steps);
+    let request = request_by(profile);
     match needs_in(alloc, font, request, &mut Budget::unlimited()) {
         Ok(needs) => Ok(needs),
         // The font was read before, and no font has so many points: so memory ran out.
@@ -74,8 +69,8 @@ fn print_line<O: Sink>(out: &mut O, needs: &Needs) -> Result<(), PrintFailed>
     writeln!(out, "")
 }
 
-/// Prints the line of what the font in these bytes needs by this profile. The search for each verdict
-/// of the symbolic one makes at most this many steps, where they are bounded.
+/// Prints the line of what the font in these bytes needs by this profile, of which only the steps of
+/// each search may be limited.
 ///
 /// # Errors
 /// `Write` exactly where a write to `out` failed; `OutOfMemory`.
@@ -84,14 +79,13 @@ pub(super) fn print_needs<O: Sink>(
     out: &mut O,
     font: &[u8],
     profile: Profile,
-    steps: Option<u64>,
 ) -> Result<(), CommandFault>
     ensures written { OnOk result
         (TellsNeeds profile font.now (O.contents out.old) (O.contents out.new)) }
     ensures failures { TellsFailure result (O.failures out.old) (O.failures out.new) }
     ensures faults { IfErr result IsFaultOfLines }
 {
-    let needs = needs_by(alloc, font, profile, steps)?;
+    let needs = needs_by(alloc, font, profile)?;
     print_line(out, &needs)?;
     Ok(())
 }

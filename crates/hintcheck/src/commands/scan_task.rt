@@ -4,15 +4,15 @@ ghost use Rattle.std.specs.Prelude.{◌≡◌, ◌≢◌, ◌⊎◌, ◌+◌, �
 ghost use Rattle.std.specs.Io.KnownBytes.{Appends};
 ghost use Rattle.tt_code.specs.Refusals.{class_of};
 ghost use Rattle.tt_stream.specs.Streams.{CountsPrintFailure};
-ghost use Rattle.hintcheck.specs.Commands.{TellsFailure, status_of};
+ghost use Rattle.hintcheck.specs.Commands.{TellsFailure};
 ghost use Rattle.hintcheck_words.specs.Requests.{scan};
-ghost use Rattle.hintcheck.specs.CommandFaults.{HasNoFault, HasNoFaultOfScan, IsFaultOfFontFile, IsFaultOfLines, IsFaultOfPrinting, IsFaultOfScanning, IsFaultOfTask, IsFaultOfTelling};
+ghost use Rattle.hintcheck.specs.CommandFaults.{HasNoFault, HasNoFaultOfScan, HasToldFault, IsFaultOfFontFile, IsFaultOfLines, IsFaultOfPrinting, IsFaultOfScanning, IsFaultOfTask, IsFaultOfTelling};
 ghost use Rattle.hintcheck.specs.ExpectedScans.{PrintsScanning};
-ghost use Rattle.hintcheck.specs.MeansSafe.{IsRefusedRequest, IsRefusedScan, IsSafeRequest, IsSafeScan, TellsFonts, TellsScan};
+ghost use Rattle.hintcheck.specs.MeansSafe.{IsRefusedRequest, IsSafeRequest, TellsFonts, TellsScan};
 ghost use Rattle.hintcheck.specs.Printed.{Prints};
 ghost use Rattle.hintcheck.specs.RefusalClasses.{class_text, number_failing, number_of_class};
 ghost use Rattle.hintcheck.specs.Representation.Expectations.{IsFaultOfNoting, NotesScan, expected as expected_by};
-ghost use Rattle.hintcheck.specs.Scans.{IsOfScan, TellsFont, TellsLineAndCauses, TellsLineAndNeeds, counts_text, end_of_line, judged, left_out_text, line_of, status_of_answer, status_of_failing, unread};
+ghost use Rattle.hintcheck.specs.Scans.{TellsFont, TellsLineAndCauses, TellsLineAndNeeds, counts_text, end_of_line, judged, left_out_text, line_of, status_of_answer, status_of_failing, unread};
 ghost use Rattle.hintcheck.specs.Texts.{profile_text};
 
 use super::cause_lines::print_causes;
@@ -26,7 +26,7 @@ use super::shown_names::print_shown;
 use super::verdict_lines::end_of_profile;
 use super::verdict_task::{JudgedFont, judged_font};
 use super::{ACCEPTED, REFUSED};
-use hintcheck_fonts::report::{Name, Refused, Verdict};
+use hintcheck_programs::report::{Name, Refused, Verdict};
 use hintcheck_words::{FailOn, FontWords, Format, Profile, ScanOptions};
 use std::alloc::Global;
 use std::rt::Files;
@@ -176,23 +176,23 @@ fn print_with_causes<O: Sink>(
 }
 
 /// Prints the line of the font in these bytes, whose verdict is one of this profile, and a line of
-/// what it needs. By the symbolic profile the search for each further verdict makes as many steps as
-/// these options allow, where they bound them; the strict one isn't bounded.
+/// what it needs. For each further verdict a search by symbols makes no more steps than for that one;
+/// the points of the strict profile aren't limited.
 fn print_with_needs<O: Sink>(
     alloc: Global,
     out: &mut O,
     name: &str,
     bytes: &[u8],
     verdict: &Verdict,
-    options: ScanOptions,
+    profile: Profile,
 ) -> Result<(), CommandFault>
-    ensures written { OnOk result (TellsLineAndNeeds options.profile name.now bytes.now verdict.now
+    ensures written { OnOk result (TellsLineAndNeeds profile name.now bytes.now verdict.now
         (O.contents out.old) (O.contents out.new)) }
     ensures failures { TellsFailure result (O.failures out.old) (O.failures out.new) }
     ensures faults { IfErr result IsFaultOfLines }
 {
-    print_line(out, name, verdict, options.profile)?;
-    print_needs(alloc, out, bytes, options.profile, options.budget)
+    print_line(out, name, verdict, profile)?;
+    print_needs(alloc, out, bytes, profile)
 }
 
 /// Prints what these options ask for of the font file with this name, these bytes and this verdict,
@@ -217,7 +217,7 @@ fn tell_judged<O: Sink>(
     match options.format {
         Format::Lines => Ok(print_line(out, name, verdict, options.profile)?),
         Format::Causes => print_with_causes(alloc, out, name, bytes, verdict, options.profile),
-        Format::Needs => print_with_needs(alloc, out, name, bytes, verdict, options),
+        Format::Needs => print_with_needs(alloc, out, name, bytes, verdict, options.profile),
         Format::Json => {
             print_verdict_object(alloc, out, name, bytes, verdict, options.profile, status)
         }
@@ -264,7 +264,7 @@ fn scan_font<R: Files + AllocGlobal, O: Sink>(
     ensures failures { TellsFailure result (O.failures out.old) (O.failures out.new) }
     ensures faults { IfErr result (IsFaultOfNoting options (expected_by expectation.old)) }
 {
-    match judged_font(rt, name, options.budget, options.profile) {
+    match judged_font(rt, name, options.profile) {
         Ok(font) => {
             let status = verdict_status(&font.verdict, options.fail_on);
             tell_judged(rt.alloc(), out, name, &font, options, status)?;
@@ -336,7 +336,6 @@ fn scan_expecting<R: Files + AllocGlobal, O: Sink, E: Sink>(
         (option_map (λ name. name.now) expected.entry) × IsFaultOfPrinting fault)) }
     ensures none { OnOk result (HasNoFaultOfScan options (map (λ s. string_bytes s) fonts.now)
         (option_map (λ name. name.now) expected.entry)) }
-    ensures unscanned { IfErr result (λ fault. IsOfScan fault → ⊥) }
     ensures untold { E.failures err.old ≤ E.failures err.new }
 {
     let mut expectation = Expectation::of(rt, fonts, expected)?;
@@ -358,7 +357,7 @@ pub(super) fn name_in(name: &Option<String>) -> Option<&str>
 /// Prints a line or an object for each of the font files with these names, in the form Causes with
 /// the lines of its causes, and to `err` a line that counts them, except in the form JSON; returns
 /// the greatest exit status of them: 0 where the scan fails for no program, 1 where it fails for
-/// one. It doesn't fail for the refused programs that the file of known refusals holds, if one is
+/// one, and more where a font file has a fault. It doesn't fail for the refused programs that the file of known refusals holds, if one is
 /// named; where that file doesn't exist, it is written with all for which the scan would fail. That
 /// the counts can't be printed is not told.
 ///
@@ -366,8 +365,7 @@ pub(super) fn name_in(name: &Option<String>) -> Option<&str>
 /// `ClassWord` where the word for which programs the scan is to fail names none, and nothing is
 /// printed then, nor for the faults of `Expectation::of`; `Write` exactly where a write to `out`
 /// failed; `OutOfMemory` where memory ran out at an object, at causes or at the line of a refused
-/// program; after the last line, `File` where the file of known refusals can't be written,
-/// `ScanFault` where the greatest status is 2, and `ScanUnfinished` where it is 3.
+/// program; after the last line, `File` where the file of known refusals can't be written.
 fn scan_fonts<R: Files + AllocGlobal, O: Sink, E: Sink>(
     rt: &R,
     fonts: &[String],
@@ -376,21 +374,12 @@ fn scan_fonts<R: Files + AllocGlobal, O: Sink, E: Sink>(
     out: &mut O,
     err: &mut E,
 ) -> Result<u8, CommandFault>
-    ensures status { IfOk result (λ status. status ≤ 1) }
-    ensures safe { IfOk result (λ status. status ≡ 0
-        → IsSafeScan options (map (λ s. string_bytes s) fonts.now)
-        (option_map (λ s. string_bytes s) expected.now)) }
-    ensures refused { IfOk result (λ status. status ≡ 1
-        → IsRefusedScan options (map (λ s. string_bytes s) fonts.now)
+    ensures tells { IfOk result (TellsScan options (map (λ s. string_bytes s) fonts.now)
         (option_map (λ s. string_bytes s) expected.now)) }
     ensures printed { IfOk result (λ status.
         PrintsScanning options (map (λ s. string_bytes s) fonts.now)
         (option_map (λ s. string_bytes s) expected.now)
         status (O.contents out.old) (O.contents out.new)) }
-    ensures scanned { IfErr result (λ fault. IsOfScan fault
-        → PrintsScanning options (map (λ s. string_bytes s) fonts.now)
-        (option_map (λ s. string_bytes s) expected.now) (status_of fault)
-        (O.contents out.old) (O.contents out.new)) }
     ensures failures { TellsFailure result (O.failures out.old) (O.failures out.new) }
     ensures faults { IfErr result (λ fault. IsFaultOfScanning options
         (option_map (λ s. string_bytes s) expected.now) fault
@@ -403,12 +392,7 @@ fn scan_fonts<R: Files + AllocGlobal, O: Sink, E: Sink>(
     if let FailOn::Unknown = options.fail_on {
         return Err(CommandFault::ClassWord);
     }
-    match scan_expecting(rt, fonts, options, name_in(expected), out, err)? {
-        0 => Ok(ACCEPTED),
-        1 => Ok(REFUSED),
-        2 => Err(CommandFault::ScanFault),
-        _ => Err(CommandFault::ScanUnfinished),
-    }
+    scan_expecting(rt, fonts, options, name_in(expected), out, err)
 }
 
 /// Scans the font files that these words name, or of which they name lists, as `scan_fonts` does.
@@ -424,7 +408,7 @@ pub(super) fn scan_words<R: Files + AllocGlobal, O: Sink, E: Sink>(
     out: &mut O,
     err: &mut E,
 ) -> Result<u8, CommandFault>
-    ensures status { IfOk result (λ status. status ≤ 1) }
+    ensures status { IfOk result (λ status. status ≤ 3) }
     ensures safe { IfOk result (λ status. status ≡ 0 → IsSafeRequest (scan
         (map (λ s. string_bytes s) words.now) options
         (option_map (λ s. string_bytes s) expected.now))) }
@@ -435,10 +419,9 @@ pub(super) fn scan_words<R: Files + AllocGlobal, O: Sink, E: Sink>(
         (map (λ s. string_bytes s) words.now) options
         (option_map (λ s. string_bytes s) expected.now))
         status (O.contents out.old) (O.contents out.new)) }
-    ensures scanned { IfErr result (λ fault. IsOfScan fault → Prints (scan
+    ensures told { IfOk result (λ status. 2 ≤ status → HasToldFault (scan
         (map (λ s. string_bytes s) words.now) options
-        (option_map (λ s. string_bytes s) expected.now))
-        (status_of fault) (O.contents out.old) (O.contents out.new)) }
+        (option_map (λ s. string_bytes s) expected.now)) status) }
     ensures failures { TellsFailure result (O.failures out.old) (O.failures out.new) }
     ensures faults { IfErr result (IsFaultOfTask (scan
         (map (λ s. string_bytes s) words.now) options

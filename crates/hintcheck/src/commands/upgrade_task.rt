@@ -1,16 +1,16 @@
 //! The subcommand `upgrade`: an old certificate file, written again in the newest form.
 
 ghost use Rattle.std.specs.Prelude.{◌≡◌, ◌≢◌, ◌⊎◌, IfErr, IfOk, IfSome, Err, Ok, OnOk};
-ghost use Rattle.hintcheck_fonts.specs.CertificateTexts.{WritesText};
+ghost use Rattle.hintcheck_certificates.specs.CertificateTexts.{WritesText};
 ghost use Rattle.hintcheck.specs.Commands.{AtForm, IsNoWriteFault, TellsFailure};
 ghost use Rattle.hintcheck.specs.CommandFaults.{IsFaultOfPrinting, IsFaultOfUpgrade, IsFaultOfUpgrading};
 ghost use Rattle.hintcheck.specs.Printed.{PrintsUpgrade};
-ghost use Rattle.hintcheck_fonts.specs.Upgrades.{IsNumberOfPrograms, IsUpgradeOf, UpgradesTo};
+ghost use Rattle.hintcheck_certificates.specs.Upgrades.{IsNumberOfPrograms, IsUpgradeOf, UpgradesTo};
 
 use super::ACCEPTED;
 use super::faults::CommandFault;
 use super::files::{ROOM, file_numbers, is_same_file, of_certificate, opened, write_rest};
-use hintcheck_fonts::certificate_upgrade::upgrade;
+use hintcheck_certificates::certificate_upgrade::upgrade;
 use std::alloc::Global;
 use std::fs;
 use std::io::{BufWriter, Read, Write};

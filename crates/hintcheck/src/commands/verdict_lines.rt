@@ -9,7 +9,7 @@ ghost use Rattle.hintcheck.specs.Texts.{end_line, profile_text, verdict_text};
 
 use super::faults::CommandFault;
 use super::{ACCEPTED, REFUSED};
-use hintcheck_fonts::report::{Name, Verdict};
+use hintcheck_programs::report::{Name, Verdict};
 use hintcheck_words::Profile;
 use tt_stream::{PrintFailed, Sink};
 
@@ -18,8 +18,8 @@ pub(super) fn end_of_profile(profile: Profile) -> &'static str
     ensures { result.now ≡ profile_text profile }
 {
     match profile {
-        Profile::Strict => "",
-        Profile::Symbolic => " (symbolic)",
+        Profile::Strict { .. } => "",
+        Profile::Symbolic { .. } => " (symbolic)",
     }
 }
 

@@ -8,16 +8,16 @@ use Rattle.tt_font.specs.Reading.{FontData, GlyphData}
 use Rattle.hintcheck_fonts.specs.SymbolicEnds.{AreEndsKnowing, IsGlyphChecked, IsSafeKnowing, StartGlyphs}
 use Rattle.hintcheck_fonts.specs.declared.ends.Ends.{Ends}
 use Rattle.hintcheck_fonts.specs.declared.glyph_starts.GlyphStarts.{GlyphStarts}
-use Rattle.hintcheck_fonts.specs.FontPrograms.{cvt_subject, font_of, font_subject, glyph_subject}
-use Rattle.hintcheck_fonts.specs.ProgramVerdicts.{with_start}
-use Rattle.hintcheck_fonts.specs.Programs.{IsCutInto, Subject}
-use Rattle.hintcheck_fonts.specs.Representation.FontVerdicts.{ComesToEnd}
-use Rattle.hintcheck_fonts.specs.Representation.ProgramOrder.{IsAnswerBy}
-use Rattle.hintcheck_fonts.specs.Sessions.{Stage, after_font, at_glyph}
+use Rattle.hintcheck_programs.specs.FontPrograms.{cvt_subject, font_of, font_subject, glyph_subject}
+use Rattle.hintcheck_programs.specs.ProgramVerdicts.{with_start}
+use Rattle.hintcheck_programs.specs.Programs.{IsCutInto, Subject}
+use Rattle.hintcheck_programs.specs.Representation.FontVerdicts.{ComesToEnd}
+use Rattle.hintcheck_programs.specs.Representation.ProgramOrder.{IsAnswerBy}
+use Rattle.hintcheck_programs.specs.Stages.{Stage, after_font, at_glyph}
 use Rattle.hintcheck_fonts.specs.SymbolicRefusals.{IsSymbolicRefusal}
 use Rattle.hintcheck_fonts.specs.SymbolicVerdicts.{IsGlyphSetting}
 use Rattle.hintcheck_report.specs.declared.refused.Refused.{Refused}
-use Rattle.hintcheck_fonts.specs.declared.session.Outcome.{Outcome}
+use Rattle.hintcheck_programs.specs.declared.report.Outcome.{Outcome}
 use Rattle.hintcheck_fonts.specs.declared.symbolic_check.SymbolicCheck.{SymbolicCheck}
 
 -- no run of a program that starts with these functions faults, and this is known at its end

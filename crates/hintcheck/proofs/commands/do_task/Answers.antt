@@ -1,7 +1,7 @@
 -- proofs/commands/do_task/Answers.antt
 use Rattle.std.proofs.Common.{◌≡◌, OnOk, Option, String, Global, Vec, arith, inl, refl, subst}
 use Rattle.std.specs.Io.KnownBytes.{Appends}
-use Rattle.std.proofs.lemmas.Result.{IfErr-weaker, IfOk-weaker, on_ok_weaker}
+use Rattle.std.proofs.lemmas.Result.{IfErr-weaker, IfOk-weaker}
 use Rattle.hintcheck_words.specs.Requests.{asked}
 use Rattle.hintcheck_words.specs.declared.words.Detail.{Detail}
 use Rattle.hintcheck_words.specs.declared.words.ExplainOptions.{ExplainOptions}
@@ -11,16 +11,15 @@ use Rattle.hintcheck_words.specs.declared.words.Task.{Task}
 use Rattle.hintcheck_words.specs.declared.words.Task.TheVariants as task
 use Rattle.hintcheck.specs.Commands.{IsForVerdict}
 use Rattle.hintcheck.specs.Texts.{verdict_text}
-use Rattle.hintcheck.proofs.FaultLemmas.{nothing_said}
+use Rattle.hintcheck.proofs.FaultLemmas.{none_where_few}
 use Rattle.hintcheck.proofs.PrintedLemmas.{prints_for_verdict, prints_upgrade, prints_verdict}
-use Rattle.hintcheck.proofs.ScanFaults.{passed_no_scan, printing_no_scan, task_no_scan, verdict_no_scan}
 use Rattle.hintcheck.proofs.commands.do_task.Goals as goal
 
 for_verdict : (t : Task) → ((fonts : Vec (String Global) Global) (options : ScanOptions) (expected : Option (String Global)) → t ≡ task.Scan fonts options expected → ⊥) → ((font : String Global) (program place : Option (String Global)) (options : ExplainOptions) → t ≡ task.Explain font program place options → ⊥)
     → ((font program : String Global) (detail : Detail) → t ≡ task.List font program detail → ⊥) → ((old new : String Global) → t ≡ task.Upgrade old new → ⊥) → IsForVerdict (asked t)
 unfolding asked
-for_verdict (task.Bare maxp cvt points contours program budget profile) scan explain other another = tt
-for_verdict (task.Verdict font budget profile) scan explain other another = tt
+for_verdict (task.Bare maxp cvt points contours program profile) scan explain other another = tt
+for_verdict (task.Verdict font profile) scan explain other another = tt
 for_verdict (task.Scan fonts options expected) scan explain other another = absurd (scan fonts options expected refl)
 for_verdict (task.Explain font program place options) scan explain other another = absurd (explain font program place options refl)
 for_verdict (task.Find font certificate budget) scan explain other another = tt
@@ -43,10 +42,6 @@ pub returns-in-Scan-clause-printed : goal.returns-in-Scan-clause-printed
 unfolding asked
 returns-in-Scan-clause-printed g c = IfOk-weaker c.scan_words.result _ _ (λ status printed. rw c.in-Scan.is (rw (← c.deref.ensures.value) printed)) c.scan_words.ensures.printed
 
-pub returns-in-Scan-clause-scanned : goal.returns-in-Scan-clause-scanned
-unfolding asked
-returns-in-Scan-clause-scanned g c = IfErr-weaker c.scan_words.result _ _ (λ told scanned of. rw c.in-Scan.is (rw (← c.deref.ensures.value) (scanned of))) c.scan_words.ensures.scanned
-
 pub returns-in-Scan-clause-faults : goal.returns-in-Scan-clause-faults
 unfolding asked
 returns-in-Scan-clause-faults g c =
@@ -54,7 +49,7 @@ returns-in-Scan-clause-faults g c =
 
 pub returns-in-Scan-clause-none : goal.returns-in-Scan-clause-none
 unfolding asked
-returns-in-Scan-clause-none g c = on_ok_weaker c.scan_words.result (λ none. rw c.in-Scan.is (rw (← c.deref.ensures.value) none)) c.scan_words.ensures.none
+returns-in-Scan-clause-none g c = none_where_few c.scan_words.result (λ none. rw c.in-Scan.is (rw (← c.deref.ensures.value) none)) c.scan_words.ensures.none
 
 pub returns-in-Explain-clause-safe : goal.returns-in-Explain-clause-safe
 unfolding asked
@@ -70,18 +65,13 @@ unfolding asked
 returns-in-Explain-clause-printed g c =
     IfOk-weaker c.tell_explanation.result _ _ (λ status printed. rw c.in-Explain.is (rw (← c.deref-in-Explain.ensures) printed)) c.tell_explanation.ensures.printed
 
-pub returns-in-Explain-clause-scanned : goal.returns-in-Explain-clause-scanned
-unfolding asked
-returns-in-Explain-clause-scanned g c =
-    IfErr-weaker c.tell_explanation.result _ _ (λ told scanned of. rw c.in-Explain.is (rw (← c.deref-in-Explain.ensures) (scanned of))) c.tell_explanation.ensures.scanned
-
 pub returns-in-Explain-clause-faults : goal.returns-in-Explain-clause-faults
 unfolding asked
 returns-in-Explain-clause-faults g c = IfErr-weaker c.tell_explanation.result _ _ (λ told is. rw c.in-Explain.is (rw (← c.deref-in-Explain.ensures) is)) c.tell_explanation.ensures.faults
 
 pub returns-in-Explain-clause-none : goal.returns-in-Explain-clause-none
 unfolding asked
-returns-in-Explain-clause-none g c = on_ok_weaker c.tell_explanation.result (λ none. rw c.in-Explain.is (rw (← c.deref-in-Explain.ensures) none)) c.tell_explanation.ensures.none
+returns-in-Explain-clause-none g c = IfOk-weaker c.tell_explanation.result _ _ (λ status none few. rw c.in-Explain.is (rw (← c.deref-in-Explain.ensures) (none few))) c.tell_explanation.ensures.none
 
 pub returns-in-List-clause-safe : goal.returns-in-List-clause-safe
 unfolding asked
@@ -104,14 +94,9 @@ pub returns-in-List-clause-faults : goal.returns-in-List-clause-faults
 unfolding asked
 returns-in-List-clause-faults g c = IfErr-weaker c.list_of_file.result _ _ (λ told is. inl (rw c.in-List.is (rw (← c.deref-in-List-2.ensures) is))) c.list_of_file.ensures.faults
 
-pub returns-in-List-clause-scanned : goal.returns-in-List-clause-scanned
-unfolding asked
-returns-in-List-clause-scanned g c =
-    IfErr-weaker c.list_of_file.result _ _ (λ told is of. absurd (task_no_scan (asked c.args.task.now) told (rw c.in-List.is tt) is of)) (returns-in-List-clause-faults g c)
-
 pub returns-in-List-clause-none : goal.returns-in-List-clause-none
 unfolding asked
-returns-in-List-clause-none g c = rw c.in-List.is (nothing_said c.list_of_file.result)
+returns-in-List-clause-none g c = IfOk-weaker c.list_of_file.result _ _ (λ status is few. rw c.in-List.is tt) c.list_of_file.ensures.status
 
 pub returns-in-Upgrade-clause-safe : goal.returns-in-Upgrade-clause-safe
 unfolding asked
@@ -125,15 +110,10 @@ unfolding asked
 returns-in-Upgrade-clause-faults g c =
     IfErr-weaker c.tell_upgrade.result _ _ (λ told is. rw c.in-Upgrade.is (rw (← c.deref-in-Upgrade.ensures, ← c.deref-in-Upgrade-2.ensures) is)) c.tell_upgrade.ensures.faults
 
-pub returns-in-Upgrade-clause-scanned : goal.returns-in-Upgrade-clause-scanned
-unfolding asked
-returns-in-Upgrade-clause-scanned g c =
-    IfErr-weaker c.tell_upgrade.result _ _ (λ told is of. absurd (task_no_scan (asked c.args.task.now) told (rw c.in-Upgrade.is tt) is of)) (returns-in-Upgrade-clause-faults g c)
-
 pub returns-in-Upgrade-clause-none : goal.returns-in-Upgrade-clause-none
 unfolding asked
 returns-in-Upgrade-clause-none g c =
-    on_ok_weaker c.tell_upgrade.result (λ none. rw c.in-Upgrade.is (rw (← c.deref-in-Upgrade.ensures, ← c.deref-in-Upgrade-2.ensures) none)) c.tell_upgrade.ensures.none
+    none_where_few c.tell_upgrade.result (λ none. rw c.in-Upgrade.is (rw (← c.deref-in-Upgrade.ensures, ← c.deref-in-Upgrade-2.ensures) none)) c.tell_upgrade.ensures.none
 
 pub returns-in-List-clause-printed : goal.returns-in-List-clause-printed
 unfolding asked
@@ -160,12 +140,23 @@ returns-in_ok-verdict_on-in_default-clause-printed g c =
     IfOk-weaker c.tell_verdict.result _ _ (λ status printed. prints_for_verdict (asked task) status old new asks printed)
     (prints_verdict (asked task) c.tell_verdict.result judgement old new c.in_ok-verdict_on-in_default.ensures.given told.accepted told.refused written)
 
-pub returns-in_ok-verdict_on-in_default-clause-scanned : goal.returns-in_ok-verdict_on-in_default-clause-scanned
-returns-in_ok-verdict_on-in_default-clause-scanned g c = IfErr-weaker c.tell_verdict.result _ _ (λ told is of. absurd (printing_no_scan told is of)) c.tell_verdict.ensures.faults
+pub returns-in_ok-verdict_on-in_default-clause-none : goal.returns-in_ok-verdict_on-in_default-clause-none
+returns-in_ok-verdict_on-in_default-clause-none g c = IfOk-weaker c.tell_verdict.result _ _ (λ status is few. c.in_ok-verdict_on-in_default.ensures.none) c.tell_verdict.ensures.status
 
-pub returns-in_err-verdict_on-in_default-clause-scanned : goal.returns-in_err-verdict_on-in_default-clause-scanned
-returns-in_err-verdict_on-in_default-clause-scanned g c =
-    let task = c.args.task.now in
-    let asks = for_verdict task c.in_default.not-Scan c.in_default.not-Explain c.in_default.not-List c.in_default.not-Upgrade in
-    let failed = c.in_err-verdict_on-in_default in
-    passed_no_scan (asked task) failed.field-0.0 c.from_residual.result _ (verdict_no_scan (asked task) asks) failed.ensures.faults c.from_residual.ensures.1
+pub returns-in-Scan-clause-told : goal.returns-in-Scan-clause-told
+unfolding asked
+returns-in-Scan-clause-told g c = IfOk-weaker c.scan_words.result _ _ (λ status told two. rw c.in-Scan.is (told two)) c.scan_words.ensures.told
+
+pub returns-in-Explain-clause-told : goal.returns-in-Explain-clause-told
+unfolding asked
+returns-in-Explain-clause-told g c =
+    IfOk-weaker c.tell_explanation.result _ _ (λ status told two. rw c.in-Explain.is (rw (← c.deref-in-Explain.ensures) (told two))) c.tell_explanation.ensures.told
+
+pub returns-in-List-clause-told : goal.returns-in-List-clause-told
+returns-in-List-clause-told g c = IfOk-weaker c.list_of_file.result _ _ (λ status is two. absurd (omega arith)) c.list_of_file.ensures.status
+
+pub returns-in-Upgrade-clause-told : goal.returns-in-Upgrade-clause-told
+returns-in-Upgrade-clause-told g c = IfOk-weaker c.tell_upgrade.result _ _ (λ status is two. absurd (omega arith)) c.tell_upgrade.ensures.status
+
+pub returns-in_ok-verdict_on-in_default-clause-told : goal.returns-in_ok-verdict_on-in_default-clause-told
+returns-in_ok-verdict_on-in_default-clause-told g c = IfOk-weaker c.tell_verdict.result _ _ (λ status is two. absurd (omega arith)) c.tell_verdict.ensures.status

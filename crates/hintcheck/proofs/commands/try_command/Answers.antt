@@ -1,7 +1,7 @@
-use Rattle.std.proofs.lemmas.Result.{IfErr-weaker, IfOk-weaker, on_ok_weaker}
+use Rattle.std.proofs.lemmas.Result.{IfErr-weaker, IfOk-weaker}
 use Rattle.hintcheck_words.specs.Requests.{IsOutOfMemory, asked}
 use Rattle.hintcheck.specs.CommandFaults.{no_memory, not_taken, of_request}
-use Rattle.hintcheck.proofs.FaultLemmas.{unprinted}
+use Rattle.hintcheck.proofs.FaultLemmas.{from_both, unprinted}
 use Rattle.hintcheck.proofs.commands.try_command.Goals as goal
 
 pub returns-in_ok-write-in-Err-Words-clause-safe : goal.returns-in_ok-write-in-Err-Words-clause-safe
@@ -17,7 +17,7 @@ returns-in-Ok-clause-faults g c = IfErr-weaker c.do_task.result _ _ (λ told is.
 
 pub returns-in-Ok-clause-none : goal.returns-in-Ok-clause-none
 returns-in-Ok-clause-none g c =
-    on_ok_weaker c.do_task.result (λ none taken. record { request = asked c.in-Ok.task; meant = c.in-Ok.ensures.asked; none = none }) c.do_task.ensures.none
+    IfOk-weaker c.do_task.result _ _ (λ status none few taken. record { request = asked c.in-Ok.task; meant = c.in-Ok.ensures.asked; none = none few }) c.do_task.ensures.none
 
 pub returns-then-use_stderr-clause-faults : goal.returns-then-use_stderr-clause-faults
 unfolding IsOutOfMemory
@@ -30,7 +30,7 @@ returns-in_err-write-in-Err-Words-clause-faults g c =
 
 pub returns-in_ok-write-in-Err-Words-clause-none : goal.returns-in_ok-write-in-Err-Words-clause-none
 unfolding IsOutOfMemory
-returns-in_ok-write-in-Err-Words-clause-none g c = λ taken. absurd (rw c.in-Err-Words.field-0-is at (c.in-Err-Words.ensures.refused taken))
+returns-in_ok-write-in-Err-Words-clause-none g c = λ few taken. absurd (rw c.in-Err-Words.field-0-is at (c.in-Err-Words.ensures.refused taken))
 
 pub returns-in-Err-OutOfMemory-clause-faults : goal.returns-in-Err-OutOfMemory-clause-faults
 returns-in-Err-OutOfMemory-clause-faults g c = no_memory
@@ -43,6 +43,7 @@ pub returns-in-Ok-clause-printed : goal.returns-in-Ok-clause-printed
 returns-in-Ok-clause-printed g c =
     IfOk-weaker c.do_task.result _ _ (λ status printed taken. record { request = asked c.in-Ok.task; meant = c.in-Ok.ensures.asked; printed = printed }) c.do_task.ensures.printed
 
-pub returns-in-Ok-clause-scanned : goal.returns-in-Ok-clause-scanned
-returns-in-Ok-clause-scanned g c =
-    IfErr-weaker c.do_task.result _ _ (λ told scanned of. record { request = asked c.in-Ok.task; meant = c.in-Ok.ensures.asked; printed = scanned of }) c.do_task.ensures.scanned
+pub returns-in-Ok-clause-told : goal.returns-in-Ok-clause-told
+returns-in-Ok-clause-told g c =
+    from_both c.do_task.result _ _ _ (λ status told printed two. record { request = asked c.in-Ok.task; meant = c.in-Ok.ensures.asked; told = told two; printed = printed })
+    c.do_task.ensures.told c.do_task.ensures.printed

@@ -1,6 +1,6 @@
 use Rattle.tt_setting.specs.Settings.{setting_of}
 use Rattle.hintcheck_explain.specs.declared.asked.Explained.{Explained}
-use Rattle.hintcheck_fonts.proofs.ProgramVerdictLemmas.{HasFlow}
+use Rattle.hintcheck_programs.proofs.ProgramVerdictLemmas.{HasFlow}
 use Rattle.hintcheck.proofs.ExplanationLemmas.{answered, failed_text, fault_of_text}
 use Rattle.hintcheck.proofs.explanation.explain_in.Goals as goal
 

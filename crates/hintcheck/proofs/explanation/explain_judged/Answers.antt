@@ -2,7 +2,7 @@ use Rattle.std.proofs.Common.{Bor, ap, subst}
 use Rattle.std.proofs.lemmas.Result.{IfOk-weaker}
 use Rattle.tt_font.specs.Reading.{FontData}
 use Rattle.hintcheck.specs.Explanations.{TellsProgram}
-use Rattle.hintcheck_fonts.specs.Representation.ProgramOrder.{stage_of}
+use Rattle.hintcheck_programs.specs.Representation.ProgramOrder.{stage_of}
 use Rattle.hintcheck.proofs.ExplanationLemmas.{ended_failures, next_told}
 use Rattle.hintcheck.proofs.explanation.explain_judged.Goals as goal
 

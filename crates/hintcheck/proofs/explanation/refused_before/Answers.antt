@@ -2,15 +2,14 @@ use Rattle.std.proofs.Common.{◌<◌, ◌≡◌, ◌∙◌, Bor, refl, subst, s
 use Rattle.std.specs.Prelude.{is_some}
 use Rattle.tt_font.specs.Reading.{FontData}
 use Rattle.hintcheck.specs.Explanations.{IsRefusedIn}
-use Rattle.hintcheck_fonts.specs.FontPrograms.{IsFontInRange}
+use Rattle.hintcheck_programs.specs.FontPrograms.{IsFontInRange}
 use Rattle.hintcheck.specs.Listing.{program_in}
-use Rattle.hintcheck_fonts.specs.Representation.ProgramOrder.{stage_of}
-use Rattle.hintcheck_fonts.specs.Representation.SessionStages.{IsAt, KeepsKnown}
-use Rattle.hintcheck_fonts.specs.Sessions.{Stage}
-use Rattle.hintcheck_fonts.proofs.FindingSteps.{stays_known}
-use Rattle.hintcheck_fonts.proofs.ProgramSteps.{calls_left}
+use Rattle.hintcheck_programs.specs.Representation.ProgramOrder.{stage_of}
+use Rattle.hintcheck_programs.specs.Representation.FontVerdicts.{IsAt, KeepsKnown}
+use Rattle.hintcheck_programs.specs.Stages.{Stage}
+use Rattle.hintcheck_programs.proofs.VerdictSteps.{stays_known, known_can_go_on}
+use Rattle.hintcheck_programs.proofs.ProgramSteps.{calls_left}
 use Rattle.hintcheck.proofs.ProgramsBefore.{IsOnWay, at_named, fewer_on_way, refused_answer, still_on_way}
-use Rattle.hintcheck_fonts.proofs.VerdictSteps.{known_can_go_on}
 use Rattle.hintcheck.proofs.explanation.refused_before.Goals as goal
 
 pub loop-alloc-init : goal.loop-alloc-init

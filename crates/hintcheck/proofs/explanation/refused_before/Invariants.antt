@@ -1,7 +1,7 @@
 use Rattle.std.proofs.Common.{◌≡◌}
-use Rattle.hintcheck_fonts.specs.Representation.ProgramOrder.{stage_of}
-use Rattle.hintcheck_fonts.specs.Representation.SessionStages.{KeepsKnown}
-use Rattle.hintcheck_fonts.proofs.ProgramSteps.{calls_left}
+use Rattle.hintcheck_programs.specs.Representation.ProgramOrder.{stage_of}
+use Rattle.hintcheck_programs.specs.Representation.FontVerdicts.{KeepsKnown}
+use Rattle.hintcheck_programs.proofs.ProgramSteps.{calls_left}
 use Rattle.hintcheck.proofs.ProgramsBefore.{IsOnWay}
 use Rattle.hintcheck.proofs.explanation.refused_before.Given as goal
 

@@ -1,9 +1,9 @@
 use Rattle.std.proofs.Common.{rules}
-use Rattle.hintcheck_fonts.specs.Representation.Judges.{IsRefusedFor}
-use Rattle.hintcheck_fonts.specs.ProgramVerdicts.{with_start}
-use Rattle.hintcheck_fonts.specs.Representation.ProgramOrder.{stage_of, start_at}
-use Rattle.hintcheck_fonts.proofs.JudgeLaws.{uncut_is_refused}
-use Rattle.hintcheck_fonts.proofs.ProgramSteps.{uncut_next}
+use Rattle.hintcheck_programs.specs.Representation.Judges.{IsRefusedFor}
+use Rattle.hintcheck_programs.specs.ProgramVerdicts.{with_start}
+use Rattle.hintcheck_programs.specs.Representation.ProgramOrder.{stage_of, start_at}
+use Rattle.hintcheck_programs.proofs.JudgeLaws.{uncut_is_refused}
+use Rattle.hintcheck_programs.proofs.ProgramSteps.{uncut_next}
 use Rattle.hintcheck.proofs.ExplanationLemmas.{next_name, uncut_answered}
 use Rattle.hintcheck.proofs.explanation.tell_next.Goals as goal
 

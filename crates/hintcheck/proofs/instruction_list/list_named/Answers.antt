@@ -3,15 +3,15 @@ use Rattle.std.specs.Io.KnownBytes.{Appends}
 use Rattle.std.proofs.Common.{ℕ, List, [], ◌++◌, subst}
 use Rattle.tt_code.specs.declared.reason.Reason.{Reason}
 use Rattle.tt_font.specs.Reading.{no_glyph}
-use Rattle.hintcheck_fonts.specs.FontPrograms.{font_of, glyph_subject, one_glyph_font}
-use Rattle.hintcheck_fonts.specs.Programs.{IsRefusal, Subject}
+use Rattle.hintcheck_programs.specs.FontPrograms.{font_of, glyph_subject, one_glyph_font}
+use Rattle.hintcheck_programs.specs.Programs.{IsRefusal, Subject}
 use Rattle.tt_family.specs.Checks.{IsExhausted}
 use Rattle.tt_setting.specs.Refusals.{reason_of}
 use Rattle.tt_setting.specs.declared.refusal.Refusal.{Refusal}
 use Rattle.tt_setting.specs.declared.refusal.Refusal.TheVariants as fault
-use Rattle.hintcheck_fonts.specs.Representation.Judges.{IsRefusedFor}
-use Rattle.hintcheck_fonts.proofs.JudgeLaws.{uncut_is_refused}
-use Rattle.hintcheck_fonts.specs.ProgramVerdicts.{IfRefused, IsUncut}
+use Rattle.hintcheck_programs.specs.Representation.Judges.{IsRefusedFor}
+use Rattle.hintcheck_programs.proofs.JudgeLaws.{uncut_is_refused}
+use Rattle.hintcheck_programs.specs.ProgramVerdicts.{IfRefused, IsUncut}
 use Rattle.hintcheck_report.specs.Places.{reported_at}
 use Rattle.hintcheck_report.specs.Texts.{refused_text}
 use Rattle.hintcheck_report.specs.declared.refused.Refused.{Refused}

@@ -1,7 +1,7 @@
 use Rattle.std.proofs.Common.{◌≡◌, ◌∙◌, List, Some, ap, subst, sym}
 use Rattle.std.proofs.lemmas.Result.{IfOk-weaker}
 use Rattle.hintcheck_explain.specs.declared.asked.Explained.{Explained}
-use Rattle.hintcheck_fonts.specs.FontPrograms.{judgement_on}
+use Rattle.hintcheck_programs.specs.FontPrograms.{judgement_on}
 use Rattle.hintcheck.specs.SymbolicExplanations.{first_against, refused_of}
 use Rattle.hintcheck_report.specs.declared.refused.Refused.{Refused}
 use Rattle.hintcheck.proofs.symbolic_explanation.explain_symbolically.Goals as goal

@@ -1,4 +1,4 @@
-use Rattle.hintcheck_fonts.specs.Sessions.{IsForChecking}
+use Rattle.hintcheck_certificates.specs.Sessions.{IsForChecking}
 use Rattle.hintcheck_font_cases.proofs.sessions.refused_in_session.Given as goal
 
 abbrev pub invariant-loop : goal.invariant-loop

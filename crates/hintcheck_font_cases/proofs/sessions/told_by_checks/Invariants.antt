@@ -1,4 +1,4 @@
-use Rattle.hintcheck_fonts.specs.Sessions.{IsForChecking}
+use Rattle.hintcheck_certificates.specs.Sessions.{IsForChecking}
 use Rattle.hintcheck_font_cases.proofs.sessions.told_by_checks.Given as goal
 
 abbrev pub invariant-loop : goal.invariant-loop

@@ -1,6 +1,6 @@
 use Rattle.std.proofs.Common.{[], sym}
 use Rattle.std.proofs.lemmas.Result.{IfOk-weaker}
-use Rattle.hintcheck_fonts.specs.FontPrograms.{font_of}
+use Rattle.hintcheck_programs.specs.FontPrograms.{font_of}
 use Rattle.hintcheck_fonts.proofs.SymbolicAnswers.{listed_alone, listed_one, one_alone, told_alone}
 use Rattle.hintcheck_fonts.proofs.SymbolicSteps.{safe_alone}
 use Rattle.hintcheck_fonts.proofs.symbolic_bare.refused_after_empty.Goals as goal

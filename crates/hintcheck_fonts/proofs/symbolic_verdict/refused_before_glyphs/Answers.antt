@@ -2,8 +2,8 @@ use Rattle.std.proofs.Common.{◌≡◌, ◌∙◌, [], ◌∷◌, Bor, None, Op
 use Rattle.std.specs.Prelude.{IfSome, is_some}
 use Rattle.std.proofs.lemmas.Result.{IfOk-weaker}
 use Rattle.tt_font.specs.Reading.{FontData}
-use Rattle.hintcheck_fonts.specs.FontPrograms.{judgement_on}
-use Rattle.hintcheck_fonts.specs.Representation.ProgramOrder.{stage_of}
+use Rattle.hintcheck_programs.specs.FontPrograms.{judgement_on}
+use Rattle.hintcheck_programs.specs.Representation.ProgramOrder.{stage_of}
 use Rattle.hintcheck_fonts.specs.Representation.SymbolicChecks.{IsAfterCvt, IsAfterFont}
 use Rattle.hintcheck_fonts.specs.SymbolicVerdicts.{IsSymbolicVerdict}
 use Rattle.hintcheck_report.specs.declared.refused.Refused.{Refused}

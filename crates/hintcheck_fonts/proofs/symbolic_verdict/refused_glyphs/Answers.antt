@@ -4,11 +4,11 @@ use Rattle.tt_font.specs.Reading.{FontData}
 use Rattle.hintcheck_fonts.specs.SymbolicEnds.{StartGlyphs}
 use Rattle.hintcheck_fonts.specs.declared.ends.Ends.{Ends}
 use Rattle.hintcheck_fonts.specs.declared.glyph_starts.GlyphStarts.{GlyphStarts}
-use Rattle.hintcheck_fonts.specs.FontPrograms.{judgement_on}
-use Rattle.hintcheck_fonts.specs.Representation.ProgramOrder.{stage_of}
+use Rattle.hintcheck_programs.specs.FontPrograms.{judgement_on}
+use Rattle.hintcheck_programs.specs.Representation.ProgramOrder.{stage_of}
 use Rattle.hintcheck_fonts.specs.Representation.SymbolicChecks.{AreUncheckedTill, IsAfterCvt}
 use Rattle.hintcheck_fonts.specs.SymbolicVerdicts.{IsSymbolicVerdict}
-use Rattle.hintcheck_fonts.proofs.ProgramSteps.{fewer_after}
+use Rattle.hintcheck_programs.proofs.ProgramSteps.{fewer_after}
 use Rattle.hintcheck_fonts.proofs.SymbolicSteps.{all_checked, can_take_up, fewer_takings, fewer_to_come, glyph_after, glyph_listed, taken_up, takings_left}
 use Rattle.hintcheck_fonts.proofs.symbolic_verdict.refused_glyphs.Goals as goal
 

@@ -1,7 +1,7 @@
 use Rattle.std.proofs.Common.{◌≡◌}
 use Rattle.tt_setting.specs.Entries.{Ascends}
 use Rattle.hintcheck_fonts.specs.SymbolicEnds.{StartGlyphs}
-use Rattle.hintcheck_fonts.specs.Representation.ProgramOrder.{CanGoOn, stage_of}
+use Rattle.hintcheck_programs.specs.Representation.ProgramOrder.{CanGoOn, stage_of}
 use Rattle.hintcheck_fonts.specs.Representation.SymbolicChecks.{AreUncheckedTill, IsAfterCvt}
 use Rattle.hintcheck_fonts.proofs.SymbolicSteps.{takings_left}
 use Rattle.hintcheck_fonts.proofs.symbolic_verdict.refused_glyphs.Given as goal

@@ -1,4 +1,4 @@
-use Rattle.hintcheck_fonts.specs.Representation.ProgramOrder.{stage_of}
+use Rattle.hintcheck_programs.specs.Representation.ProgramOrder.{stage_of}
 use Rattle.hintcheck_fonts.proofs.SymbolicSteps.{told_of_none, told_of_outcome}
 use Rattle.hintcheck_fonts.proofs.symbolic_verdict.refused_next.Goals as goal
 

@@ -4,4 +4,4 @@ use Rattle.hintcheck_words.proofs.words.bare_task.Goals as goal
 
 pub returns : goal.returns
 unfolding asked bare_request
-returns c = rw (c.in_ok-text.ensures, c.number.ensures, c.number-2.ensures, c.number-3.ensures, c.in_ok-optional_text.ensures, c.points.ensures, c.asked_profile.ensures) refl
+returns c = rw (c.in_ok-text.ensures, c.number.ensures, c.number-2.ensures, c.number-3.ensures, c.in_ok-optional_text.ensures, c.asked_profile.ensures) refl

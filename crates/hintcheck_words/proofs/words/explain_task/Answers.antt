@@ -28,4 +28,4 @@ returns c =
       | else-is_given-via-then-is_given+else-not-names_program w ↦ of_program given named (cc (w.names_program.ensures, w.if-not-names_program.false))
       | else-is_given-via-else-is_given w ↦ in_lines given named (sym c.is_given.ensures ∙ w.if-is_given.false)
     ] in
-    rw (other, c.in_ok-text.ensures, c.in_ok-optional_text.ensures, c.in_ok-optional_text-2.ensures, c.points.ensures, c.asked_profile.ensures, c.asked_format.ensures) refl
+    rw (other, c.in_ok-text.ensures, c.in_ok-optional_text.ensures, c.in_ok-optional_text-2.ensures, c.asked_profile.ensures, c.asked_format.ensures) refl

@@ -7,8 +7,8 @@ use Rattle.tt_symbolic.specs.Steps.{StepsTo}
 use Rattle.tt_symbolic_check.proofs.Walkings.{step_reaches}
 use Rattle.tt_symbolic_check.proofs.walk.step_on.Goals as goal
 
-pub returns : goal.returns
-returns c = step_reaches c.args.setting.now c.args.kept.now c.args.listed.now c.args.state.value (with_value c.args.state c.step_keeping.new.state) c.args.walk.now c.put_pending.new.walk c.requires
-    (subst (λ (y : State). StepsTo c.args.setting.now y c.step_keeping.new.state) c.deref_mut.ensures.value c.in_ok-step_keeping.ensures.steps)
-    (subst (λ (y : State). StepsKeep (setting_of c.args.setting.now) c.args.kept.now y) c.deref_mut.ensures.value c.in_ok-step_keeping.ensures.keeps)
-    c.in_ok-put_pending.ensures
+pub returns-in_ok-put_pending-in-Ok : goal.returns-in_ok-put_pending-in-Ok
+returns-in_ok-put_pending-in-Ok g c = step_reaches c.args.setting.now c.args.kept.now c.args.state.value (with_value c.args.state c.step_keeping.new.state) c.args.walk.now c.put_pending.new.walk c.requires
+    (subst (λ (y : State). StepsTo c.args.setting.now y c.step_keeping.new.state) c.deref_mut.ensures.value c.in-Ok.ensures.steps)
+    (subst (λ (y : State). StepsKeep (setting_of c.args.setting.now) c.args.kept.now y) c.deref_mut.ensures.value c.in-Ok.ensures.keeps)
+    c.in_ok-put_pending-in-Ok.ensures

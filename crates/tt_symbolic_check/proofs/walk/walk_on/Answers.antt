@@ -2,12 +2,12 @@ use Rattle.tt_symbolic_check.proofs.Walkings.{nothing_reaches, reaches_none, rea
 use Rattle.tt_symbolic_check.proofs.walk.walk_on.Goals as goal
 
 pub loop-step-init : goal.loop-step-init
-loop-step-init c = reaches_none c.args.setting.now c.args.kept.now c.args.listed.now c.args.walk.now _ (λ final x. tt)
+loop-step-init g c = reaches_none c.args.setting.now c.args.kept.now c.args.walk.now
 
 pub loop-step-preserved : goal.loop-step-preserved
-loop-step-preserved c = reaches_on c.args.setting.now c.args.kept.now c.args.listed.now c.args.walk.now c.loop-step.walk c.advance.new.walk c.loop-step.invariant (take_reaches c.args.setting.now c.args.kept.now c.args.listed.now c.loop-step.walk c.take_pending.new.walk c.advance.new.walk c.in-Some.entry c.in-Some.ensures.some c.in_ok-advance-in-Some.ensures.walks)
+loop-step-preserved g c = reaches_on c.args.setting.now c.args.kept.now c.args.walk.now c.loop-step.walk c.advance.new.walk c.loop-step.invariant (take_reaches c.args.setting.now c.args.kept.now c.loop-step.walk c.take_next.new.walk c.advance.new.walk c.in-Some.entry c.in-Some.ensures.some c.in_ok-advance-in-Some.ensures.walks)
 
 pub returns-in-None-clause-finishes : goal.returns-in-None-clause-finishes
-returns-in-None-clause-finishes c =
-    let n = c.take_pending.ensures.none c.in-None.is in
-    record { none_pending = n.pending; reaches = reaches_on c.args.setting.now c.args.kept.now c.args.listed.now c.args.walk.now c.loop-step.walk c.take_pending.new.walk c.loop-step.invariant (nothing_reaches c.args.setting.now c.args.kept.now c.args.listed.now c.loop-step.walk c.take_pending.new.walk n) }
+returns-in-None-clause-finishes g c =
+    let n = c.take_next.ensures.none c.in-None.is in
+    record { none_pending = n.pending; reaches = reaches_on c.args.setting.now c.args.kept.now c.args.walk.now c.loop-step.walk c.take_next.new.walk c.loop-step.invariant (nothing_reaches c.args.setting.now c.args.kept.now c.loop-step.walk c.take_next.new.walk n) }

@@ -2,7 +2,7 @@ use Rattle.std.proofs.Common.{rules, refl}
 use Rattle.hintcheck.proofs.commands.bare_task.bare_verdict.Goals as goal
 
 pub returns-in-Strict-None-clause-given : goal.returns-in-Strict-None-clause-given
-returns-in-Strict-None-clause-given c = rw c.in-Strict-None.is-0 (record {
+returns-in-Strict-None-clause-given c = rw c.in-Strict-None.is (record {
   table = c.in_ok-maxp.maxp.items;
   table_spelled = search rules;
   glyph = record { points = c.args.words.points; contours = c.args.words.contours; program = c.in_ok-program.program.items };
@@ -16,7 +16,7 @@ returns-in-Strict-None-clause-given c = rw c.in-Strict-None.is-0 (record {
 })
 
 pub returns-in-Strict-None-clause-refused : goal.returns-in-Strict-None-clause-refused
-returns-in-Strict-None-clause-refused c = λ some. rw c.in-Strict-None.is-0 (record {
+returns-in-Strict-None-clause-refused c = λ some. rw c.in-Strict-None.is (record {
   table = c.in_ok-maxp.maxp.items;
   table_spelled = search rules;
   glyph = record { points = c.args.words.points; contours = c.args.words.contours; program = c.in_ok-program.program.items };
@@ -27,7 +27,7 @@ returns-in-Strict-None-clause-refused c = λ some. rw c.in-Strict-None.is-0 (rec
 })
 
 pub returns-in-Ok-clause-given : goal.returns-in-Ok-clause-given
-returns-in-Ok-clause-given c = rw c.in-Strict-Some.is-0 (record {
+returns-in-Ok-clause-given c = rw c.in-Strict-Some.is (record {
   table = c.in_ok-maxp.maxp.items;
   table_spelled = search rules;
   glyph = record { points = c.args.words.points; contours = c.args.words.contours; program = c.in_ok-program.program.items };
@@ -41,7 +41,7 @@ returns-in-Ok-clause-given c = rw c.in-Strict-Some.is-0 (record {
 })
 
 pub returns-in-Ok-clause-refused : goal.returns-in-Ok-clause-refused
-returns-in-Ok-clause-refused c = λ some. rw c.in-Strict-Some.is-0 (record {
+returns-in-Ok-clause-refused c = λ some. rw c.in-Strict-Some.is (record {
   table = c.in_ok-maxp.maxp.items;
   table_spelled = search rules;
   glyph = record { points = c.args.words.points; contours = c.args.words.contours; program = c.in_ok-program.program.items };
@@ -52,7 +52,7 @@ returns-in-Ok-clause-refused c = λ some. rw c.in-Strict-Some.is-0 (record {
 })
 
 pub returns-clause-given : goal.returns-clause-given
-returns-clause-given c = rw c.in-Symbolic-default.is-0 (record {
+returns-clause-given c = rw c.in-Symbolic.is (record {
   table = c.in_ok-maxp.maxp.items;
   table_spelled = search rules;
   glyph = record { points = c.args.words.points; contours = c.args.words.contours; program = c.in_ok-program.program.items };

@@ -1,4 +1,4 @@
-use Rattle.hintcheck_fonts.proofs.FontSafety.{font_is_safe}
+use Rattle.hintcheck_programs.proofs.FontSafety.{font_is_safe}
 use Rattle.hintcheck.proofs.commands.find_task.find_verdict.Goals as goal
 
 pub returns-clause-safe : goal.returns-clause-safe

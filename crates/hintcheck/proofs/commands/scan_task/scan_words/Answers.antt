@@ -16,10 +16,10 @@ pub returns-in_ok-fonts-in-Lists-clause-safe : goal.returns-in_ok-fonts-in-Lists
 returns-in_ok-fonts-in-Lists-clause-safe g c =
     let names = map (λ s. string_bytes s) c.deref.result.now in
     let expected = option_map (λ s. string_bytes s) c.args.expected.now in
-    IfOk-weaker c.scan_fonts-in-Lists.result _ _ (λ status safe zero. of_lists c.args.options.words _ names (λ ns. IsSafeScan c.args.options ns expected) c.in-Lists.is (safe zero)) c.scan_fonts-in-Lists.ensures.safe
+    IfOk-weaker c.scan_fonts-in-Lists.result _ _ (λ status tells zero. of_lists c.args.options.words _ names (λ ns. IsSafeScan c.args.options ns expected) c.in-Lists.is (tells.safe zero)) c.scan_fonts-in-Lists.ensures.tells
 
 pub returns-in_ok-fonts-in-Lists-clause-refused : goal.returns-in_ok-fonts-in-Lists-clause-refused
 returns-in_ok-fonts-in-Lists-clause-refused g c =
     let names = map (λ s. string_bytes s) c.deref.result.now in
     let expected = option_map (λ s. string_bytes s) c.args.expected.now in
-    IfOk-weaker c.scan_fonts-in-Lists.result _ _ (λ status refused one. of_lists c.args.options.words _ names (λ ns. IsRefusedScan c.args.options ns expected) c.in-Lists.is (refused one)) c.scan_fonts-in-Lists.ensures.refused
+    IfOk-weaker c.scan_fonts-in-Lists.result _ _ (λ status tells one. of_lists c.args.options.words _ names (λ ns. IsRefusedScan c.args.options ns expected) c.in-Lists.is (tells.refused one)) c.scan_fonts-in-Lists.ensures.tells

@@ -2,8 +2,8 @@ use Rattle.std.proofs.Common.{◌≡◌, ℕ, List, [], ◌++◌, Option, Some, 
 use Rattle.std.specs.Prelude.{IfSome}
 use Rattle.std.specs.Io.KnownBytes.{Appends, Keeps, append_known, prepend_known}
 use Rattle.std.proofs.lemmas.List.{append-nil}
-use Rattle.hintcheck_fonts.specs.CertificateTexts.{WritesText}
-use Rattle.hintcheck_fonts.specs.CheckedFonts.{IsTold, bytes_in}
+use Rattle.hintcheck_certificates.specs.CertificateTexts.{WritesText}
+use Rattle.hintcheck_certificates.specs.CheckedFonts.{IsTold, bytes_in}
 use Rattle.hintcheck.proofs.commands.upgrade_task.upgrade_file.Goals as goal
 
 -- what is appended to a writer that keeps its bytes in another one is appended to that one

@@ -1,6 +1,6 @@
 use Rattle.std.proofs.Common.{[]}
 use Rattle.tt_code.specs.Settings.{CvtProgram, FontProgram}
-use Rattle.hintcheck_fonts.specs.FontPrograms.{font_of}
+use Rattle.hintcheck_programs.specs.FontPrograms.{font_of}
 use Rattle.hintcheck_fonts.proofs.SymbolicSteps.{begun_empty}
 use Rattle.hintcheck_fonts.proofs.symbolic_check.SymbolicCheck.pass_empty.Goals as goal
 

@@ -1,0 +1,17 @@
+pub mod CheckRefusals
+pub mod CheckedSections
+pub mod SessionSteps
+pub mod SessionRuns
+pub mod FindingSteps
+pub mod SecondFindings
+pub mod CheckedTexts
+pub mod OneFinding
+pub mod OneFont
+pub mod UnlimitedFaults
+pub mod UnreadBytes
+pub mod TextBeginnings
+pub mod CertificateWriting
+pub mod FailedReads
+pub mod UpgradeChecks
+pub mod UpgradeSteps
+pub mod UpgradeReads

@@ -1,0 +1,11 @@
+pub mod Certificates
+pub mod CertificateFaults
+pub mod BudgetAnswers
+pub mod CheckedFonts
+pub mod CertificateTexts
+pub mod Upgrades
+pub mod UpgradeFaults
+pub mod Sessions
+pub mod FindingSessions
+pub mod FailedReads
+pub mod Representation

@@ -1,0 +1,5 @@
+-- How the code keeps what the definitions speak of: private contracts cite these, and no public one
+-- does.
+pub mod ReadProgress
+pub mod SectionJudges
+pub mod SessionStages

@@ -1,0 +1,10 @@
+pub mod ProgramVerdictLemmas
+pub mod BareProgramLemmas
+pub mod FontEnds
+pub mod FontRuns
+pub mod FontSafety
+pub mod EmptyPrograms
+pub mod ProgramSteps
+pub mod JudgeLaws
+pub mod VerdictSteps
+pub mod UnlimitedFaults

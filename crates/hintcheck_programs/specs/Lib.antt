@@ -1,0 +1,10 @@
+pub mod Verdicts
+pub mod Programs
+pub mod FontPrograms
+pub mod ProgramVerdicts
+pub mod BarePrograms
+pub mod FoundFamilies
+pub mod GoodPrograms
+pub mod Stages
+pub mod BudgetAnswers
+pub mod Representation
