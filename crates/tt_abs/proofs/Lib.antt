@@ -25,10 +25,6 @@ pub mod Pushes
 pub mod Steps
 pub mod StateCoverage
 pub mod EntriesInRange
-pub mod RunningOnCells
-pub mod ExamplesAsCases
-pub mod ExamplesOfCells
-pub mod ExamplesOfOtherCells
 pub mod RangesKept
 pub mod TakenLemmas
 pub mod PlainSteps
@@ -43,11 +39,9 @@ pub mod Places
 pub mod Calls
 pub mod Everything
 pub mod Contexts
-mod ExamplesOfCalls
 pub mod StepLemmas
 pub mod LineLaws
 pub mod FamilyLaws
 pub mod Soundness
-mod ExamplesOfFlows
 pub mod Goodness
 pub mod FunctionBodies

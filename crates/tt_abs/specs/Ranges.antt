@@ -1,8 +1,6 @@
--- Cells and abstract states that are in the range of the machine's numbers, and settings whose
--- programs are bytes.
+-- Cells and abstract states that are in the range of the machine's numbers.
 use Rattle.std.specs.Prelude.{ℕ, ◌<◌, ◌^◌, List, [], ◌∷◌}
 use Rattle.std.specs.List.{AllByRecursion}
-use Rattle.tt_code.specs.Settings.{Setting}
 use Rattle.tt_code.specs.States.{IsNumber, Registers}
 use Rattle.tt_abs.specs.declared.cells.Cell.{Cell}
 use Rattle.tt_abs.specs.declared.cells.Cell.TheVariants.{Known, Unknown}
