@@ -5,11 +5,13 @@ Usage: bench/examples.py [PROGRAM]
 PROGRAM is a built hintcheck: crates/hintcheck_cli/out/hintcheck_cli where no other is named. README's examples are the lines of its blocks that
 begin with `$ hintcheck`: what is printed must be the lines that follow, where `...` at the end of a line stands for its rest and, at the end of the
 last one, for further lines too. Those of the manual page are in its section EXAMPLES and show no answer: each line that is printed must have one of
-the forms that the section OUTPUT has, or be an object of JSON. No example may tell a fault. The fonts are looked for below /usr/share/fonts. What
-can't be run since a font isn't there is named. What differs is printed, and the exit status is then 1; so it is where no example can be run.
+the forms that the section OUTPUT has, or be an object of JSON. No example may tell a fault. The fonts are looked for below /usr/share/fonts, and
+those of README's answers by their bytes, since another version has other programs. What can't be run since a font isn't there is named. What
+differs is printed, and the exit status is then 1; so it is where no example can be run.
 """
 
 import functools
+import hashlib
 import json
 import pathlib
 import re
@@ -25,6 +27,14 @@ README, MANUAL = TOP / "README.md", TOP / "docs/hintcheck.1"
 FONTS = pathlib.Path("/usr/share/fonts")
 ALL_FONTS = "*.ttf"
 MOST_SECONDS = 120
+
+# The fonts whose answers README shows, with the SHA-256 of the version that it means: those of Debian 12's fonts-dejavu-core 2.37,
+# fonts-liberation2 2.1.5 and fonts-go.
+MEANT = {
+    "DejaVuSans.ttf": "abdc775b21b1bc470d50c97e790d276f2054b7504e56e5bd3e64f48d68582322",
+    "LiberationSans-Regular.ttf": "8d91388f1d3604b3b8ae0e3ee2d140e50cd6122f9214514f4aca772540a4076d",
+    "Go-Regular.ttf": "dd02d2f04dbc9f6329f3777b999fd3985f70b8f69b7c8aa522db3ec1fef9ceb2",
+}
 
 # The members that each object of JSON has.
 MEMBERS = {"version", "file", "profile", "status"}
@@ -78,10 +88,15 @@ def forms() -> list[re.Pattern[str]]:
     return [form(line) for line in re.findall(r"^\.Dl (.*)$", section("OUTPUT"), re.M) if "fault:" not in line]
 
 
+def is_meant(path: pathlib.Path) -> bool:
+    """Whether a font has the bytes that README means by its name."""
+    return path.name not in MEANT or hashlib.sha256(path.read_bytes()).hexdigest() == MEANT[path.name]
+
+
 def fonts(examples: list[Example]) -> dict[str, pathlib.Path]:
     """The fonts of which these examples speak, as far as they are there."""
     names = set().union(*(example.names() for example in examples))
-    return {path.name: path for path in sorted(FONTS.rglob(ALL_FONTS)) if path.name in names}
+    return {path.name: path for path in sorted(FONTS.rglob(ALL_FONTS)) if path.name in names and is_meant(path)}
 
 
 def is_as_shown(shown: list[str], printed: list[str]) -> bool:
