@@ -4,7 +4,7 @@ use std::alloc::{AllocError, Global};
 use tt_abs::Setting;
 use tt_setting::StepFault;
 use tt_symbolic::step::code_at;
-use tt_symbolic_check::{Guide, Move, Pool, START, Walk, wanted};
+use tt_symbolic_check::{Guide, Move, Pool, START, Walk, covers_by, wanted};
 use tt_symbolic_state::State;
 
 /// Guides a walk: a state which a listed one covers is widened to that, which becomes a head; later
@@ -19,8 +19,10 @@ pub(crate) struct Listed<'a> {
     heads: Vec<usize>,
     /// Which listed state is looked at next.
     next: usize,
-    /// Whether the state was widened to the one that was looked at last.
-    is_widened: bool,
+    /// The listed state to which the state was widened, until that is a head.
+    widened: Option<usize>,
+    /// How many waited when a state was to stop: as many where it couldn't.
+    stopping: Option<usize>,
 }
 
 impl<'a> Listed<'a> {
@@ -37,29 +39,59 @@ impl<'a> Listed<'a> {
             widest,
             heads: Vec::new(alloc),
             next: 0,
-            is_widened: false,
+            widened: None,
+            stopping: None,
         }
     }
 
-    /// Makes a head of the state that was looked at last.
-    fn become_head(&mut self) -> Result<Move, AllocError> {
-        self.is_widened = false;
-        self.heads.push(self.next.saturating_sub(1))?;
-        Ok(Move::Head)
+    /// Lets a state stop at a listed state that covers it, or be widened to that.
+    fn meet(
+        &mut self,
+        place: usize,
+        pool: &mut Pool,
+        waiting: usize,
+    ) -> Result<Option<Move>, AllocError> {
+        let Some(there) = self.listed.get(place) else {
+            return Ok(None);
+        };
+        self.next = place.saturating_add(1);
+        if let Some(number) = self.heads.iter().position(|head| *head == place) {
+            self.stopping = Some(waiting);
+            return Ok(Some(Move::Stop(number)));
+        }
+        self.widened = Some(place);
+        Ok(Some(Move::Widen(pool.copied(there)?, usize::MAX)))
+    }
+
+    /// Returns the next listed state that covers a state.
+    fn covering(&self, state: &State, pool: &mut Pool) -> Result<usize, AllocError> {
+        for place in self.next..self.listed.len() {
+            if covers_by(&mut pool.assigned, state, &self.listed[place])? {
+                return Ok(place);
+            }
+        }
+        Ok(self.listed.len())
     }
 
     /// Chooses what becomes of a state.
-    fn chosen(&mut self, state: &State, pool: &mut Pool) -> Result<Move, AllocError> {
-        if self.is_widened {
-            return self.become_head();
+    fn chosen(
+        &mut self,
+        state: &State,
+        pool: &mut Pool,
+        waiting: usize,
+    ) -> Result<Move, AllocError> {
+        if let Some(place) = self.widened.take() {
+            self.heads.push(place)?;
+            return Ok(Move::Head);
         }
-        let place = self.next;
-        if let Some(there) = self.listed.get(place) {
-            self.next = place.saturating_add(1);
-            return match self.heads.iter().position(|head| *head == place) {
-                Some(number) => Ok(Move::Stop(number)),
-                None => Ok(Move::Widen(pool.copied(there)?)),
-            };
+        if let Some(before) = self.stopping.take() {
+            if waiting != before {
+                self.next = 0;
+            }
+        }
+        let place = self.covering(state, pool)?;
+        if let Some(chosen) = self.meet(place, pool, waiting)? {
+            return Ok(chosen);
         }
         let code = code_at(self.setting, state);
         match code.and_then(|code| wanted(code, state, self.widest)) {
@@ -74,21 +106,10 @@ impl<'a> Listed<'a> {
 
 impl Guide for Listed<'_> {
     fn choose(&mut self, walk: &Walk, state: &State, pool: &mut Pool) -> Move {
-        let _ = walk;
-        match self.chosen(state, pool) {
+        match self.chosen(state, pool, walk.pending.len()) {
             Ok(chosen) => chosen,
             Err(error) => Move::GiveUp(START, StepFault::from(error)),
         }
-    }
-
-    fn tested(&mut self, covers: bool) -> Result<(), AllocError> {
-        let place = self.next.saturating_sub(1);
-        let was_head = self.heads.contains(&place);
-        if covers && was_head {
-            self.next = 0;
-        }
-        self.is_widened = covers && !was_head;
-        Ok(())
     }
 
     fn stepped(&mut self, state: &State) -> Result<(), AllocError> {

@@ -149,8 +149,20 @@ in_popped {A} old new r y e h = more_in new r y (in_same old (new ++ r ∷ []) y
 
 -- What is reached.
 
-copy_covers : (a b : State) → IsCopy a b → Covers a b
-copy_covers a b copy = record { covers = λ m controls s. copy_shown a b m controls copy s }
+copy_covered : (a b : State) → IsCopy a b → Covers b a
+copy_covered a b c = record { covers = λ m controls s. copy_shown b a m controls back s }
+  where
+    back : IsCopy b a
+    back = record {
+      offset = sym c.offset;
+      calls = sym c.calls;
+      stack = sym c.stack;
+      graphics = sym c.graphics;
+      storage = sym c.storage;
+      controls_are = sym c.controls_are;
+      functions = sym c.functions;
+      ranges = sym c.ranges;
+    }
 
 module _ (setting : Setting) (kept : Kept) where
   -- a walk that may not stop at first may stop
@@ -241,30 +253,30 @@ module _ (setting : Setting) (kept : Kept) where
     reaches = λ final x all. (all, subst (λ (c : Bool). Walks setting kept final c a) (sym e) (meets a (record { head = h.head; is_head = x.heads h.head h.is_head; covers = h.covers })), λ c found. inl found);
   }
 
-  -- the state is a head, and its copy waits, which may not stop
-  pub head_reaches : (a : State) (b : Bool) (copy : Box State Global) (old middle new : Walk) → IsCopy a copy.value → PutsHead a old middle → PutsPending copy false middle new → ReachesFrom setting kept old new b a
-  head_reaches a b copy old middle new is p q = record {
+  -- a copy of the state is a head, and the state waits, which may not stop
+  pub head_reaches : (a : Box State Global) (b : Bool) (head : State) (old middle new : Walk) → IsCopy a.value head → PutsHead head old middle → PutsPending a false middle new → ReachesFrom setting kept old new b a.value
+  head_reaches a b head old middle new is p q = record {
     extends = extends_more old middle new (record {
-      heads = λ c h. in_same (old.heads.items ++ a ∷ []) middle.heads.items c p.heads (in_more old.heads.items a c h);
+      heads = λ c h. in_same (old.heads.items ++ head ∷ []) middle.heads.items c p.heads (in_more old.heads.items head c h);
       ends = λ c h. in_same old.ends.items middle.ends.items c p.ends h;
     }) r.extends;
     reaches = λ final x all.
         let (all', w, heads) = r.reaches final x all in
-        let here : Walks setting kept final false a = widens false a copy.value (copy_covers a copy.value is) w in (
+        let there : Walks setting kept final false head = widens false head a.value (copy_covered a.value head is) w in (
           (λ k found. all' k (in_same old.pending.items middle.pending.items k p.pending found)),
-          from_false final b a here,
+          from_false final b a.value w,
           (λ c found. elim (heads c found) [
-            | inl before ↦ elim (more_in old.heads.items a c (in_same middle.heads.items (old.heads.items ++ a ∷ []) c (sym p.heads) before)) [
+            | inl before ↦ elim (more_in old.heads.items head c (in_same middle.heads.items (old.heads.items ++ head ∷ []) c (sym p.heads) before)) [
               | inl earlier ↦ inl earlier
-              | inr same ↦ inr (subst (λ (y : State). Walks setting kept final false y) (sym same) here)
+              | inr same ↦ inr (subst (λ (y : State). Walks setting kept final false y) (sym same) there)
             ]
             | inr walks ↦ inr walks
           ]),
         );
   }
     where
-      r : ReachesFrom setting kept middle new false copy.value
-      r = put_reaches copy false middle new q
+      r : ReachesFrom setting kept middle new false a.value
+      r = put_reaches a false middle new q
 
   -- one of what waited is taken, and walks
   take_then : (P Q : Walk → Type 0) (old middle new : Walk) (p : Pending) → TakesPending old middle p → ((final : Walk) → P final → Walks setting kept final p.may_stop p.state.value × Q final) → Reaches setting kept middle new P → Reaches setting kept old new Q
@@ -296,10 +308,6 @@ module _ (setting : Setting) (kept : Kept) where
       take_then (λ final. Walks setting kept final (b && other.may_stop) joined.value) (λ final. Walks setting kept final b a) old middle new other t
       (λ final w. let (one, two) = from_both final b other.may_stop joined.value w in (widens other.may_stop other.state.value joined.value k two, widens b a joined.value h one))
       (put_reaches joined (b && other.may_stop) middle new p)
-
-  -- one that waits covers the state, and waits for both
-  pub yield_reaches : (a : State) (b : Bool) (other : Pending) (old middle new : Walk) → TakesPending old middle other → Covers a other.state.value → PutsPending other.state (b && other.may_stop) middle new → ReachesFrom setting kept old new b a
-  yield_reaches a b other old middle new t h p = join_reaches a b other other.state old middle new t h (record { covers = λ m controls s. s }) p
 
   -- what was taken is put back, and the state waits
   pub rejoin_reaches : (a : Box State Global) (b : Bool) (other : Pending) (old middle back new : Walk) → TakesPending old middle other → PutsPending other.state other.may_stop middle back → PutsPending a b back new → ReachesFrom setting kept old new b a.value

@@ -181,7 +181,7 @@ fn agree_all(
 }
 
 /// Returns what is listed with a number, which is mostly found at a place.
-fn listed_near<T: Copy>(entries: &SortedMap<T>, place: usize, number: u16) -> Option<T>
+pub fn listed_near<T: Copy>(entries: &SortedMap<T>, place: usize, number: u16) -> Option<T>
     ensures { result ≡ listed entries.now number }
 {
     let list = entries.as_slice();
@@ -354,26 +354,6 @@ fn agree_states(
     agree_entries(assigned, ranges, &mine.controls, theirs.controls.as_slice())
 }
 
-/// Whether both are in calls of the same bodies from the same places.
-fn are_in_same_calls(mine: &[OpenCall], theirs: &[OpenCall]) -> bool {
-    if mine.len() != theirs.len() {
-        return false;
-    }
-    for (own, other) in mine.iter().zip(theirs) {
-        if own.body != other.body || own.call != other.call {
-            return false;
-        }
-    }
-    true
-}
-
-/// Whether the states are at the same place, and as deep in elements: then more is to be compared.
-fn may_cover(mine: &State, theirs: &State) -> bool {
-    mine.offset == theirs.offset
-        && mine.stack.len() == theirs.stack.len()
-        && are_in_same_calls(mine.calls.as_slice(), theirs.calls.as_slice())
-}
-
 /// Whether the second state shows each machine that the first shows. The cells that are assigned to
 /// its symbols are put into a list, in the memory that this has, where that is enough.
 ///
@@ -386,9 +366,6 @@ pub fn covers_by(
 ) -> Result<bool, AllocError>
     ensures { IfOk result (λ b. b ≡ true → Covers mine.now theirs.now) }
 {
-    if !may_cover(mine, theirs) {
-        return Ok(false);
-    }
     assigned.clear();
     assigned.resize(theirs.ranges.len(), None)?;
     let cells = assigned.as_mut_slice();
@@ -408,4 +385,24 @@ pub fn covers(alloc: Global, mine: &State, theirs: &State) -> Result<bool, Alloc
 {
     let mut assigned = Vec::new(alloc);
     covers_by(&mut assigned, mine, theirs)
+}
+
+/// Whether a state shows each machine that either of two shows. It uses a list as `covers_by` does.
+///
+/// # Errors
+/// If memory runs out.
+pub fn covers_both(
+    assigned: &mut Vec<Option<Cell>>,
+    one: &State,
+    other: &State,
+    joined: &State,
+) -> Result<bool, AllocError>
+    ensures { IfOk result (λ b. b ≡ true
+        → Covers one.now joined.now × Covers other.now joined.now) }
+{
+    let covers = covers_by(assigned, one, joined)?;
+    if !covers {
+        return Ok(false);
+    }
+    covers_by(assigned, other, joined)
 }

@@ -8,7 +8,8 @@ use std::alloc::AllocError;
 use tt_setting::StepFault;
 use tt_symbolic_state::state::State;
 
-/// What is to become of the state that is carried on.
+/// What is to become of the state that is carried on. Where a state that has to cover it doesn't, it
+/// is carried on as it is.
 #[derive(Drop)]
 pub enum Move {
     /// It makes a step, or is put among the ends, where it is at the main program's end.
@@ -17,12 +18,9 @@ pub enum Move {
     Split(Split, usize),
     /// It waits at this place.
     Wait(usize),
-    /// This state is carried on in its place, if that covers it.
-    Widen(Box<State>),
-    /// It goes no further, if the one that waits at this place covers it.
-    Yield(usize),
-    /// This state waits in its place and in that of the one which waits at this place, if it covers
-    /// both. Otherwise the state is carried on.
+    /// This state waits at this place instead, if it covers it.
+    Widen(Box<State>, usize),
+    /// This state waits instead of it and of the one that waits at this place, if it covers both.
     Join(usize, Box<State>),
     /// It becomes a head, and is carried on.
     Head,
@@ -38,12 +36,6 @@ pub trait Guide {
     /// Chooses what becomes of the state that is carried on. The places of what waits are those of
     /// `walk.pending`: the last of it is carried on next.
     fn choose(&mut self, walk: &Walk, state: &State, pool: &mut Pool) -> Move;
-
-    /// Is told whether the state covers what it was chosen to cover.
-    ///
-    /// # Errors
-    /// If memory runs out.
-    fn tested(&mut self, covers: bool) -> Result<(), AllocError>;
 
     /// Is told the state after a step.
     ///

@@ -15,7 +15,7 @@ mod walk;
 
 pub use checking::check;
 pub use copying::{Split, copied, copy_into, lower, raise};
-pub use covering::{covers, has_functions};
+pub use covering::{covers, covers_both, covers_by, has_functions, listed_near};
 pub use guide::{Guide, Move};
 pub use insight::{Insight, KnownState, Question, RefusedState, SymbolOrigin};
 pub use pool::Pool;

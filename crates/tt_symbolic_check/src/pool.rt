@@ -74,6 +74,16 @@ impl Pool {
         }
     }
 
+    /// Makes a copy of a state in new memory, of which it takes no more than it needs.
+    ///
+    /// # Errors
+    /// If memory runs out.
+    pub fn exact_copy(&self, state: &State) -> Result<State, AllocError>
+        ensures { IfOk result (IsCopy state.now) }
+    {
+        copied(self.alloc, state)
+    }
+
     /// Keeps the memory of a state that is done with, if there is little of it.
     ///
     /// # Errors

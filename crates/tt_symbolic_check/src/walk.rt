@@ -6,7 +6,7 @@ ghost use Rattle.tt_symbolic_check.specs.Covering.{Covers};
 ghost use Rattle.tt_symbolic_check.specs.Walking.{Begins, EndsAs, Finishes, IsMet, NothingPending, PutsEnd, PutsHead, PutsPending, ReachesFrom, TakesPending};
 
 use crate::copying::{Split, lower, raise};
-use crate::covering::covers_by;
+use crate::covering::{covers_both, covers_by};
 use crate::guide::{Guide, Move};
 use crate::pool::Pool;
 use crate::site::{Site, too_many_steps};
@@ -134,32 +134,6 @@ fn split_up(
     Ok(())
 }
 
-/// Carries on what a step makes of a state.
-fn step_on<G: Guide>(
-    setting: &Setting<'_>,
-    kept: &Kept<'_>,
-    walk: &mut Walk,
-    state: Box<State>,
-    guide: &mut G,
-) -> Result<(), StepFault>
-    requires { EndsAs setting.now state.value false }
-    ensures { OnOk result
-        (ReachesFrom setting.now kept.now walk.old walk.new false state.value) }
-{
-    let mut next = state;
-    match step_keeping(setting, kept, &mut next) {
-        Ok(()) => {
-            guide.stepped(&next)?;
-            put_pending(walk, NEXT, next, true)?;
-            Ok(())
-        }
-        Err(fault) => {
-            guide.refused(&next, &fault)?;
-            Err(fault)
-        }
-    }
-}
-
 /// Carries a state on: to the ends, or by a step.
 fn carry_on<G: Guide>(
     setting: &Setting<'_>,
@@ -175,33 +149,42 @@ fn carry_on<G: Guide>(
         put_end(walk, Box::into_inner(state))?;
         return Ok(());
     }
-    step_on(setting, kept, walk, state, guide)
+    let mut next = state;
+    match step_keeping(setting, kept, &mut next) {
+        Ok(()) => {
+            guide.stepped(&next)?;
+            put_pending(walk, NEXT, next, true)?;
+            Ok(())
+        }
+        Err(fault) => {
+            guide.refused(&next, &fault)?;
+            Err(fault)
+        }
+    }
 }
 
-/// Carries on a wider state in place of the one that was taken, if that covers it.
-fn widen<G: Guide>(
+/// Lets a wider state wait at a place instead of the one that was taken, if it covers that.
+fn widen(
     pool: &mut Pool,
     setting: &Setting<'_>,
     kept: &Kept<'_>,
     walk: &mut Walk,
     entry: Pending,
     wider: Box<State>,
-    guide: &mut G,
+    place: usize,
 ) -> Result<(), AllocError>
     ensures { OnOk result
         (ReachesFrom setting.now kept.now walk.old walk.new entry.may_stop entry.state.value) }
 {
     let Pending { state, may_stop } = entry;
     let covers = covers_by(&mut pool.assigned, &state, &wider)?;
-    guide.tested(covers)?;
     if covers {
         pool.keep(state)?;
-        put_pending(walk, NEXT, wider, may_stop)?;
+        put_pending(walk, place, wider, may_stop)?;
         return Ok(());
     }
     pool.keep(wider)?;
-    put_pending(walk, NEXT, state, may_stop)?;
-    Ok(())
+    put_pending(walk, NEXT, state, may_stop)
 }
 
 /// Whether both are so.
@@ -211,26 +194,9 @@ fn both(one: bool, other: bool) -> bool
     one && other
 }
 
-/// Whether a state covers both of two.
-fn covers_both(
-    pool: &mut Pool,
-    one: &State,
-    other: &State,
-    joined: &State,
-) -> Result<bool, AllocError>
-    ensures { IfOk result (λ b. b ≡ true
-        → Covers one.now joined.now × Covers other.now joined.now) }
-{
-    let covers = covers_by(&mut pool.assigned, one, joined)?;
-    if !covers {
-        return Ok(false);
-    }
-    covers_by(&mut pool.assigned, other, joined)
-}
-
-/// Lets a joined state wait in place of the one that was taken and of one that waits at a place, if
-/// it covers both.
-fn join<G: Guide>(
+/// Lets a joined state wait instead of two, the one that was taken and the one that waits at a
+/// place, if it covers both.
+fn join(
     pool: &mut Pool,
     setting: &Setting<'_>,
     kept: &Kept<'_>,
@@ -238,21 +204,18 @@ fn join<G: Guide>(
     entry: Pending,
     place: usize,
     joined: Box<State>,
-    guide: &mut G,
 ) -> Result<(), AllocError>
     ensures { OnOk result
         (ReachesFrom setting.now kept.now walk.old walk.new entry.may_stop entry.state.value) }
 {
     let Some(other) = take_pending(walk, place) else {
-        guide.tested(false)?;
         return put_pending(walk, NEXT, entry.state, entry.may_stop);
     };
-    let covers = covers_both(pool, &entry.state, &other.state, &joined)?;
-    guide.tested(covers)?;
+    let covers = covers_both(&mut pool.assigned, &entry.state, &other.state, &joined)?;
     if covers {
-        put_pending(walk, place, joined, both(entry.may_stop, other.may_stop))?;
         pool.keep(entry.state)?;
         pool.keep(other.state)?;
+        put_pending(walk, place, joined, both(entry.may_stop, other.may_stop))?;
         return Ok(());
     }
     pool.keep(joined)?;
@@ -261,37 +224,7 @@ fn join<G: Guide>(
     Ok(())
 }
 
-/// Lets a state go no further, if one that waits at a place covers it: that waits for both.
-fn give_way<G: Guide>(
-    pool: &mut Pool,
-    setting: &Setting<'_>,
-    kept: &Kept<'_>,
-    walk: &mut Walk,
-    entry: Pending,
-    place: usize,
-    guide: &mut G,
-) -> Result<(), AllocError>
-    ensures { OnOk result
-        (ReachesFrom setting.now kept.now walk.old walk.new entry.may_stop entry.state.value) }
-{
-    let Some(other) = take_pending(walk, place) else {
-        guide.tested(false)?;
-        return put_pending(walk, NEXT, entry.state, entry.may_stop);
-    };
-    let covers = covers_by(&mut pool.assigned, &entry.state, &other.state)?;
-    guide.tested(covers)?;
-    if covers {
-        let may_stop = both(entry.may_stop, other.may_stop);
-        put_pending(walk, place, other.state, may_stop)?;
-        pool.keep(entry.state)?;
-        return Ok(());
-    }
-    put_pending(walk, place, other.state, other.may_stop)?;
-    put_pending(walk, NEXT, entry.state, entry.may_stop)?;
-    Ok(())
-}
-
-/// Makes a head of a state, which is carried on: it stops at no head before its next step.
+/// Makes a head of a copy of a state, which is carried on: it stops at no head before its next step.
 fn begin_head(
     pool: &mut Pool,
     setting: &Setting<'_>,
@@ -302,9 +235,9 @@ fn begin_head(
     ensures { OnOk result
         (ReachesFrom setting.now kept.now walk.old walk.new entry.may_stop entry.state.value) }
 {
-    let copy = pool.copied(&entry.state)?;
-    put_head(walk, Box::into_inner(entry.state))?;
-    put_pending(walk, NEXT, copy, false)?;
+    let head = pool.exact_copy(&entry.state)?;
+    put_head(walk, head)?;
+    put_pending(walk, NEXT, entry.state, false)?;
     Ok(())
 }
 
@@ -328,26 +261,23 @@ fn may_stop_at(
 }
 
 /// Lets a state go no further, if the head of this number covers it.
-fn stop<G: Guide>(
+fn stop(
     pool: &mut Pool,
     setting: &Setting<'_>,
     kept: &Kept<'_>,
     walk: &mut Walk,
     entry: Pending,
     place: usize,
-    guide: &mut G,
 ) -> Result<(), AllocError>
     ensures { OnOk result
         (ReachesFrom setting.now kept.now walk.old walk.new entry.may_stop entry.state.value) }
 {
     let stops = may_stop_at(pool, walk, &entry, place)?;
-    guide.tested(stops)?;
     if stops {
         pool.keep(entry.state)?;
         return Ok(());
     }
-    put_pending(walk, NEXT, entry.state, entry.may_stop)?;
-    Ok(())
+    put_pending(walk, NEXT, entry.state, entry.may_stop)
 }
 
 /// Does with a state what was chosen.
@@ -376,16 +306,12 @@ fn go_on<G: Guide>(
             put_pending(walk, place, entry.state, entry.may_stop)?;
             Ok(())
         }
-        Move::Widen(wider) => {
-            widen(pool, setting, kept, walk, entry, wider, guide)?;
-            Ok(())
-        }
-        Move::Yield(place) => {
-            give_way(pool, setting, kept, walk, entry, place, guide)?;
+        Move::Widen(wider, place) => {
+            widen(pool, setting, kept, walk, entry, wider, place)?;
             Ok(())
         }
         Move::Join(place, joined) => {
-            join(pool, setting, kept, walk, entry, place, joined, guide)?;
+            join(pool, setting, kept, walk, entry, place, joined)?;
             Ok(())
         }
         Move::Head => {
@@ -393,7 +319,7 @@ fn go_on<G: Guide>(
             Ok(())
         }
         Move::Stop(place) => {
-            stop(pool, setting, kept, walk, entry, place, guide)?;
+            stop(pool, setting, kept, walk, entry, place)?;
             Ok(())
         }
         Move::GiveUp(_, fault) => Err(fault),
@@ -405,27 +331,6 @@ fn site_of(state: &State, chosen: &Move) -> Site {
     match chosen {
         Move::GiveUp(site, _) => *site,
         _ => Site::of(state),
-    }
-}
-
-/// Does with a state what the guide chooses, and tells where it is refused.
-fn advance<G: Guide>(
-    pool: &mut Pool,
-    setting: &Setting<'_>,
-    kept: &Kept<'_>,
-    walk: &mut Walk,
-    entry: Pending,
-    guide: &mut G,
-) -> Result<(), Refusal>
-    ensures walks { OnOk result
-        (ReachesFrom setting.now kept.now walk.old walk.new entry.may_stop entry.state.value) }
-    ensures within { IfErr result IsOfNoBudget }
-{
-    let chosen = guide.choose(walk, &entry.state, pool);
-    let site = site_of(&entry.state, &chosen);
-    match go_on(pool, setting, kept, walk, entry, chosen, guide) {
-        Ok(()) => Ok(()),
-        Err(fault) => Err(site.refused(fault)),
     }
 }
 
@@ -478,9 +383,13 @@ pub fn walk_on<G: Guide>(
     ensures within { IfErr result IsOfNoBudget }
 {
     for step in 0..moves {
-        match take_next(walk) {
-            Some(entry) => advance(pool, setting, kept, walk, entry, guide)?,
-            None => return Ok(()),
+        let Some(entry) = take_next(walk) else {
+            return Ok(());
+        };
+        let chosen = guide.choose(walk, &entry.state, pool);
+        let site = site_of(&entry.state, &chosen);
+        if let Err(fault) = go_on(pool, setting, kept, walk, entry, chosen, guide) {
+            return Err(site.refused(fault));
         }
     }
     Err(too_many_steps())

@@ -2,13 +2,13 @@
 
 use crate::blending::{Manner, blend};
 use crate::boxes::{Sharing, rename};
-use crate::run::{Asked, Head, Run, Stage, Way};
+use crate::run::{Head, Run, Way};
 use crate::signature::signature;
 use crate::stepping::Led;
 use crate::track::{Seen, Track, weight};
 use crate::waiting::Purpose;
 use std::alloc::AllocError;
-use tt_symbolic_check::{Move, Pool, Site, Walk, is_at_end};
+use tt_symbolic_check::{Move, Pool, Site, Walk, covers_both, covers_by, is_at_end};
 use tt_symbolic_state::State;
 
 /// How many steps a state makes beside another one before it is put down.
@@ -34,11 +34,7 @@ fn at_head(rises: u32) -> Manner {
 impl Run<'_, '_> {
     /// Returns the hash of what states have in common that are joined.
     fn signature(&self, state: &State, way: &Way) -> u64 {
-        let track = Seen {
-            state,
-            history: &way.history,
-        };
-        signature(track, self.task.functions, self.task.apart)
+        signature(way.seen(state), self.task.functions, self.task.apart)
     }
 
     /// Whether the state must be put down where it is, since a loop is there that may not end.
@@ -71,21 +67,17 @@ impl Run<'_, '_> {
         pool: &mut Pool,
         way: Way,
     ) -> Result<Move, AllocError> {
+        let mut way = way;
+        self.count_crowded(walk, state, &mut way);
         let must = self.must_arrive(state, &way);
         if !must && way.crowded == 0 && self.heads.is_empty() {
-            return self.go_on(state, pool, way);
+            return self.go_on(walk, state, pool, way);
         }
         let is_marked = self.marks.at(Site::of(state));
         if must || is_marked && !self.heads.is_empty() {
             let signature = self.signature(state, &way);
-            if let Some(head) = self.heads.get(&signature) {
-                let number = head.number;
-                return Ok(self.ask(
-                    way,
-                    Asked::GoesNoFurther,
-                    Stage::AtHead(signature),
-                    Move::Stop(number),
-                ));
+            if let Some(number) = self.heads.get(&signature).map(|head| head.number) {
+                return self.stop(walk, state, pool, way, signature, number);
             }
             if must && self.came_back.contains(&signature) {
                 return self.rise(walk, state, pool, way, signature);
@@ -95,91 +87,120 @@ impl Run<'_, '_> {
             }
         }
         if self.may_meet(state, &way, is_marked) {
-            return self.meet(state, way);
+            return self.meet(walk, state, pool, way);
         }
-        self.go_on(state, pool, way)
+        self.go_on(walk, state, pool, way)
+    }
+
+    /// Counts the steps that a state makes while another one waits behind it.
+    fn count_crowded(&self, walk: &Walk, state: &State, way: &mut Way) {
+        way.crowded = if self.waiting.has_behind(walk, way.seen(state)) {
+            way.crowded.saturating_add(1)
+        } else {
+            0
+        };
     }
 
     /// Lets a state wait where it is.
-    pub(crate) fn put_down(
+    fn put_down(
         &mut self,
+        walk: &Walk,
         state: &State,
         way: Way,
         purpose: Purpose,
     ) -> Result<Move, AllocError> {
         self.marks.set(Site::of(state));
-        let Way { history, .. } = way;
-        let place = self.waiting.place_of(Seen {
-            state,
-            history: &history,
-        })?;
-        let cells = weight(state);
-        let index = self.waiting.put(place, purpose, cells, history)?;
+        let index = self.waiting.put(walk, state, purpose, way.history)?;
         Ok(Move::Wait(index))
     }
 
-    /// Lets a state wait where others may meet it, unless it gives way to one that waits there.
-    pub(crate) fn meet(&mut self, state: &State, way: Way) -> Result<Move, AllocError> {
-        let signature = self.signature(state, &way);
-        let place = self.waiting.place_of(Seen {
-            state,
-            history: &way.history,
-        })?;
-        match self.waiting.meeting(&place, signature) {
-            Some(index) => Ok(self.ask(
-                way,
-                Asked::GoesNoFurther,
-                Stage::AtWaiting(index),
-                Move::Yield(index),
-            )),
-            None => self.put_down(state, way, Purpose::Meeting(signature)),
-        }
-    }
-
-    /// Lets a state wait that can't be joined with the one that waits there.
-    pub(crate) fn stay_alone(&mut self, state: &State, way: Way) -> Result<Move, AllocError> {
-        let signature = self.signature(state, &way);
-        self.put_down(state, way, Purpose::Meeting(signature))
-    }
-
-    /// Joins a state with the one that waits at a place of the list, which doesn't cover it.
-    pub(crate) fn join(
+    /// Lets a state wait where others may meet it, or joins it with one that waits there.
+    fn meet(
         &mut self,
         walk: &Walk,
         state: &State,
         pool: &mut Pool,
         way: Way,
+    ) -> Result<Move, AllocError> {
+        let signature = self.signature(state, &way);
+        match self.waiting.meeting(walk, way.seen(state), signature) {
+            Some(index) => self.join(walk, state, pool, way, signature, index),
+            None => self.put_down(walk, state, way, Purpose::Meeting(signature)),
+        }
+    }
+
+    /// Joins a state with the one that waits at an index of the list, if one state can cover both.
+    fn join(
+        &mut self,
+        walk: &Walk,
+        state: &State,
+        pool: &mut Pool,
+        way: Way,
+        signature: u64,
         index: usize,
     ) -> Result<Move, AllocError> {
-        let track = Seen {
-            state,
-            history: &way.history,
+        let Some(other) = walk.pending.get(index) else {
+            return self.put_down(walk, state, way, Purpose::Meeting(signature));
         };
-        let mut joined = self.copied(pool, track)?;
-        let (Some(other), Some(waiter)) = (walk.pending.get(index), self.waiting.get(index)) else {
-            return self.stay_alone(state, way);
+        if covers_by(&mut pool.assigned, state, &other.state)? {
+            self.waiting.spare(way.history)?;
+            return Ok(Move::Join(index, pool.copied(&other.state)?));
+        }
+        let mut joined = self.copied(pool, way.seen(state))?;
+        self.blend_with(&other.state, index, &mut joined)?;
+        if !covers_both(&mut pool.assigned, state, &other.state, &joined.state)? {
+            pool.keep(joined.state)?;
+            return self.put_down(walk, state, way, Purpose::Meeting(signature));
+        }
+        let Track { state, history } = joined;
+        self.waiting.exchange(index, history)?;
+        self.waiting.spare(way.history)?;
+        Ok(Move::Join(index, state))
+    }
+
+    /// Makes a track show what the state shows too that waits at an index of the list.
+    fn blend_with(
+        &mut self,
+        other: &State,
+        index: usize,
+        track: &mut Track,
+    ) -> Result<(), AllocError> {
+        let Some(waiter) = self.waiting.get(index) else {
+            return Ok(());
         };
         let manner = match waiter.purpose {
             Purpose::Head(_, rises) => at_head(rises),
             Purpose::Part | Purpose::Meeting(_) => IN_PASSING,
         };
         let old = Seen {
-            state: &other.state,
+            state: other,
             history: &waiter.history,
         };
-        blend(self.task.alloc, self.merges, old, &mut joined, manner)?;
-        let Track { state, history } = joined;
-        Ok(self.ask(
-            way,
-            Asked::Joined(index, history),
-            Stage::Alone,
-            Move::Join(index, state),
-        ))
+        blend(self.task.alloc, self.merges, old, track, manner)
     }
 
-    /// Widens a state that no head covers, so that it may become one: to what it shows and the latest
-    /// head of its signature, or each cell by itself, where there is none.
-    pub(crate) fn rise(
+    /// Lets a state go no further, if the head of this number covers it, and otherwise rise.
+    fn stop(
+        &mut self,
+        walk: &Walk,
+        state: &State,
+        pool: &mut Pool,
+        way: Way,
+        signature: u64,
+        number: usize,
+    ) -> Result<Move, AllocError> {
+        if let Some(head) = walk.heads.get(number) {
+            if covers_by(&mut pool.assigned, state, head)? {
+                self.waiting.spare(way.history)?;
+                return Ok(Move::Stop(number));
+            }
+        }
+        self.rise(walk, state, pool, way, signature)
+    }
+
+    /// Lets a state that no head covers wait to become one, widened, or joins it with one that waits
+    /// so.
+    fn rise(
         &mut self,
         walk: &Walk,
         state: &State,
@@ -188,30 +209,24 @@ impl Run<'_, '_> {
         signature: u64,
     ) -> Result<Move, AllocError> {
         if let Some(index) = self.waiting.head(signature) {
-            return Ok(self.ask(
-                way,
-                Asked::GoesNoFurther,
-                Stage::AtWaiting(index),
-                Move::Yield(index),
-            ));
+            return self.join(walk, state, pool, way, signature, index);
         }
-        let track = Seen {
-            state,
-            history: &way.history,
-        };
-        let mut wider = self.copied(pool, track)?;
+        let mut wider = self.copied(pool, way.seen(state))?;
         let rises = self.widen(walk, &mut wider, signature)?;
+        if !covers_by(&mut pool.assigned, state, &wider.state)? {
+            pool.keep(wider.state)?;
+            return self.put_down(walk, state, way, Purpose::Meeting(signature));
+        }
+        self.waiting.spare(way.history)?;
         let Track { state, history } = wider;
-        Ok(self.ask(
-            way,
-            Asked::Widened(history, signature, rises),
-            Stage::Alone,
-            Move::Widen(state),
-        ))
+        self.marks.set(Site::of(&state));
+        let purpose = Purpose::Head(signature, rises);
+        let index = self.waiting.put(walk, &state, purpose, history)?;
+        Ok(Move::Widen(state, index))
     }
 
-    /// Widens a state to what it shows and the latest head of its signature. Returns how often the
-    /// heads have risen then.
+    /// Widens a state to what it shows and the latest head of its signature, or to each cell by
+    /// itself, where there is none. Returns how often the heads have risen then.
     fn widen(&mut self, walk: &Walk, track: &mut Track, signature: u64) -> Result<u32, AllocError> {
         let alloc = self.task.alloc;
         let Some(head) = self.heads.get(&signature) else {
@@ -244,6 +259,7 @@ impl Run<'_, '_> {
             history: self.waiting.copied(&way.history)?,
         };
         self.heads.insert(signature, head)?;
-        Ok(self.ask(way, Asked::Nothing, Stage::Settled, Move::Head))
+        self.way = Some(way);
+        Ok(Move::Head)
     }
 }

@@ -1,6 +1,6 @@
 //! Merges of two states: a state that shows both, with widened ranges.
 
-use crate::boxes::{Area, Sharing, Symbols, is_wide, listed_near, rename};
+use crate::boxes::{Area, Sharing, Symbols, is_wide, rename};
 use crate::cell_names::{CellName, Part};
 use crate::origin_notes::{Meeting, Point};
 use crate::origins::{NOWHERE, OriginNumber, Origins};
@@ -10,6 +10,7 @@ use std::alloc::{AllocError, Global};
 use std::collections::HashMap;
 use std::mem;
 use tt_setting::SortedMap;
+use tt_symbolic_check::listed_near;
 use tt_symbolic_state::cell::{Cell, Range, bounds, known, number};
 use tt_symbolic_state::stack::Stack;
 

@@ -1,4 +1,4 @@
-//! States in which each cell has a symbol of its own, as listed states are, and states without the
+//! States in which each cell has a symbol of its own, as heads of loops are, and states without the
 //! symbols that no cell has.
 
 use crate::origins::{OriginNumber, origin_in};
@@ -181,14 +181,6 @@ impl Renaming {
             }
         }
         Ok(())
-    }
-}
-
-/// Returns what is listed with a number, which is mostly found at a place.
-pub(crate) fn listed_near(entries: &SortedMap<Cell>, place: usize, number: u16) -> Option<Cell> {
-    match entries.as_slice().get(place) {
-        Some(entry) if entry.0 == number => Some(entry.1),
-        _ => entries.get(number),
     }
 }
 

@@ -1,72 +1,55 @@
-//! At which offsets of the programs states are listed.
+//! At which offsets of the programs states have waited.
 
 use std::alloc::{AllocError, Global};
 use tt_setting::{Setting, Spot};
 use tt_symbolic_check::Site;
 
-/// For each offset of the three programs whether states are listed there: a bit each.
+/// For each offset of the three programs whether a state has waited there: a bit each, those of the
+/// font program behind those of the main program, and those of the CVT program last.
+#[derive(Drop)]
 pub(crate) struct Marks {
-    main: Vec<u64>,
-    font: Vec<u64>,
-    prep: Vec<u64>,
-}
-
-// Written out, so that who holds marks proves in one step that its memory is given back.
-impl Drop for Marks {
-    fn drop(self) {
-        let Marks { main, font, prep } = self;
-        drop(main);
-        drop(font);
-        drop(prep);
-    }
-}
-
-/// Makes the words of no marks.
-fn none(alloc: Global, length: u32) -> Result<Vec<u64>, AllocError> {
-    vec![in alloc; 0; (length as usize / 64).saturating_add(1)]
-}
-
-/// Returns the bit of its word that is the mark of an offset.
-fn mark_bit(offset: u32) -> u64 {
-    1u64.rotate_left(offset % 64)
-}
-
-/// Sets the mark of an offset.
-fn set_mark(marks: &mut Vec<u64>, offset: u32) {
-    if let Some(word) = marks.get_mut(offset as usize / 64) {
-        *word |= mark_bit(offset);
-    }
+    words: Vec<u64>,
+    /// The first bit of the font program.
+    font: u32,
+    /// The first bit of the CVT program.
+    prep: u32,
 }
 
 impl Marks {
-    /// Makes marks by which no states are listed.
+    /// Makes no marks.
     pub(crate) fn new(alloc: Global, setting: &Setting<'_>) -> Result<Marks, AllocError> {
+        let font = setting.main.len().saturating_add(1);
+        let prep = font.saturating_add(setting.font.len()).saturating_add(1);
+        let bits = prep.saturating_add(setting.prep.len()).saturating_add(1);
         Ok(Marks {
-            main: none(alloc, setting.main.len())?,
-            font: none(alloc, setting.font.len())?,
-            prep: none(alloc, setting.prep.len())?,
+            words: vec![in alloc; 0; (bits as usize / 64).saturating_add(1)]?,
+            font,
+            prep,
         })
     }
 
-    /// Whether states are listed at a place.
-    pub(crate) fn at(&self, place: Site) -> bool {
-        let list = match place.spot {
-            Spot::Main => &self.main,
-            Spot::Font => &self.font,
-            Spot::Prep => &self.prep,
+    /// Returns which word has the bit of a site, and that bit.
+    fn bit_of(&self, site: Site) -> (usize, u64) {
+        let first = match site.spot {
+            Spot::Main => 0,
+            Spot::Font => self.font,
+            Spot::Prep => self.prep,
         };
-        match list.get(place.offset as usize / 64) {
-            Some(word) => word & mark_bit(place.offset) != 0,
-            None => false,
-        }
+        let bit = site.offset.saturating_add(first);
+        (bit as usize / 64, 1u64.rotate_left(bit % 64))
     }
 
-    /// Notes that states are listed at a place.
-    pub(crate) fn set(&mut self, place: Site) {
-        match place.spot {
-            Spot::Main => set_mark(&mut self.main, place.offset),
-            Spot::Font => set_mark(&mut self.font, place.offset),
-            Spot::Prep => set_mark(&mut self.prep, place.offset),
+    /// Whether a state has waited at a site.
+    pub(crate) fn at(&self, site: Site) -> bool {
+        let (word, bit) = self.bit_of(site);
+        self.words.get(word).is_some_and(|bits| bits & bit != 0)
+    }
+
+    /// Notes that a state waits at a site.
+    pub(crate) fn set(&mut self, site: Site) {
+        let (word, bit) = self.bit_of(site);
+        if let Some(bits) = self.words.get_mut(word) {
+            *bits |= bit;
         }
     }
 }

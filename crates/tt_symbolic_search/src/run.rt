@@ -39,7 +39,7 @@ const MOST_SEEN: usize = 16;
 const MOST_CELLS: usize = 8_000_000;
 
 /// How many states may wait.
-const MOST_WAITING: usize = 1 << 14;
+const MOST_WAITING: usize = 1 << 10;
 
 /// What a run may rely on.
 #[derive(Clone, Copy)]
@@ -58,30 +58,12 @@ pub(crate) struct Task<'t, 'm> {
     pub question: Option<Question>,
 }
 
-/// How far the decision is about where a state is put down.
-#[derive(Clone, Copy, Debug, PartialEq, Eq)]
-pub(crate) enum Stage {
-    /// It waited until now.
-    Taken(Purpose),
-    /// It has just made a step.
-    Fresh,
-    /// The head of this signature doesn't cover it.
-    AtHead(u64),
-    /// The one that waits at this place of the list doesn't cover it.
-    AtWaiting(usize),
-    /// It can't be joined with the one that waits there.
-    Alone,
-    /// It was widened, to become the head of this signature, which has risen so often.
-    ToBeHead(u64, u32),
-    /// It isn't put down where it is.
-    Settled,
-}
-
-/// The state that is carried on.
+/// What is known beside the state that is carried on.
 #[derive(Drop)]
 pub(crate) struct Way {
     pub history: Box<History>,
-    stage: Stage,
+    /// Whether it has just made a step.
+    is_fresh: bool,
     /// Where its last step has led.
     pub led: Led,
     /// How many steps it has made one after the other while another state waited behind it: 0 where
@@ -93,20 +75,26 @@ pub(crate) struct Way {
     is_tidied: bool,
 }
 
-/// What becomes of the state that is carried on, if the cover test succeeds that was chosen.
-#[derive(Drop)]
-pub(crate) enum Asked {
-    /// No test was chosen.
-    Nothing,
-    /// It goes no further.
-    GoesNoFurther,
-    /// It is joined with the one that waits at this place of the list; the joined one has this
-    /// history.
-    Joined(usize, Box<History>),
-    /// It has this history, and is otherwise the same.
-    Tidied(Box<History>),
-    /// It has this history, and is to become the head of this signature, which has risen so often.
-    Widened(Box<History>, u64, u32),
+impl Way {
+    /// Makes the way of a state with this history that waited until now.
+    fn of(history: Box<History>) -> Way {
+        Way {
+            history,
+            is_fresh: false,
+            led: Led::On,
+            crowded: 0,
+            splits: 0,
+            is_tidied: false,
+        }
+    }
+
+    /// Lends the state that is carried on with its history.
+    pub(crate) fn seen<'a>(&'a self, state: &'a State) -> Seen<'a> {
+        Seen {
+            state,
+            history: &self.history,
+        }
+    }
 }
 
 /// The head of a loop.
@@ -134,8 +122,7 @@ pub(crate) struct Run<'t, 'm> {
     pub task: Task<'t, 'm>,
     pub merges: &'m mut Merges,
     writes: &'m mut Writes,
-    way: Option<Way>,
-    asked: Asked,
+    pub way: Option<Way>,
     pub waiting: Waiting,
     /// The latest head of each signature.
     pub heads: HashMap<u64, Head>,
@@ -208,7 +195,6 @@ impl<'t, 'm> Run<'t, 'm> {
             merges,
             writes,
             way: None,
-            asked: Asked::Nothing,
             waiting,
             heads: HashMap::new(alloc),
             came_back: HashSet::new(alloc),
@@ -239,40 +225,6 @@ impl<'t, 'm> Run<'t, 'm> {
         })
     }
 
-    /// Takes what is known beside the state that is carried on.
-    fn next_way(&mut self, state: &State) -> Result<Way, AllocError> {
-        if let Some(way) = self.way.take() {
-            return Ok(way);
-        }
-        let alloc = self.task.alloc;
-        let (purpose, history) = match self.waiting.take()? {
-            Some(taken) => taken,
-            None => {
-                let history = History::start(alloc, state.ranges.len())?;
-                (Purpose::Part, Box::new(alloc, history)?)
-            }
-        };
-        Ok(Way {
-            history,
-            stage: Stage::Taken(purpose),
-            led: Led::On,
-            crowded: 0,
-            splits: 0,
-            is_tidied: false,
-        })
-    }
-
-    /// Notes what becomes of the state if the cover test of a move succeeds, and how it is carried on
-    /// otherwise. Returns the move.
-    pub(crate) fn ask(&mut self, way: Way, asked: Asked, otherwise: Stage, chosen: Move) -> Move {
-        self.way = Some(Way {
-            stage: otherwise,
-            ..way
-        });
-        self.asked = asked;
-        chosen
-    }
-
     /// Chooses what becomes of the state that is carried on.
     ///
     /// # Errors
@@ -282,26 +234,37 @@ impl<'t, 'm> Run<'t, 'm> {
         if self.is_spent || cells > MOST_CELLS || self.waiting.len() > MOST_WAITING {
             return Err(StepFault::from(Reason::TooManySteps));
         }
-        let way = self.next_way(state)?;
-        let chosen = match way.stage {
-            Stage::Fresh => self.arrive(walk, state, pool, way),
-            Stage::AtHead(signature) => self.rise(walk, state, pool, way, signature),
-            Stage::AtWaiting(index) => self.join(walk, state, pool, way, index),
-            Stage::Alone => self.stay_alone(state, way),
-            Stage::ToBeHead(signature, rises) => {
-                self.put_down(state, way, Purpose::Head(signature, rises))
+        let chosen = match self.way.take() {
+            Some(way) => {
+                if way.is_fresh {
+                    self.arrive(walk, state, pool, way)
+                } else {
+                    self.go_on(walk, state, pool, way)
+                }
             }
-            Stage::Taken(Purpose::Head(signature, rises)) => {
-                self.become_head(walk, state, way, signature, rises)
-            }
-            Stage::Taken(_) | Stage::Settled => self.go_on(state, pool, way),
+            None => self.take_up(walk, state, pool),
         };
         Ok(chosen?)
+    }
+
+    /// Carries on a state that waited until now.
+    fn take_up(&mut self, walk: &Walk, state: &State, pool: &mut Pool) -> Result<Move, AllocError> {
+        let Some((purpose, history)) = self.waiting.take() else {
+            let history = History::start(self.task.alloc, state.ranges.len())?;
+            let way = Way::of(Box::new(self.task.alloc, history)?);
+            return self.go_on(walk, state, pool, way);
+        };
+        let way = Way::of(history);
+        match purpose {
+            Purpose::Head(signature, rises) => self.become_head(walk, state, way, signature, rises),
+            Purpose::Part | Purpose::Meeting(_) => self.go_on(walk, state, pool, way),
+        }
     }
 
     /// Carries the state on where it is: splits it, leaves out what isn't needed, or makes a step.
     pub(crate) fn go_on(
         &mut self,
+        walk: &Walk,
         state: &State,
         pool: &mut Pool,
         way: Way,
@@ -313,7 +276,7 @@ impl<'t, 'm> Run<'t, 'm> {
             return self.step(state, pool, way, code);
         }
         match wanted(code, state, self.task.widest_compared) {
-            Some(split) if way.splits < MOST_SPLITS => self.split(state, way, split),
+            Some(split) if way.splits < MOST_SPLITS => self.split(walk, state, way, split),
             _ if is_untidy(state) && !way.is_tidied => self.tidy(state, pool, way),
             _ => self.step(state, pool, way, code),
         }
@@ -332,48 +295,37 @@ impl<'t, 'm> Run<'t, 'm> {
     }
 
     /// Splits the state: its upper part waits.
-    fn split(&mut self, state: &State, way: Way, split: Split) -> Result<Move, AllocError> {
+    fn split(
+        &mut self,
+        walk: &Walk,
+        state: &State,
+        way: Way,
+        split: Split,
+    ) -> Result<Move, AllocError> {
         let mut way = way;
         let origin = way.history.origins.get(split.symbol as usize).copied();
         way.history
             .note_split(of_merges(origin.unwrap_or(NOWHERE)))?;
         way.splits = way.splits.saturating_add(1);
+        way.is_fresh = false;
         let upper = self.waiting.copied(&way.history)?;
-        let track = Seen {
-            state,
-            history: &upper,
-        };
-        let place = self.waiting.place_of(track)?;
-        let index = self
-            .waiting
-            .put(place, Purpose::Part, weight(state), upper)?;
-        Ok(self.ask(
-            way,
-            Asked::Nothing,
-            Stage::Settled,
-            Move::Split(split, index),
-        ))
+        let index = self.waiting.put(walk, state, Purpose::Part, upper)?;
+        self.way = Some(way);
+        Ok(Move::Split(split, index))
     }
 
     /// Leaves out the symbols that no cell has.
     fn tidy(&mut self, state: &State, pool: &mut Pool, way: Way) -> Result<Move, AllocError> {
-        let track = Seen {
-            state,
-            history: &way.history,
-        };
-        let mut copy = self.copied(pool, track)?;
+        let mut copy = self.copied(pool, way.seen(state))?;
         rename(self.task.alloc, &mut copy, Sharing::Kept)?;
         let Track { state, history } = copy;
-        let way = Way {
+        self.way = Some(Way {
+            history,
+            is_fresh: false,
             is_tidied: true,
             ..way
-        };
-        Ok(self.ask(
-            way,
-            Asked::Tidied(history),
-            Stage::Settled,
-            Move::Widen(state),
-        ))
+        });
+        Ok(Move::Widen(state, self.waiting.len()))
     }
 
     /// Makes a step of the state, by the instruction of this code.
@@ -384,10 +336,7 @@ impl<'t, 'm> Run<'t, 'm> {
         way: Way,
         code: u8,
     ) -> Result<Move, AllocError> {
-        let track = Seen {
-            state,
-            history: &way.history,
-        };
+        let track = way.seen(state);
         self.keep(pool, track)?;
         if let Some(kept) = self.task.noted {
             if Writes::are_wanted(self.task.setting, state, &kept, code) {
@@ -460,39 +409,9 @@ impl<'t, 'm> Run<'t, 'm> {
             stepping,
             &self.before,
         )?;
-        way.stage = Stage::Fresh;
+        way.is_fresh = true;
         way.splits = 0;
         way.is_tidied = false;
-        let track = Seen {
-            state,
-            history: &way.history,
-        };
-        way.crowded = if self.waiting.has_behind(track) {
-            way.crowded.saturating_add(1)
-        } else {
-            0
-        };
-        Ok(())
-    }
-
-    /// Does what was to become of the state that was carried on, as the cover test has succeeded.
-    fn succeed(&mut self, way: Way, asked: Asked) -> Result<(), AllocError> {
-        match asked {
-            Asked::Nothing => self.way = Some(way),
-            Asked::GoesNoFurther => self.waiting.spare(way.history)?,
-            Asked::Joined(index, history) => {
-                self.waiting.exchange(index, history)?;
-                self.waiting.spare(way.history)?;
-            }
-            Asked::Tidied(history) => self.way = Some(Way { history, ..way }),
-            Asked::Widened(history, signature, rises) => {
-                self.way = Some(Way {
-                    history,
-                    stage: Stage::ToBeHead(signature, rises),
-                    ..way
-                });
-            }
-        }
         Ok(())
     }
 }
@@ -502,17 +421,6 @@ impl Guide for Run<'_, '_> {
         match self.chosen(walk, state, pool) {
             Ok(chosen) => chosen,
             Err(fault) => Move::GiveUp(START, fault),
-        }
-    }
-
-    fn tested(&mut self, covers: bool) -> Result<(), AllocError> {
-        let asked = mem::replace(&mut self.asked, Asked::Nothing);
-        if !covers {
-            return Ok(());
-        }
-        match self.way.take() {
-            Some(way) => self.succeed(way, asked),
-            None => Ok(()),
         }
     }
 
@@ -537,10 +445,7 @@ impl Guide for Run<'_, '_> {
             (Some(way), Some(_)) => culprits(
                 self.task.alloc,
                 &self.merges.origins,
-                Seen {
-                    state,
-                    history: &way.history,
-                },
+                way.seen(state),
                 &self.before,
                 failed.reason(),
                 self.task.apart,

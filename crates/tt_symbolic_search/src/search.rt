@@ -1,6 +1,6 @@
 //! The search of a font: what was learnt from its programs so far, and the walks of the next.
 
-ghost use Rattle.std.specs.Prelude.{IfErr, IfOk, IfSome};
+ghost use Rattle.std.specs.Prelude.{IfErr, IfOk};
 ghost use Rattle.tt_setting.specs.Refusals.{IsOfNoBudget};
 ghost use Rattle.tt_setting.specs.Settings.{setting_of};
 ghost use Rattle.tt_symbolic_check.specs.Answers.{IsAnswerBySymbols};
@@ -218,16 +218,16 @@ impl Search {
         let learnt = self.apart.len();
         let mut trial = self.begin_trials(effort);
         for _ in 0..MOST_TRIALS {
-            match self.try_once(setting, kept, starts, &mut trial) {
-                Ok(Some(ends)) => {
+            let refusal = match self.walk(setting, kept, starts, &mut trial, None) {
+                Ok(ends) => {
                     self.widest = trial.effort.widest_compared;
                     return Ok(ends);
                 }
-                Ok(None) => {}
-                Err(refusal) => {
-                    self.apart.truncate(learnt);
-                    return Err(refusal);
-                }
+                Err(refusal) => refusal,
+            };
+            if let Err(refusal) = self.learn(setting, kept, starts, &mut trial, refusal) {
+                self.apart.truncate(learnt);
+                return Err(refusal);
             }
         }
         self.apart.truncate(learnt);
@@ -254,31 +254,6 @@ impl Search {
         if self.question.is_some() {
             self.merges.origins.take_notes(self.alloc);
             self.insight = None;
-        }
-    }
-
-    /// Walks a program once. Returns its ends; nothing, where more was learnt.
-    fn try_once(
-        &mut self,
-        setting: &Setting<'_>,
-        kept: &Kept<'_>,
-        starts: &[Start],
-        trial: &mut Trial,
-    ) -> Result<Option<Vec<State>>, Refusal>
-        ensures checked { IfOk result (λ found. IfSome found
-            (λ ends. IsChecked (setting_of setting.now) kept.now starts.now ends.items)) }
-        ensures within { IfErr result IsOfNoBudget }
-    {
-        match self.walk(setting, kept, starts, trial, None) {
-            Ok(ends) => Ok(Some(ends)),
-            Err(refusal) if reason_of(&refusal) == Some(Reason::KeptEntry) => {
-                self.note_writes(setting, kept, starts, trial)?;
-                Err(refusal)
-            }
-            Err(refusal) => {
-                self.learn(trial, refusal)?;
-                Ok(None)
-            }
         }
     }
 
@@ -347,14 +322,27 @@ impl Search {
         answer
     }
 
-    /// Learns from a refusal which cells are to be kept apart, or that all comparisons are to be split.
+    /// Learns from a refusal which cells are to be kept apart, that all comparisons are to be split, or
+    /// which kept entries are written.
     ///
     /// # Errors
-    /// The refusal, where nothing can be learnt from it.
-    fn learn(&mut self, trial: &mut Trial, refusal: Refusal) -> Result<(), Refusal>
+    /// The refusal, where another walk is of no use; that of the walk that notes the writes.
+    fn learn(
+        &mut self,
+        setting: &Setting<'_>,
+        kept: &Kept<'_>,
+        starts: &[Start],
+        trial: &mut Trial,
+        refusal: Refusal,
+    ) -> Result<(), Refusal>
         requires { IsOfNoBudget refusal }
         ensures { IfErr result IsOfNoBudget }
     {
+        let reason = reason_of(&refusal);
+        if reason == Some(Reason::KeptEntry) {
+            self.note_writes(setting, kept, starts, trial)?;
+            return Err(refusal);
+        }
         if let Some(Stop { apart, .. }) = trial.stop.take() {
             if !apart.is_empty() {
                 self.apart.extend_from_slice(apart.as_slice())?;
@@ -362,8 +350,7 @@ impl Search {
                 return Ok(());
             }
         }
-        let is_unknown = reason_of(&refusal) == Some(Reason::UnknownOperand);
-        if !is_unknown || trial.effort.widest_compared >= WIDEST {
+        if reason != Some(Reason::UnknownOperand) || trial.effort.widest_compared >= WIDEST {
             return Err(refusal);
         }
         trial.effort.widest_compared = WIDEST;

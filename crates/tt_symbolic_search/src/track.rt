@@ -4,6 +4,7 @@ use crate::cell_names::{CellName, Part};
 use crate::origins::{NOWHERE, OriginNumber, origin_in};
 use crate::signature::mix;
 use std::alloc::{AllocError, Global};
+use std::cmp::Ordering;
 use std::rc::Rc;
 use tt_symbolic_state::State;
 use tt_symbolic_state::cell::Cell;
@@ -19,10 +20,6 @@ pub(crate) struct Level {
     /// From which height on the stack's elements are its own.
     pub base: u32,
 }
-
-/// Where a state is in the order of the program: for the main program and each call, how many turns
-/// it has seen, and at which offset it is.
-pub(crate) type Progress = Vec<(u32, u32)>;
 
 /// The history of a state, as far as the search needs it.
 #[derive(Drop)]
@@ -130,7 +127,7 @@ impl History {
         }
     }
 
-    /// History that all elements of the stack below a height are as they were.
+    /// Notes that the elements of the stack below a height are as they were.
     pub(crate) fn touch(&mut self, height: usize) {
         self.hashed = self.hashed.min(height);
         let Ok(low) = u32::try_from(height) else {
@@ -149,7 +146,7 @@ impl History {
         self.hashes.get(height).copied()
     }
 
-    /// History a hash of the known numbers below each height of the stack.
+    /// Notes a hash of the known numbers below each height of the stack.
     fn note_hashes(&mut self, alloc: Global, cells: &[Cell]) -> Result<(), AllocError> {
         let mut hashes = Vec::with_capacity(alloc, cells.len().saturating_add(1))?;
         let mut hash = 0;
@@ -219,37 +216,26 @@ pub(crate) fn cell_count(state: &State) -> usize {
 }
 
 impl Seen<'_> {
-    /// Returns where it is at a level, if it has that many.
-    fn place_at(self, level: usize) -> Option<(u32, u32)> {
-        let turn = self.history.levels.get(level)?.turn;
+    /// Returns where it is at a level: how many turns that has seen, and at which offset it is.
+    fn place_at(self, level: usize) -> (u32, u32) {
+        let turn = self.history.levels.get(level).map_or(0, |own| own.turn);
         match self.state.calls.get(level) {
-            Some(call) => Some((turn, call.call)),
-            None => Some((turn, self.state.offset)),
+            Some(call) => (turn, call.call),
+            None => (turn, self.state.offset),
         }
     }
 
-    /// Makes a place the one where it is, in the memory that the place has, where that is enough.
-    pub(crate) fn put_place(self, place: &mut Progress) -> Result<(), AllocError> {
-        place.clear();
-        for level in 0..self.history.levels.len() {
-            if let Some(step) = self.place_at(level) {
-                place.push(step)?;
+    /// Returns how its place is ordered to that of another track: level by level, from the main
+    /// program to the innermost call, by the turn and the offset.
+    pub(crate) fn order_to(self, other: Seen<'_>) -> Ordering {
+        let (own, theirs) = (self.history.levels.len(), other.history.levels.len());
+        for level in 0..own.min(theirs) {
+            let order = self.place_at(level).cmp(&other.place_at(level));
+            if order != Ordering::Equal {
+                return order;
             }
         }
-        Ok(())
-    }
-
-    /// Whether a place comes before the one where it is, or is the same.
-    pub(crate) fn is_at_or_after(self, place: &[(u32, u32)]) -> bool {
-        for (level, theirs) in place.iter().enumerate() {
-            let Some(own) = self.place_at(level) else {
-                return false;
-            };
-            if *theirs != own {
-                return *theirs < own;
-            }
-        }
-        true
+        own.cmp(&theirs)
     }
 
     /// Returns the origin of a cell's symbol.

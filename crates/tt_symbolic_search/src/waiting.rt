@@ -1,11 +1,14 @@
 //! What the search knows beside the states that wait in a walk, in the order of their places in the
 //! program: the least place is the last, and is carried on next.
 
-use crate::track::{History, Progress, Seen};
+use crate::track::{History, Seen, weight};
 use std::alloc::{AllocError, Global};
+use std::cmp::Ordering;
 use std::mem;
+use tt_symbolic_check::Walk;
+use tt_symbolic_state::State;
 
-/// How many places, and how many histories, are kept at most whose memory is used again.
+/// How many histories are kept at most whose memory is used again.
 const MOST_SPARE: usize = 32;
 
 /// For what a state waits.
@@ -22,22 +25,19 @@ pub(crate) enum Purpose {
 /// What is known beside a state that waits.
 #[derive(Drop)]
 pub(crate) struct Waiter {
-    place: Progress,
     pub purpose: Purpose,
     /// How many cells the state has.
     cells: usize,
     pub history: Box<History>,
 }
 
-/// What is known beside the states that wait.
+/// What is known beside the states that wait, in the order of `walk.pending`.
 #[derive(Drop)]
 pub(crate) struct Waiting {
     alloc: Global,
     list: Vec<Waiter>,
     /// How many cells the states have.
     pub cells: usize,
-    /// Places that are no longer needed, whose memory is used again.
-    places: Vec<Progress>,
     /// Histories that are no longer needed, whose memory is used again.
     pub histories: Vec<Box<History>>,
 }
@@ -49,7 +49,6 @@ impl Waiting {
             alloc,
             list: Vec::new(alloc),
             cells: 0,
-            places: Vec::new(alloc),
             histories,
         }
     }
@@ -64,10 +63,21 @@ impl Waiting {
         self.list.is_empty()
     }
 
-    /// Whether one waits at the place of a track or before it.
-    pub(crate) fn has_behind(&self, track: Seen<'_>) -> bool {
-        match self.list.last() {
-            Some(waiter) => track.is_at_or_after(waiter.place.as_slice()),
+    /// Returns how the place of a track is ordered to that of the state at an index of the list.
+    fn order(&self, walk: &Walk, index: usize, track: Seen<'_>) -> Ordering {
+        match (self.list.get(index), walk.pending.get(index)) {
+            (Some(waiter), Some(pending)) => track.order_to(Seen {
+                state: &pending.state,
+                history: &waiter.history,
+            }),
+            _ => Ordering::Less,
+        }
+    }
+
+    /// Whether a state waits at the place of a track or before it.
+    pub(crate) fn has_behind(&self, walk: &Walk, track: Seen<'_>) -> bool {
+        match self.list.len().checked_sub(1) {
+            Some(last) => self.order(walk, last, track) != Ordering::Less,
             None => false,
         }
     }
@@ -91,31 +101,31 @@ impl Waiting {
         Ok(())
     }
 
-    /// Returns where in the list a state of this place is to wait: it is carried on before those of
-    /// the same place.
-    fn index_of(&self, place: &Progress) -> usize {
-        let mut index = self.list.len();
-        for waiter in self.list.iter().rev() {
-            if waiter.place >= *place {
-                return index;
+    /// Returns where in the list a track is to wait: it is carried on before those of its place.
+    fn index_of(&self, walk: &Walk, track: Seen<'_>) -> usize {
+        for index in (0..self.list.len()).rev() {
+            if self.order(walk, index, track) != Ordering::Greater {
+                return index.saturating_add(1);
             }
-            index = index.saturating_sub(1);
         }
-        index
+        0
     }
 
-    /// Lets a state wait of so many cells, whose place and history these are. Returns where in the
-    /// list.
+    /// Lets a state with this history wait. Returns where in the list.
     pub(crate) fn put(
         &mut self,
-        place: Progress,
+        walk: &Walk,
+        state: &State,
         purpose: Purpose,
-        cells: usize,
         history: Box<History>,
     ) -> Result<usize, AllocError> {
-        let index = self.index_of(&place).min(self.list.len());
+        let track = Seen {
+            state,
+            history: &history,
+        };
+        let index = self.index_of(walk, track).min(self.list.len());
+        let cells = weight(state);
         let waiter = Waiter {
-            place,
             purpose,
             cells,
             history,
@@ -127,47 +137,43 @@ impl Waiting {
 
     /// Lets a start wait that has this history.
     pub(crate) fn put_start(&mut self, history: Box<History>) -> Result<(), AllocError> {
-        let place = vec![in self.alloc; (0, 0)]?;
-        self.put(place, Purpose::Part, 0, history)?;
+        self.list.push(Waiter {
+            purpose: Purpose::Part,
+            cells: 0,
+            history,
+        })?;
         Ok(())
     }
 
-    /// Returns where a track is, in memory that is no longer needed, where there is some.
-    pub(crate) fn place_of(&mut self, track: Seen<'_>) -> Result<Progress, AllocError> {
-        let mut place = self.places.pop().unwrap_or(Vec::new(self.alloc));
-        track.put_place(&mut place)?;
-        Ok(place)
-    }
-
     /// Takes what is known beside the state that is carried on next, if one waits.
-    pub(crate) fn take(&mut self) -> Result<Option<(Purpose, Box<History>)>, AllocError> {
-        let Some(waiter) = self.list.pop() else {
-            return Ok(None);
-        };
+    pub(crate) fn take(&mut self) -> Option<(Purpose, Box<History>)> {
         let Waiter {
-            place,
             purpose,
             cells,
             history,
-        } = waiter;
+        } = self.list.pop()?;
         self.cells = self.cells.saturating_sub(cells);
-        if self.places.len() < MOST_SPARE {
-            self.places.push(place)?;
-        }
-        Ok(Some((purpose, history)))
+        Some((purpose, history))
     }
 
-    /// Returns where in the list a state waits at a place, to be joined with others of this
-    /// signature.
-    pub(crate) fn meeting(&self, place: &Progress, signature: u64) -> Option<usize> {
-        let mut index = self.list.len();
-        for waiter in self.list.iter().rev() {
-            index = index.saturating_sub(1);
-            if waiter.place > *place {
-                return None;
-            }
-            if waiter.place == *place && waiter.purpose == Purpose::Meeting(signature) {
-                return Some(index);
+    /// Whether the state at an index of the list waits for this.
+    fn is_for(&self, index: usize, purpose: Purpose) -> bool {
+        match self.list.get(index) {
+            Some(waiter) => waiter.purpose == purpose,
+            None => false,
+        }
+    }
+
+    /// Returns where in the list a state waits at the place of a track, to be joined with others of
+    /// this signature.
+    pub(crate) fn meeting(&self, walk: &Walk, track: Seen<'_>, signature: u64) -> Option<usize> {
+        for index in (0..self.list.len()).rev() {
+            match self.order(walk, index, track) {
+                Ordering::Less => return None,
+                Ordering::Equal if self.is_for(index, Purpose::Meeting(signature)) => {
+                    return Some(index);
+                }
+                _ => {}
             }
         }
         None

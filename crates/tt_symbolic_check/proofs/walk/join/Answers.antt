@@ -6,7 +6,7 @@ use Rattle.tt_symbolic_check.proofs.Walkings.{join_reaches, rejoin_reaches}
 use Rattle.tt_symbolic_check.proofs.walk.join.Goals as goal
 
 pub returns-then-covers : goal.returns-then-covers
-returns-then-covers g c =
+returns-then-covers c =
     let a = c.args.entry.state.value in
     let other = c.in-Some.other in
     let joined = c.args.joined in
@@ -17,4 +17,4 @@ returns-then-covers g c =
     (subst (λ (b : Bool). PutsPending joined b c.take_pending.new.walk c.put_pending-then-covers.new.walk) c.both.ensures c.in_ok-put_pending.ensures)
 
 pub returns : goal.returns
-returns g c = rejoin_reaches c.args.setting.now c.args.kept.now c.args.entry.state c.args.entry.may_stop c.in-Some.other c.args.walk.now c.take_pending.new.walk c.put_pending-2.new.walk c.put_pending-3.new.walk c.in-Some.ensures.some c.in_ok-put_pending-2.ensures c.in_ok-put_pending-3.ensures
+returns c = rejoin_reaches c.args.setting.now c.args.kept.now c.args.entry.state c.args.entry.may_stop c.in-Some.other c.args.walk.now c.take_pending.new.walk c.put_pending-2.new.walk c.put_pending-3.new.walk c.in-Some.ensures.some c.in_ok-put_pending-2.ensures c.in_ok-put_pending-3.ensures

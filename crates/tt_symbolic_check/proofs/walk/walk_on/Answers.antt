@@ -5,9 +5,9 @@ pub loop-step-init : goal.loop-step-init
 loop-step-init g c = reaches_none c.args.setting.now c.args.kept.now c.args.walk.now
 
 pub loop-step-preserved : goal.loop-step-preserved
-loop-step-preserved g c = reaches_on c.args.setting.now c.args.kept.now c.args.walk.now c.loop-step.walk c.advance.new.walk c.loop-step.invariant (take_reaches c.args.setting.now c.args.kept.now c.loop-step.walk c.take_next.new.walk c.advance.new.walk c.in-Some.entry c.in-Some.ensures.some c.in_ok-advance-in-Some.ensures.walks)
+loop-step-preserved g c = reaches_on c.args.setting.now c.args.kept.now c.args.walk.now c.loop-step.walk c.go_on.new.walk c.loop-step.invariant (take_reaches c.args.setting.now c.args.kept.now c.loop-step.walk c.take_next.new.walk c.go_on.new.walk c.in-Some.entry c.in-Some.ensures.some c.in_default-go_on.ensures)
 
-pub returns-in-None-clause-finishes : goal.returns-in-None-clause-finishes
-returns-in-None-clause-finishes g c =
-    let n = c.take_next.ensures.none c.in-None.is in
+pub returns-in_default-clause-finishes : goal.returns-in_default-clause-finishes
+returns-in_default-clause-finishes g c =
+    let n = c.take_next.ensures.none c.in_default.is in
     record { none_pending = n.pending; reaches = reaches_on c.args.setting.now c.args.kept.now c.args.walk.now c.loop-step.walk c.take_next.new.walk c.loop-step.invariant (nothing_reaches c.args.setting.now c.args.kept.now c.loop-step.walk c.take_next.new.walk n) }
