@@ -2,9 +2,9 @@
 """Asks a second checker of certificates, examples/checker.py, the cases of hintcheck_font_cases.
 
 Usage: bench/independent_cases.py
-These are the cases of check.txt (`full`, `sparse`), steps.txt (`step`) and sections.txt (`section`,
-`cuts`) in crates/hintcheck_font_cases/data, of which docs/CASES.md has the notation. Each that is
-answered otherwise is printed, and the exit status is then 1.
+These are the cases of check.txt, steps.txt, cells.txt and ways.txt (`full`, `sparse`, `step`) and of
+sections.txt (`section`, `cuts`) in crates/hintcheck_font_cases/data, of which docs/CASES.md has the
+notation. Each that is answered otherwise is printed, and the exit status is then 1.
 """
 
 import collections.abc
@@ -45,7 +45,7 @@ def cases(name: str) -> collections.abc.Iterator[Case]:
     """The cases of a file, without the lines of answers that are longer."""
     limits, before = LIMITS, ""
     for number, line in enumerate((DATA / name).read_text().splitlines(), 1):
-        if not line.strip() or line[0] in "#|!":
+        if not line.strip() or line.lstrip()[0] in "#|!":
             continue
         asked, arrow, answer = line.partition("->")
         if line.startswith("limits"):
@@ -75,6 +75,11 @@ def cell_of(text: str) -> checker.Cell:
 def body_of(text: str) -> int:
     """A function's body, in the CVT program with p: before it."""
     return int(text[2:]) + checker.CVT_BODIES if text.startswith("p:") else int(text)
+
+
+def body_text(body: int) -> str:
+    """The same as it is written."""
+    return f"p:{body - checker.CVT_BODIES}" if body >= checker.CVT_BODIES else str(body)
 
 
 def start(functions: dict[int, int], stack: str) -> checker.State:
@@ -202,7 +207,7 @@ def ways(context: int, nexts: list[checker.Next], state: str) -> str:
             texts.append(f"next turn {state}")
         elif call:
             turns = f"*1/{call.count}" if call.count > 1 else ""
-            texts.append(f"enter {call.call}>{call.body}{turns} {state}")
+            texts.append(f"enter {call.call}>{body_text(call.body)}{turns} {state}")
         elif each.context != context:
             texts.append(f"return {state}")
         else:
@@ -213,21 +218,23 @@ def ways(context: int, nexts: list[checker.Next], state: str) -> str:
 def stepped(case: Case) -> str:
     """What an instruction makes of a state."""
     named = dict(word.split("=", 1) for word in case.words if re.match(r"(f|start|at|in)=", word))
-    functions = {0: body_of(named["start"])}
-    others = [word for word in case.words if not re.match(r"(f|start|at|in)=", word)]
-    state = start(functions, others[1])
-    for word in others[2:]:
+    functions = {0: body_of(named["start"])} if "start" in named else {}
+    main, *others = [word for word in case.words if not re.match(r"(f|start|at|in)=", word)]
+    state = start(functions, "".join(word for word in others if word[0] == "["))
+    for word in others:
         change(state, word)
     calls = [None] + (calls_of("0:" + named["in"]) if "in" in named else [])
-    programs = {"f": bytes_of(named["f"]), "g": bytes_of(others[0])}
+    font = bytes_of(named.get("f", ""))
     family = checker.Family(calls, [{} for _ in calls])
-    check = checker.Check(setting(programs, case.limits), family, False)
+    check = checker.Check(setting({"f": font, "p": font, "g": bytes_of(main)}, case.limits), family,
+                          False)
     context, at, before = len(calls) - 1, int(named.get("at", 0)), state.copy()
     instruction = check.program(context)[0].instructions[at]
     try:
         nexts = check.step(context, at, instruction, state)
     except checker.Refusal as refused:
-        return refusal(refused.args[0], None, at)
+        broken = check.broken(refused.args[0], calls[context], at)
+        return refusal(broken.reason, broken.program, broken.offset)
     return ways(context, nexts, shown(state, before))
 
 
@@ -278,11 +285,12 @@ def sections() -> collections.abc.Iterator[tuple[str, str, str]]:
 
 def answers() -> collections.abc.Iterator[tuple[str, str, str]]:
     """All cases: the place, what is told, and what is expected."""
-    for case in cases("check.txt"):
-        if case.kind in ("full", "sparse"):
-            yield case.place, checked(case), case.answer
-    for case in cases("steps.txt"):
-        yield case.place, stepped(case), case.answer
+    for name in ("check.txt", "steps.txt", "cells.txt", "ways.txt"):
+        for case in cases(name):
+            if case.kind == "step":
+                yield case.place, stepped(case), case.answer
+            elif case.kind in ("full", "sparse"):
+                yield case.place, checked(case), case.answer
     yield from sections()
 
 
