@@ -1,6 +1,6 @@
 -- The instructions of which the machine with control values says more, on a symbolic state.
-use Rattle.std.specs.Prelude.{[], ◌∷◌}
-use Rattle.tt_code.specs.Table.{Lists}
+use Rattle.std.specs.Prelude.{ℕ, [], ◌∷◌}
+use Rattle.tt_code.specs.Table.{Lists, refinement_of}
 use Rattle.tt_code.specs.Settings.{Setting}
 use Rattle.tt_code.specs.Changes.{plain}
 use Rattle.tt_code.specs.declared.kinds.Operand.TheVariants as operand
@@ -93,3 +93,8 @@ ChangeWorks s old new = Works (λ m. plain s m write_line) (refined ChangesContr
 abbrev pub ChangesWork : Setting → Row → State → State → Type 0
 ChangesWork s line old new =
     Works (λ m. plain s m (line_of line)) (refined ChangesControls) old new
+
+-- the plain line of this code is carried out
+abbrev pub LineWorks : Setting → ℕ → Row → State → State → Type 0
+LineWorks s code line old new =
+    Works (λ m. plain s m (line_of line)) (refined (refinement_of code)) old new
