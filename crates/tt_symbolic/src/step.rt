@@ -11,15 +11,15 @@ ghost use Rattle.tt_symbolic.specs.Steps.{Dispatches};
 
 use crate::compute::compute;
 use crate::control::execute_control;
-use crate::plain::execute_plain;
+use crate::plain::finish;
 use crate::refined::{
-    change_control, change_controls, compute_exact_of_one, compute_exact_of_two, read_control,
-    write_control,
+    change_control, compute_exact_of_one, compute_exact_of_two, forget_pairs, pair_count,
+    read_control, write_control,
 };
 use tt_code::kinds::Row;
 use tt_code::{Effect, Frame, Instr, Reason, Refinement, entry, refinement};
 use tt_setting::{Point, Setting, StepFault};
-use tt_symbolic_cells::{Exact, push_data, shuffle};
+use tt_symbolic_cells::{Exact, push_data, shuffle, take_operands, test_uses};
 use tt_symbolic_state::state::State;
 
 /// Carries out the plain line of a code, by what the machine with control values says of it.
@@ -34,18 +34,26 @@ fn execute_line(
         (LineWorks (setting_of setting.now) code line.now state.old state.new) }
 {
     match refinement(code) {
-        Refinement::Ordinary => execute_plain(setting, state, line),
-        Refinement::ReadsControl => read_control(setting, state),
-        Refinement::WritesControl => write_control(setting, state),
-        Refinement::ChangesControl => change_control(setting, state),
-        Refinement::ChangesControls => change_controls(setting, state, line),
-        Refinement::Greatest => compute_exact_of_two(setting, state, Exact::Greatest),
-        Refinement::Least => compute_exact_of_two(setting, state, Exact::Least),
-        Refinement::Product => compute_exact_of_two(setting, state, Exact::Product),
-        Refinement::Quotient => compute_exact_of_two(setting, state, Exact::Quotient),
-        Refinement::Floor => compute_exact_of_one(setting, state, Exact::Floor),
-        Refinement::Ceiling => compute_exact_of_one(setting, state, Exact::Ceiling),
+        Refinement::Ordinary => {}
+        Refinement::ChangesControls => {
+            let count = pair_count(state)?;
+            forget_pairs(state, count)?;
+        }
+        Refinement::ReadsControl => return read_control(setting, state),
+        Refinement::WritesControl => return write_control(setting, state),
+        Refinement::ChangesControl => return change_control(setting, state),
+        Refinement::Greatest => return compute_exact_of_two(setting, state, Exact::Greatest),
+        Refinement::Least => return compute_exact_of_two(setting, state, Exact::Least),
+        Refinement::Product => return compute_exact_of_two(setting, state, Exact::Product),
+        Refinement::Quotient => return compute_exact_of_two(setting, state, Exact::Quotient),
+        Refinement::Floor => return compute_exact_of_one(setting, state, Exact::Floor),
+        Refinement::Ceiling => return compute_exact_of_one(setting, state, Exact::Ceiling),
     }
+    let graphics = &state.graphics;
+    let ranges = state.ranges.as_slice();
+    let count = take_operands(setting, graphics, ranges, &state.stack, line.operands)?;
+    test_uses(setting, graphics, ranges, line.uses)?;
+    finish(state, count, line.updates, line.pushes)
 }
 
 /// Carries out the instruction at the state's point. One that doesn't lead elsewhere goes on at the

@@ -63,10 +63,6 @@ line_of row = record {
   pushes = row.pushes.now;
 }
 
--- a plain line is carried out
-abbrev pub PlainWorks : Setting → Row → State → State → Type 0
-PlainWorks s line old new = Works (λ m. plain s m (line_of line)) keeps_controls old new
-
 -- a storage cell of which nothing was known is listed with a new symbol
 pub record ListsStored (index : ℕ) (old new : State) (cell : Cell) : Type 0 where
   pub middle : State
