@@ -208,12 +208,12 @@ pub fn step_keeping(
     let Some(instr) = setting.instruction(&point) else {
         return Err(StepFault::from(Reason::Target));
     };
-    let keeps_entries = keeps_entries(kept, state, instr.code());
+    let writes_none = keeps_entries(kept, state, instr.code());
     execute(setting, &point, state, &instr)?;
     if state.stack.len() > usize::from(setting.limits.stack) {
         return Err(StepFault::from(too_deep(&state.stack)));
     }
-    if keeps_entries {
+    if writes_none {
         Ok(())
     } else {
         Err(StepFault::from(Reason::KeptEntry))

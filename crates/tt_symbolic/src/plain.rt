@@ -1,4 +1,4 @@
-//! The instructions of plain lines, which take, test, change and push.
+//! What plain lines change and push, once their operands are taken and tested.
 
 ghost use Rattle.std.specs.Prelude.{IfOk, OnOk, [], ◌∷◌};
 ghost use Rattle.tt_code.specs.declared.kinds.Pushed.TheVariants as pushed_kind;
