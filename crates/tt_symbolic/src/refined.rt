@@ -18,7 +18,7 @@ use tt_symbolic_cells::{
     Exact, Named, UNDECIDED, answer_of_one, answer_of_two, cell_under, failed_index, is_index,
     unknown, unknown_index,
 };
-use tt_symbolic_state::cell::{Cell, is_in_machine, number};
+use tt_symbolic_state::cell::{is_in_machine, number};
 use tt_symbolic_state::state::State;
 
 /// Carries out RCVT.

@@ -22,7 +22,9 @@ use tt_setting::{Point, Setting, StepFault};
 use tt_symbolic_cells::{Exact, push_data, shuffle, take_operands, test_uses};
 use tt_symbolic_state::state::State;
 
-/// Carries out the plain line of a code, by what the machine with control values says of it.
+/// Carries out the plain line of this code. Where the machine with control values says more of the
+/// instruction, a function of its kind does so; DELTAC first forgets the control values that it
+/// names.
 fn execute_line(
     setting: &Setting<'_>,
     state: &mut State,

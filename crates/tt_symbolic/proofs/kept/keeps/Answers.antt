@@ -1,4 +1,4 @@
-use Rattle.std.proofs.Common.{refl, rules, sym, ◌∙◌}
+use Rattle.std.proofs.Common.{refl, sym, ◌∙◌}
 use Rattle.tt_setting.specs.declared.setting.Point.{Point}
 use Rattle.tt_symbolic.specs.Representation.Leading.{IsAt}
 use Rattle.tt_symbolic.proofs.Controls.{at_frames}
