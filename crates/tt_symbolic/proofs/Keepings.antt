@@ -10,14 +10,13 @@ use Rattle.tt_code.specs.declared.reason.Reason.{Reason}
 use Rattle.tt_code.specs.declared.reason.Reason.TheVariants as reason
 use Rattle.tt_code.specs.Cut.{Instruction, code_of}
 use Rattle.tt_code.specs.Table.{Lists, Meaning, NoEntry, Plain, Pushes, Stack, Computes, Controls, effect_of}
-use Rattle.tt_code.specs.Settings.{Setting as MachineSetting, ZoneNumber, body_name, is_target, program_of, starts_in_body}
+use Rattle.tt_code.specs.Settings.{Setting as MachineSetting, ZoneNumber, body_name, is_target, program_of}
 use Rattle.tt_code.specs.States.{Machine, Outcome, Registers, Value, is_below}
 use Rattle.tt_code.specs.Changes.{natural, numbers, plain, updated, with_stored}
 use Rattle.tt_code.specs.Computing.{computed, of_one, of_two, pushed, shuffled}
 use Rattle.tt_code.specs.Control.{controlled, enters, goes_to, jumps, jumps_if, may_define, returns}
 use Rattle.tt_code.specs.Operands.{Taking, take_operands, test_uses, top}
 use Rattle.tt_code.specs.Runs.{Choices, does, fetched, goes_on, within_depth}
-use Rattle.tt_code.specs.Cut.{instruction_at}
 use Rattle.tt_code.specs.declared.machine.Frame.{Frame}
 use Rattle.tt_code.specs.declared.kinds.Operand.TheVariants as operand
 use Rattle.tt_code.specs.declared.kinds.Update.{Update}
@@ -30,7 +29,7 @@ use Rattle.tt_code.specs.declared.kinds.Arithmetic.{Arithmetic}
 use Rattle.tt_code.specs.declared.kinds.Arithmetic.TheVariants.{Add, Sub, Abs, Neg, Lt, LtEq, Gt, GtEq, Eq, Neq, And, Or, Not}
 use Rattle.tt_setting.specs.declared.setting.Setting.{Setting}
 use Rattle.tt_setting.specs.declared.setting.Point.{Point}
-use Rattle.tt_setting.specs.Settings.{frames_of, setting_of}
+use Rattle.tt_setting.specs.Settings.{frames_of, instruction_of, setting_of}
 use Rattle.tt_code.specs.declared.kinds.Refinement.{Refinement}
 use Rattle.tt_code.specs.declared.kinds.Refinement.TheVariants.{ChangesControl, ChangesControls, Ordinary, WritesControl, ReadsControl}
 use Rattle.tt_code.specs.Table.{refinement_of, written_by, written_of}
@@ -48,7 +47,7 @@ use Rattle.tt_symbolic.specs.Kept.{IsAmong, SameEntries, StepsKeep}
 use Rattle.tt_symbolic.specs.declared.kept.Kept.{Kept}
 use Rattle.tt_symbolic.specs.Representation.Leading.{IsAt}
 use Rattle.tt_symbolic.proofs.AreaFacts.{not_between, stored_other}
-use Rattle.tt_symbolic.proofs.Steppings.{outcome_is, there}
+use Rattle.tt_symbolic.proofs.Steppings.{HasNoRow, outcome_is, there}
 use Rattle.tt_symbolic_cells.proofs.Takings.{under_is}
 
 -- What holds of the registers that an outcome leaves, if there is one.
@@ -199,11 +198,6 @@ pub keeps_plain : (entries : List ℕ) (code : ℕ) (a : State) (line : Lists) �
 keeps_plain entries code a line e none s v m rest next o fits stack q =
     (holds_on (Kept' entries m.registers.storage) next (plain s m line) (plain_holds entries s m line none)).holds o (ap (λ (x : Meaning). does s m x rest next) (sym e) ∙ q)
 
--- what has no row
-abbrev HasNoRow : Meaning → Type 0
-HasNoRow (Plain line) = ⊥
-HasNoRow _ = Unit {0}
-
 other_holds : (entries : List ℕ) (s : MachineSetting) (m : Machine) (e : Meaning) (rest : List ℕ) (next : ℕ) → HasNoRow e → Holds (Kept' entries m.registers.storage) (does s m e rest next)
 other_holds entries s m NoEntry rest next n = holds_err (Kept' entries m.registers.storage) reason.Opcode
 other_holds entries s m (Plain line) rest next n = absurd n
@@ -310,13 +304,13 @@ depth_passes s (Ok p) o q = go (nat_le (length p.after.stack + length p.pushes) 
     go true q = q
     go false q = absurd (cc)
 
-pub steps_keep : (setting : Setting) (point : Point) (kept : Kept) (i : Instruction) (code : ℕ) (a : State) → IsAt point a → starts_in_body (setting_of setting) (frames_of point) point.offset ≡ true → instruction_at (program_of (setting_of setting) (frames_of point)) point.offset ≡ Some i → code_of i ≡ Some code
+pub steps_keep : (setting : Setting) (point : Point) (kept : Kept) (i : Instruction) (code : ℕ) (a : State) → IsAt point a → instruction_of (setting_of setting) (frames_of point) point.offset ≡ Some i → code_of i ≡ Some code
     → KeepsStorage kept.storage.now code a → KeepsControls kept.controls.now code a → StepsKeep (setting_of setting) kept a
-steps_keep setting point kept [] code a at starts is c ks kc m n s w = absurd (cc)
-steps_keep setting point kept (d ∷ rest) code a at starts is c ks kc m n s w =
+steps_keep setting point kept [] code a at is c ks kc m n s w = absurd (cc)
+steps_keep setting point kept (d ∷ rest) code a at is c ks kc m n s w =
     let S = setting_of setting in
     let same : d ≡ code = cc in
-    let fetches : fetched S m.machine ≡ Some (d ∷ rest) = there setting point s.valuation a (d ∷ rest) m.machine m.controls at starts is s.shows s.offset_is in
+    let fetches : fetched S m.machine ≡ Some (d ∷ rest) = there setting point s.valuation a (d ∷ rest) m.machine m.controls at is s.shows s.offset_is in
     let q : does S m.machine (effect_of d) rest (m.machine.offset + suc (length rest)) ≡ Ok w.steps.result = depth_passes S _ w.steps.result (sym (outcome_is S m.machine (d ∷ rest) fetches) ∙ w.steps.does_it) in
     let q' = subst (λ (k : ℕ). does S m.machine (effect_of k) rest (m.machine.offset + suc (length rest)) ≡ Ok w.steps.result) same q in
     let r : Refines (refinement_of d) m.machine.stack m.controls w.steps.choices n.controls = subst (λ o. Allows o m.machine.stack m.controls w.steps.choices n.controls) fetches w.allowed in

@@ -4,8 +4,8 @@ use Rattle.std.proofs.lemmas.Bool.{eqb-true, leb-false}
 use Rattle.std.proofs.lemmas.List.{length-map}
 use Rattle.tt_code.specs.Refusals.{Tested, ◌>>=◌}
 use Rattle.tt_code.specs.Cut.{Instruction, code_of, data_of, data_in, data_after, instruction_at}
-use Rattle.tt_code.specs.Table.{Lists, Plain, Pushes, Stack, Controls, effect_of}
-use Rattle.tt_code.specs.Computing.{exactly, numbers_in, pushed, shuffled}
+use Rattle.tt_code.specs.Table.{Lists, Meaning, Plain, Pushes, Stack, Computes, Controls, effect_of}
+use Rattle.tt_code.specs.Computing.{computed, exactly, numbers_in, pushed, shuffled}
 use Rattle.tt_code.specs.Control.{controlled}
 use Rattle.tt_code.specs.Changes.{plain}
 use Rattle.tt_code.specs.Settings.{Setting as MachineSetting, program_of, starts_in_body}
@@ -19,11 +19,12 @@ use Rattle.tt_code.specs.declared.machine.Frame.{Frame}
 use Rattle.tt_code.specs.declared.kinds.Push.{Push}
 use Rattle.tt_code.specs.declared.kinds.StackOp.{StackOp}
 use Rattle.tt_code.specs.declared.kinds.Control.{Control}
+use Rattle.tt_code.specs.declared.kinds.Arithmetic.{Arithmetic}
 use Rattle.tt_symbolic_state.specs.Values.{Valuation, value}
 use Rattle.tt_symbolic_state.specs.declared.state.State.{State}
 use Rattle.tt_code.specs.declared.kinds.Refinement.{Refinement}
 use Rattle.tt_code.specs.declared.kinds.Refinement.TheVariants as kinds
-use Rattle.tt_code.specs.declared.kinds.Refinement.TheVariants.{ChangesControls, Ordinary}
+use Rattle.tt_code.specs.declared.kinds.Refinement.TheVariants.{Ordinary}
 use Rattle.tt_code.specs.declared.kinds.Operand.TheVariants as operand
 use Rattle.tt_code.specs.Table.{refinement_of}
 use Rattle.tt_symbolic_state.specs.CvtMachine.{Allows, Refines}
@@ -34,19 +35,12 @@ use Rattle.tt_symbolic.specs.Representation.Refined.{of_one_line, of_two_line, r
 use Rattle.tt_symbolic.specs.Representation.Leading.{IsAt}
 use Rattle.tt_symbolic.proofs.Controls.{starts_there}
 use Rattle.tt_symbolic_cells.specs.Stacking.{PutsNumbers, numbers_on}
-use Rattle.tt_symbolic.specs.Steps.{Dispatches, DoesHere, StepsTo, refined_by}
+use Rattle.tt_symbolic.specs.Steps.{Dispatches, StepsTo, refined_by}
 use Rattle.tt_symbolic.proofs.Works.{restacks_works, works_sound}
 
 pub first_code : (i : Instruction) (c code : ℕ) (rest : List ℕ) → code_of i ≡ Some c → i ≡ code ∷ rest → code ≡ c
 first_code [] c code rest e f = absurd (cc)
 first_code (d ∷ ds) c code rest e f = cc
-
--- a plain line
-pub plain_here : (s : MachineSetting) (A : Allowing) (line : Lists) (code : ℕ) (rest : List ℕ) (old new : State) → effect_of code ≡ Plain line → Works (λ m. plain s m line) A old new → DoesHere s A code rest old new
-plain_here s A line code rest old new e w = record { what = λ m. plain s m line; does_it = λ m next. rw e refl; works = w }
-
-pub stack_here : (s : MachineSetting) (op : StackOp) (code : ℕ) (rest : List ℕ) (old new : State) → effect_of code ≡ Stack op → new ≡ record old { stack = new.stack } → Restacks (shuffled op) old.ranges.items old.stack new.stack → DoesHere s keeps_controls code rest old new
-stack_here s op code rest old new e same w = record { what = shuffled op; does_it = λ m next. rw e refl; works = restacks_works (shuffled op) old new same w }
 
 -- numbers that are pushed
 pushed_numbers : (zs stack : List ℤ) (choices : Choices) → pushed_on (exactly zs) choices stack ≡ numbers_on zs stack
@@ -69,30 +63,9 @@ data_restack push rest old new p = record {
       );
 }
 
-pub data_here : (s : MachineSetting) (push : Push) (i : Instruction) (bytes : List ℕ) (code : ℕ) (rest : List ℕ) (old new : State) → effect_of code ≡ Pushes push → i ≡ code ∷ rest → bytes ≡ data_of i → new ≡ record old { stack = new.stack }
-    → PutsNumbers (numbers_in push bytes) old.stack new.stack → DoesHere s keeps_controls code rest old new
-data_here s push i bytes code rest old new e f g same p =
-    let is : bytes ≡ data_after push rest = g ∙ ap data_of f ∙ ap (λ w. data_in w rest) e in
-    let q = subst (λ (b : List ℕ). PutsNumbers (numbers_in push b) old.stack new.stack) is p in
-    record { what = λ m. Ok (pushed push m rest); does_it = λ m next. rw e refl; works = restacks_works (λ m. Ok (pushed push m rest)) old new same (data_restack push rest old new q) }
-
 -- what is allowed, by the code
-works_allowed : (what : Machine → Tested Outcome) (A B : Allowing) (old new : State) → ((m : Machine) (k : ℕ → ℤ) (choices : Choices) (k' : ℕ → ℤ) → B m k choices k' → A m k choices k') → Works what A old new → Works what B old new
-works_allowed what A B old new f w = record {
-  stays = w.stays;
-  works = λ v m controls fits h.
-      let g = w.works v m controls fits h in
-      record { after = g.after; goes = g.goes; deep = g.deep; into = λ choices controls' numbers b. g.into choices controls' numbers (f m controls choices controls' b) };
-}
-
-pub here_allowed : (s : MachineSetting) (A B : Allowing) (code : ℕ) (rest : List ℕ) (old new : State) → ((m : Machine) (k : ℕ → ℤ) (choices : Choices) (k' : ℕ → ℤ) → B m k choices k' → A m k choices k') → DoesHere s A code rest old new → DoesHere s B code rest old new
-here_allowed s A B code rest old new f h = record { what = h.what; does_it = h.does_it; works = works_allowed h.what A B old new f h.works }
-
-pub ordinary_here : (s : MachineSetting) (code : ℕ) (rest : List ℕ) (old new : State) → refinement_of code ≡ Ordinary → DoesHere s keeps_controls code rest old new → DoesHere s (refined_by code) code rest old new
-ordinary_here s code rest old new e h = here_allowed s keeps_controls (refined_by code) code rest old new (λ m k choices k' r. subst (λ (x : Refinement). Refines x m.stack k choices k') e r) h
-
-refined_here : (s : MachineSetting) (kind : Refinement) (line : Lists) (code : ℕ) (rest : List ℕ) (old new : State) → refinement_of code ≡ kind → effect_of code ≡ Plain line → Works (λ m. plain s m line) (refined kind) old new → DoesHere s (refined_by code) code rest old new
-refined_here s kind line code rest old new e f w = here_allowed s (refined kind) (refined_by code) code rest old new (λ m k choices k' r. subst (λ (x : Refinement). Refines x m.stack k choices k') e r) (plain_here s (refined kind) line code rest old new f w)
+pub refined_works : (s : MachineSetting) (kind : Refinement) (line : Lists) (code : ℕ) (old new : State) → refinement_of code ≡ kind → Works (λ m. plain s m line) (refined kind) old new → Works (λ m. plain s m line) (refined (refinement_of code)) old new
+refined_works s kind line code old new e w = subst (λ (k : Refinement). Works (λ m. plain s m line) (refined k) old new) (sym e) w
 
 -- the same at a place
 sound_same : (d e : Machine → Tested Outcome) (A B : Allowing) (old new : State)
@@ -104,19 +77,6 @@ sound_same d e A B old new f g h = record {
       record { after = w.after; goes = f m a.offset_is ∙ w.goes; deep = w.deep; into = λ choices controls' numbers b. w.into choices controls' numbers (g m controls choices controls' b) };
 }
 
-pub here_sound : (s : MachineSetting) (code : ℕ) (rest : List ℕ) (old middle new : State) (next : ℕ) → next ≡ old.offset + suc (length rest) → new ≡ record middle { offset = new.offset } → next ≡ new.offset → DoesHere s (refined_by code) code rest old middle
-    → Sound (λ m. does s m (effect_of code) rest (m.offset + suc (length rest))) (refined_by code) old new
-here_sound s code rest old middle new next e same at h =
-    sound_same (λ m. goes_on next (h.what m)) (λ m. does s m (effect_of code) rest (m.offset + suc (length rest))) (refined_by code) (refined_by code) old new
-    (λ m o. h.does_it m (m.offset + suc (length rest)) ∙ ap (λ (n : ℕ). goes_on n (h.what m)) (ap (λ (n : ℕ). n + suc (length rest)) o ∙ sym e)) (λ m k choices k' b. b)
-    (works_sound h.what (refined_by code) old middle new next h.works same at)
-
-pub control_sound : (s : MachineSetting) (op : Control) (code : ℕ) (rest : List ℕ) (old new : State) → effect_of code ≡ Controls op → refinement_of code ≡ Ordinary
-    → Sound (λ m. controlled s m op) keeps_controls old new → Sound (λ m. does s m (effect_of code) rest (m.offset + suc (length rest))) (refined_by code) old new
-control_sound s op code rest old new e f h =
-    sound_same (λ m. controlled s m op) (λ m. does s m (effect_of code) rest (m.offset + suc (length rest))) keeps_controls (refined_by code) old new
-    (λ m o. rw e refl) (λ m k choices k' r. subst (λ (x : Refinement). Refines x m.stack k choices k') f r) h
-
 le_true : (a b : ℕ) → a ≤ b → nat_le a b ≡ true
 le_true a b h = go (nat_le a b) refl
   where
@@ -125,7 +85,7 @@ le_true a b h = go (nat_le a b) refl
     go false e = let w = leb-false a b e in absurd (omega arith)
 
 -- the instruction that starts at a place
-pub starting : (s : MachineSetting) (fs : List Frame) (at : ℕ) (i : Instruction) → instruction_of s fs at ≡ Some i → (starts_in_body s fs at ≡ true) × (instruction_at (program_of s fs) at ≡ Some i)
+starting : (s : MachineSetting) (fs : List Frame) (at : ℕ) (i : Instruction) → instruction_of s fs at ≡ Some i → (starts_in_body s fs at ≡ true) × (instruction_at (program_of s fs) at ≡ Some i)
 starting s fs at i e = go (starts_in_body s fs at) refl
   where
     go : (b : Bool) → starts_in_body s fs at ≡ b → (starts_in_body s fs at ≡ true) × (instruction_at (program_of s fs) at ≡ Some i)
@@ -133,9 +93,10 @@ starting s fs at i e = go (starts_in_body s fs at) refl
     go false t = let f : None ≡ Some i = rw t at e in absurd (cc)
 
 -- the instruction that is there
-pub there : (setting : Setting) (point : Point) (v : Valuation) (a : State) (i : Instruction) (m : Machine) (controls : ℕ → ℤ) → IsAt point a → starts_in_body (setting_of setting) (frames_of point) point.offset ≡ true → instruction_at (program_of (setting_of setting) (frames_of point)) point.offset ≡ Some i
+pub there : (setting : Setting) (point : Point) (v : Valuation) (a : State) (i : Instruction) (m : Machine) (controls : ℕ → ℤ) → IsAt point a → instruction_of (setting_of setting) (frames_of point) point.offset ≡ Some i
     → Shows v a m controls → m.offset ≡ a.offset → fetched (setting_of setting) m ≡ Some i
-there setting point v a i m controls at starts is h o =
+there setting point v a i m controls at e h o =
+    let (starts, is) = starting (setting_of setting) (frames_of point) point.offset i e in
     let (same, program) = starts_there (setting_of setting) v point a m controls at h in
     let q : m.offset ≡ point.offset = o ∙ sym at.offset_is in
     let t : starts_in_body (setting_of setting) m.frames m.offset ≡ true = same ∙ ap (starts_in_body (setting_of setting) (frames_of point)) q ∙ starts in
@@ -149,14 +110,14 @@ outcome_is s m i e = ap (performs s m) e
 within : (s : MachineSetting) (o : Outcome) (depth : ℕ) → length o.after.stack + length o.pushes ≡ depth → depth ≤ s.limits.stack → within_depth s o ≡ Ok o
 within s o depth d h = let t : nat_le (length o.after.stack + length o.pushes) s.limits.stack ≡ true = le_true (length o.after.stack + length o.pushes) s.limits.stack (omega arith) in rw t refl
 
-pub steps : (setting : Setting) (point : Point) (i : Instruction) (old new : State) → IsAt point old → starts_in_body (setting_of setting) (frames_of point) point.offset ≡ true → instruction_at (program_of (setting_of setting) (frames_of point)) point.offset ≡ Some i
+pub steps : (setting : Setting) (point : Point) (i : Instruction) (old new : State) → IsAt point old → instruction_of (setting_of setting) (frames_of point) point.offset ≡ Some i
     → Dispatches setting i old new → (c : ℕ) → code_of i ≡ Some c
     → length new.stack ≤ setting.limits.stack → StepsTo setting old new
-steps setting point [] old new at starts is h c e deep = absurd (cc)
-steps setting point (code ∷ rest) old new at starts is h c e deep = record {
+steps setting point [] old new at is h c e deep = absurd (cc)
+steps setting point (code ∷ rest) old new at is h c e deep = record {
   sound = λ m controls a.
       let w = (h code rest refl).sound m controls a in
-      let fetches : fetched (setting_of setting) m ≡ Some (code ∷ rest) = there setting point a.valuation old (code ∷ rest) m controls at starts is a.shows a.offset_is in
+      let fetches : fetched (setting_of setting) m ≡ Some (code ∷ rest) = there setting point a.valuation old (code ∷ rest) m controls at is a.shows a.offset_is in
       record {
         after = w.after;
         goes = outcome_is (setting_of setting) m (code ∷ rest) fetches ∙ ap (λ r. r >>= within_depth (setting_of setting)) w.goes ∙ within (setting_of setting) w.after (length new.stack) w.deep deep;
@@ -230,15 +191,26 @@ of_line code =
     (chosen code 0x8b kinds.Greatest _ exact_effects.0 (chosen code 0x8c kinds.Least _ exact_effects.1 (chosen code 0x63 kinds.Product _ exact_effects.2 (chosen code 0x62 kinds.Quotient _ exact_effects.3
     (chosen code 0x66 kinds.Floor _ exact_effects.4 (chosen code 0x67 kinds.Ceiling kinds.Ordinary exact_effects.5 tt)))))))))))
 
--- an instruction of a kind, by its line
-pub kind_here : (s : MachineSetting) (kind : Refinement) (line : Lists) (code : ℕ) (rest : List ℕ) (old new : State) → refinement_of code ≡ kind → line_for kind ≡ Some line → Works (λ m. plain s m line) (refined kind) old new → DoesHere s (refined_by code) code rest old new
-kind_here s kind line code rest old new e f w = refined_here s kind line code rest old new e (subst (λ (l : Option Lists). IsOfLine code l) (ap line_for e ∙ f) (of_line code)) w
+-- the line of a code of a kind is carried out as that of the kind
+pub line_works : (s : MachineSetting) (kind : Refinement) (own line : Lists) (code : ℕ) (old new : State) → effect_of code ≡ Plain line → refinement_of code ≡ kind → line_for kind ≡ Some own → Works (λ m. plain s m own) (refined kind) old new → Works (λ m. plain s m line) (refined (refinement_of code)) old new
+line_works s kind own line code old new e k l w =
+    let is : effect_of code ≡ Plain own = subst (λ (o : Option Lists). IsOfLine code o) (ap line_for k ∙ l) (of_line code) in
+    let p : Plain own ≡ Plain line = sym is ∙ e in
+    let same : own ≡ line = cc in
+    refined_works s kind line code old new k (subst (λ (x : Lists). Works (λ m. plain s m x) (refined kind) old new) same w)
 
-pub control_ordinary : (code : ℕ) (op : Control) → effect_of code ≡ Controls op → refinement_of code ≡ Ordinary
-control_ordinary code op e = go (refinement_of code) (of_line code)
+-- An instruction by its effect.
+
+-- what has no line
+abbrev pub HasNoRow : Meaning → Type 0
+HasNoRow (Plain line) = ⊥
+HasNoRow _ = Unit {0}
+
+other_ordinary : (code : ℕ) (e : Meaning) → effect_of code ≡ e → HasNoRow e → refinement_of code ≡ Ordinary
+other_ordinary code e is none = go (refinement_of code) (of_line code)
   where
     not_of : (line : Lists) → effect_of code ≡ Plain line → ⊥
-    not_of line f = let g : Plain line ≡ Controls op = sym f ∙ e in cc
+    not_of line f = subst HasNoRow (sym is ∙ f) none
 
     go : (kind : Refinement) → IsOfLine code (line_for kind) → kind ≡ Ordinary
     go kinds.ReadsControl h = absurd (not_of read_line h)
@@ -253,8 +225,47 @@ control_ordinary code op e = go (refinement_of code) (of_line code)
     go kinds.Ceiling h = absurd (not_of of_one_line h)
     go kinds.Ordinary h = refl
 
-pub delta_here : (s : MachineSetting) (line : Lists) (code : ℕ) (rest : List ℕ) (old new : State) → refinement_of code ≡ ChangesControls → effect_of code ≡ Plain line → Works (λ m. plain s m line) (refined ChangesControls) old new → DoesHere s (refined_by code) code rest old new
-delta_here s line code rest old new e f w = refined_here s ChangesControls line code rest old new e f w
+module _ (setting : Setting) (i : Instruction) (d : ℕ) (is : code_of i ≡ Some d) (old new : State) where
+  -- the control values stay
+  stay : (code : ℕ) (e : Meaning) → effect_of code ≡ e → HasNoRow e → (m : Machine) (k : ℕ → ℤ) (choices : Choices) (k' : ℕ → ℤ) → refined_by code m k choices k' → keeps_controls m k choices k'
+  stay code e f none m k choices k' r = subst (λ (x : Refinement). Refines x m.stack k choices k') (other_ordinary code e f none) r
 
-pub code_is : (i : Instruction) (c d : ℕ) → code_of i ≡ Some c → code_of i ≡ Some d → c ≡ d
-code_is i c d e f = cc
+  pub control_dispatches : (op : Control) → effect_of d ≡ Controls op → Sound (λ m. controlled (setting_of setting) m op) keeps_controls old new → Dispatches setting i old new
+  control_dispatches op e h code rest f =
+      let e' : effect_of code ≡ Controls op = ap effect_of (first_code i d code rest is f) ∙ e in
+      sound_same (λ m. controlled (setting_of setting) m op) (λ m. does (setting_of setting) m (effect_of code) rest (m.offset + suc (length rest))) keeps_controls (refined_by code) old new (λ m o. rw e' refl) (stay code (Controls op) e' tt) h
+
+  module _ (next : ℕ) (at : next ≡ old.offset + length i) where
+    -- what is done goes on at the next instruction
+    goes_here : (what : Machine → Tested Outcome) (A : Allowing) (code : ℕ) (rest : List ℕ) → i ≡ code ∷ rest → ((m : Machine) (n : ℕ) → does (setting_of setting) m (effect_of code) rest n ≡ goes_on n (what m))
+        → ((m : Machine) (k : ℕ → ℤ) (choices : Choices) (k' : ℕ → ℤ) → refined_by code m k choices k' → A m k choices k') → Works what A (record old { offset = next }) new
+        → Sound (λ m. does (setting_of setting) m (effect_of code) rest (m.offset + suc (length rest))) (refined_by code) old new
+    goes_here what A code rest f by allowed h =
+        sound_same (λ m. goes_on next (what m)) (λ m. does (setting_of setting) m (effect_of code) rest (m.offset + suc (length rest))) A (refined_by code) old new
+        (λ m o. by m (m.offset + suc (length rest)) ∙ ap (λ (n : ℕ). goes_on n (what m)) (ap (λ (n : ℕ). n + suc (length rest)) o ∙ ap (λ (l : List ℕ). old.offset + length l) (sym f) ∙ sym at)) allowed
+        (works_sound what A old new next h)
+
+    pub line_dispatches : (line : Lists) → effect_of d ≡ Plain line → Works (λ m. plain (setting_of setting) m line) (refined (refinement_of d)) (record old { offset = next }) new → Dispatches setting i old new
+    line_dispatches line e h code rest f =
+        let same : code ≡ d = first_code i d code rest is f in
+        let e' : effect_of code ≡ Plain line = ap effect_of same ∙ e in
+        goes_here (λ m. plain (setting_of setting) m line) (refined_by d) code rest f (λ m n. rw e' refl) (λ m k choices k' r. subst (λ (x : ℕ). refined_by x m k choices k') same r) h
+
+    other_goes : (what : Machine → Tested Outcome) (e : Meaning) (code : ℕ) (rest : List ℕ) → i ≡ code ∷ rest → effect_of d ≡ e → HasNoRow e → ((m : Machine) (n : ℕ) → does (setting_of setting) m e rest n ≡ goes_on n (what m)) → Works what keeps_controls (record old { offset = next }) new
+        → Sound (λ m. does (setting_of setting) m (effect_of code) rest (m.offset + suc (length rest))) (refined_by code) old new
+    other_goes what e code rest f g none by h =
+        let e' : effect_of code ≡ e = ap effect_of (first_code i d code rest is f) ∙ g in
+        goes_here what keeps_controls code rest f (λ m n. rw e' (by m n)) (stay code e e' none) h
+
+    pub data_dispatches : (push : Push) (bytes : List ℕ) → effect_of d ≡ Pushes push → bytes ≡ data_of i → new ≡ record old { offset = next; stack = new.stack } → PutsNumbers (numbers_in push bytes) old.stack new.stack → Dispatches setting i old new
+    data_dispatches push bytes e g same p code rest f =
+        let e' : effect_of code ≡ Pushes push = ap effect_of (first_code i d code rest is f) ∙ e in
+        let b : bytes ≡ data_after push rest = g ∙ ap data_of f ∙ ap (λ w. data_in w rest) e' in
+        let q = subst (λ (b : List ℕ). PutsNumbers (numbers_in push b) old.stack new.stack) b p in
+        other_goes (λ m. Ok (pushed push m rest)) (Pushes push) code rest f e tt (λ m n. refl) (restacks_works (λ m. Ok (pushed push m rest)) (record old { offset = next }) new same (data_restack push rest old new q))
+
+    pub stack_dispatches : (op : StackOp) → effect_of d ≡ Stack op → new ≡ record old { offset = next; stack = new.stack } → Restacks (shuffled op) old.ranges.items old.stack new.stack → Dispatches setting i old new
+    stack_dispatches op e same h code rest f = other_goes (shuffled op) (Stack op) code rest f e tt (λ m n. refl) (restacks_works (shuffled op) (record old { offset = next }) new same h)
+
+    pub computed_dispatches : (op : Arithmetic) → effect_of d ≡ Computes op → Works (λ m. computed op m) keeps_controls (record old { offset = next }) new → Dispatches setting i old new
+    computed_dispatches op e h code rest f = other_goes (λ m. computed op m) (Computes op) code rest f e tt (λ m n. refl) h

@@ -2,7 +2,7 @@
 use Rattle.std.proofs.Common.{◌≡◌, ℕ, suc, ℤ, List, ◌∷◌, refl, sym, ◌∙◌, ap, subst, length}
 use Rattle.tt_code.specs.Refusals.{Tested}
 use Rattle.tt_code.specs.States.{Machine, Outcome}
-use Rattle.tt_code.specs.Runs.{pushed_on, goes_on}
+use Rattle.tt_code.specs.Runs.{goes_on, left_by, pushed_on}
 use Rattle.tt_symbolic_state.specs.declared.cell.Cell.{Cell}
 use Rattle.tt_symbolic_state.specs.declared.cell.Range.{Range}
 use Rattle.tt_symbolic_state.specs.Values.{Fits, IsWithin, Valuation, value}
@@ -98,22 +98,16 @@ pub moves_fits : (v : Valuation) (old new : State) → new ≡ record old { offs
 moves_fits v old new same fits = let F : State → Type 0 = λ a. Fits a.ranges.items v in subst F (sym same) fits
 
 -- what doesn't lead elsewhere goes on at the next instruction
-pub works_sound : (does : Machine → Tested Outcome) (Allowed : Allowing) (old middle new : State) (next : ℕ) → Works does Allowed old middle → new ≡ record middle { offset = new.offset } → next ≡ new.offset
-    → Sound (λ m. goes_on next (does m)) Allowed old new
-works_sound does Allowed old middle new next h same at = record {
+pub works_sound : (does : Machine → Tested Outcome) (Allowed : Allowing) (old new : State) (next : ℕ) → Works does Allowed (record old { offset = next }) new → Sound (λ m. goes_on next (does m)) Allowed old new
+works_sound does Allowed old new next h = record {
   sound = λ m controls a.
-      let g = h.works a.valuation m controls a.fits a.shows in
+      let g = h.works a.valuation m controls a.fits (moves_shows a.valuation old (record old { offset = next }) m controls m.stack m.offset refl refl a.shows) in
       record {
         after = record g.after { after = record g.after.after { offset = next } };
         goes = rw g.goes refl;
-        deep = let d = ap (λ (x : State). length x.stack) same in g.deep ∙ sym d;
+        deep = g.deep;
         into = λ choices controls' numbers allowed.
             let s = g.into choices controls' numbers allowed in
-            record {
-              valuation = s.valuation;
-              fits = moves_fits s.valuation middle new same s.fits;
-              shows = moves_shows s.valuation middle new _ controls' _ next same refl s.shows;
-              offset_is = at;
-            };
+            record { valuation = s.valuation; fits = s.fits; shows = moves_shows s.valuation new new (left_by g.after choices) controls' _ next refl refl s.shows; offset_is = sym h.stays };
       };
 }

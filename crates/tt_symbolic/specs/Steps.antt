@@ -1,35 +1,19 @@
 -- What it means that an instruction was carried out on a symbolic state.
 use Rattle.std.specs.Prelude.{◌≡◌, ◌+◌, ℕ, suc, List, ◌∷◌, length}
-use Rattle.tt_code.specs.Refusals.{Tested}
 use Rattle.tt_code.specs.Cut.{Instruction}
 use Rattle.tt_code.specs.Settings.{Setting as MachineSetting}
-use Rattle.tt_code.specs.States.{Machine, Outcome}
 use Rattle.tt_code.specs.Table.{effect_of}
-use Rattle.tt_code.specs.Runs.{does, fetched, goes_on, outcome}
+use Rattle.tt_code.specs.Runs.{does, fetched, outcome}
 use Rattle.tt_setting.specs.declared.setting.Setting.{Setting}
 use Rattle.tt_setting.specs.Settings.{setting_of}
 use Rattle.tt_code.specs.Table.{refinement_of}
 use Rattle.tt_symbolic_state.specs.CvtMachine.{Allows, Refines}
 use Rattle.tt_symbolic_state.specs.declared.state.State.{State}
-use Rattle.tt_symbolic.specs.Sound.{Allowing, Sound, Works}
+use Rattle.tt_symbolic.specs.Sound.{Allowing, Sound}
 
 -- what the instruction of this code allows
 abbrev pub refined_by : ℕ → Allowing
 refined_by code m old choices new = Refines (refinement_of code) m.stack old choices new
-
--- the instruction, which goes on at the next one, was carried out
-pub record DoesHere (s : MachineSetting) (Allowed : Allowing) (code : ℕ) (rest : List ℕ)
-    (old new : State) : Type 0 where
-  pub what : Machine → Tested Outcome
-  pub does_it : (m : Machine) (next : ℕ)
-      → does s m (effect_of code) rest next ≡ goes_on next (what m)
-  pub works : Works what Allowed old new
-
--- the same, of the instruction of these bytes
-abbrev pub CarriesOut : MachineSetting → (ℕ → Allowing) → Instruction → State → State → Type 0
-CarriesOut s allowed bytes old new =
-    (code : ℕ) (rest : List ℕ) → bytes ≡ code ∷ rest
-    → DoesHere s (allowed code) code rest old new
 
 -- the instruction of these bytes was carried out, and leads to the new state's place
 abbrev pub Dispatches : Setting → Instruction → State → State → Type 0
@@ -48,7 +32,3 @@ allows s m old choices new = Allows (fetched s m) m.stack old choices new
 abbrev pub StepsTo : Setting → State → State → Type 0
 StepsTo setting old new =
     Sound (outcome (setting_of setting)) (allows (setting_of setting)) old new
-
--- the same for every code
-abbrev pub always : Allowing → ℕ → Allowing
-always allowed code = allowed

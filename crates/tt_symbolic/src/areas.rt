@@ -1,6 +1,6 @@
 //! Entries of memory maps that are no longer known.
 
-ghost use Rattle.std.specs.Prelude.{◌≡◌, ℕ, true};
+ghost use Rattle.std.specs.Prelude.{◌≡◌, ℕ, false, is_some};
 ghost use Rattle.std.specs.List.{All};
 ghost use Rattle.tt_symbolic_state.specs.declared.cell.Cell.{Cell as AnyCell};
 ghost use Rattle.tt_symbolic.specs.Representation.Areas.{Forgets, IsOutside, IsPartOf};
@@ -12,7 +12,10 @@ use tt_symbolic_state::cell::Cell;
 const MOST_REMOVED: u32 = 64;
 
 /// Returns the number of the first entry between two bounds, if there is one.
-fn first_between(entries: &[(u16, Cell)], low: i64, high: i64) -> Option<u16> {
+fn first_between(entries: &[(u16, Cell)], low: i64, high: i64) -> Option<u16>
+    ensures { is_some result ≡ false
+        → All (λ (e : ℕ × AnyCell). IsOutside low high e.0) entries.now }
+{
     for entry in entries {
         let number = i64::from(entry.0);
         if low <= number && number <= high {
@@ -20,19 +23,6 @@ fn first_between(entries: &[(u16, Cell)], low: i64, high: i64) -> Option<u16> {
         }
     }
     None
-}
-
-/// Whether no entry is between the bounds.
-fn are_outside(entries: &[(u16, Cell)], low: i64, high: i64) -> bool
-    ensures { result ≡ true → All (λ (e : ℕ × AnyCell). IsOutside low high e.0) entries.now }
-{
-    for entry in entries {
-        let number = i64::from(entry.0);
-        if low <= number && number <= high {
-            return false;
-        }
-    }
-    true
 }
 
 /// Removes entries between the bounds, as long as they are few.
@@ -52,7 +42,7 @@ pub fn forget(entries: &mut SortedMap<Cell>, low: i64, high: i64)
     ensures { Forgets low high entries.old entries.new }
 {
     remove_between(entries, low, high);
-    if !are_outside(entries.as_slice(), low, high) {
+    if first_between(entries.as_slice(), low, high).is_some() {
         entries.clear();
     }
 }

@@ -2,7 +2,6 @@
 
 ghost use Rattle.std.specs.Prelude.{◌≡◌, ◌+◌, ◌≤◌, ℕ, ◌++◌, ◌∷◌, [], IfOk, OnOk, length, pos, true};
 ghost use Rattle.tt_code.specs.declared.kinds.Control.TheVariants as control;
-ghost use Rattle.tt_setting.specs.Settings.{frames_of, setting_of};
 ghost use Rattle.tt_symbolic_state.specs.Values.{Fits, Valuation, value};
 ghost use Rattle.tt_symbolic.specs.Representation.Leading.{Closes, GoesTo, IsAt, IsKnownFunction, JumpsIf, JumpsTo, Leads, Opens, Repeats};
 

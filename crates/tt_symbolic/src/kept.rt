@@ -1,22 +1,20 @@
 //! Memory entries that a program may not write.
 
-ghost use Rattle.std.specs.Prelude.{◌≡◌, OnOk, Some, true, false};
+ghost use Rattle.std.specs.Prelude.{◌≡◌, OnOk, true, false};
 ghost use Rattle.std.specs.List.{All};
-ghost use Rattle.tt_setting.specs.Settings.{point_instruction};
 ghost use Rattle.tt_setting.specs.Settings.{setting_of};
 ghost use Rattle.tt_symbolic.specs.Representation.Areas.{IsOutside};
 ghost use Rattle.tt_symbolic.specs.Representation.Keeping.{AreAllPairsNoneOf, ArePairsNoneOf, IsNoStore, IsNoneOf, IsPairNoneOf, IsSecondNoneOf, KeepsControls, KeepsStorage, StoresNothing};
 ghost use Rattle.tt_symbolic.specs.Kept.{StepsKeep};
-ghost use Rattle.tt_symbolic.specs.Representation.Leading.{IsAt};
 ghost use Rattle.tt_symbolic.specs.Steps.{StepsTo};
 
 use crate::changes::index_bounds;
 use crate::refined::pair_count;
-use crate::step::{innermost, perform};
+use crate::step::{execute, innermost};
 use tt_code::kinds::Update;
-use tt_code::{Effect, Instr, Reason, Refinement, Written, entry, refinement, written};
+use tt_code::{Effect, Reason, Refinement, Written, entry, refinement, written};
 use tt_setting::{Point, Setting, StepFault};
-use tt_symbolic_cells::cell_under;
+use tt_symbolic_cells::{cell_under, too_deep};
 use tt_symbolic_state::cell::{Cell, Range};
 use tt_symbolic_state::state::State;
 
@@ -162,34 +160,15 @@ fn keeps_storage(numbers: &[u16], state: &State, code: u8) -> bool
     }
 }
 
-/// Whether the instruction that starts at the state's point writes none of the kept entries.
-fn keeps_by(
-    setting: &Setting<'_>,
-    point: &Point<'_>,
-    state: &State,
-    kept: &Kept<'_>,
-    instr: &Instr<'_>,
-) -> bool
-    requires place { IsAt point.now state.now }
-    requires there { point_instruction setting.now point.now ≡ Some instr.now }
-    ensures { result ≡ true → StepsKeep (setting_of setting.now) kept.now state.now }
+/// Whether an instruction of this code writes none of the kept entries.
+fn keeps_entries(kept: &Kept<'_>, state: &State, code: u8) -> bool
+    ensures storage { result ≡ true → KeepsStorage kept.now.storage.now code state.now }
+    ensures controls { result ≡ true → KeepsControls kept.now.controls.now code state.now }
 {
-    let code = instr.code();
     if !keeps_storage(kept.storage, state, code) {
         return false;
     }
     keeps_controls(kept.controls, state, code)
-}
-
-/// Whether an instruction starts at the state's point, and writes none of the kept entries.
-fn keeps_at(setting: &Setting<'_>, point: &Point<'_>, state: &State, kept: &Kept<'_>) -> bool
-    requires { IsAt point.now state.now }
-    ensures { result ≡ true → StepsKeep (setting_of setting.now) kept.now state.now }
-{
-    match setting.instruction(point) {
-        Some(instr) => keeps_by(setting, point, state, kept, &instr),
-        None => false,
-    }
 }
 
 /// Whether the instruction where the state is writes none of the kept entries.
@@ -201,39 +180,18 @@ pub fn keeps(setting: &Setting<'_>, state: &State, kept: &Kept<'_>) -> bool
         frames: frame.as_slice(),
         offset: state.offset,
     };
-    keeps_at(setting, &point, state, kept)
-}
-
-/// Carries out the instruction at the state's point, if one starts there and it writes none of the
-/// kept entries.
-fn step_keeping_at(
-    setting: &Setting<'_>,
-    point: &Point<'_>,
-    kept: &Kept<'_>,
-    state: &mut State,
-) -> Result<(), StepFault>
-    requires { IsAt point.now state.old }
-    ensures steps { OnOk result (StepsTo setting.now state.old state.new) }
-    ensures keeps { OnOk result (StepsKeep (setting_of setting.now) kept.now state.old) }
-{
-    let Some(instr) = setting.instruction(point) else {
-        return Err(StepFault::from(Reason::Target));
-    };
-    let keeps_entries = keeps_by(setting, point, state, kept, &instr);
-    perform(setting, point, state, &instr)?;
-    if keeps_entries {
-        Ok(())
-    } else {
-        Err(StepFault::from(Reason::KeptEntry))
+    match setting.instruction(&point) {
+        Some(instr) => keeps_entries(kept, state, instr.code()),
+        None => false,
     }
 }
 
-/// Carries out the instruction where the state is, as `step` does, if it writes none of the kept
-/// entries: both by one look-up of the instruction. After a refusal the state's content is
-/// unspecified.
+/// Carries out the instruction where the state is, if one of its body starts there and it writes
+/// none of the kept entries. After a refusal the state's content is unspecified.
 ///
 /// # Errors
-/// As `step`, and `KeptEntry` where `step` doesn't refuse and a kept entry may be written.
+/// `Refused` where a machine that the state shows may fault, or where not enough is known, with the
+/// first test that fails, and then with `KeptEntry` where a kept entry may be written; `OutOfMemory`.
 pub fn step_keeping(
     setting: &Setting<'_>,
     kept: &Kept<'_>,
@@ -247,5 +205,17 @@ pub fn step_keeping(
         frames: frame.as_slice(),
         offset: state.offset,
     };
-    step_keeping_at(setting, &point, kept, state)
+    let Some(instr) = setting.instruction(&point) else {
+        return Err(StepFault::from(Reason::Target));
+    };
+    let writes_none = keeps_entries(kept, state, instr.code());
+    execute(setting, &point, state, &instr)?;
+    if state.stack.len() > usize::from(setting.limits.stack) {
+        return Err(StepFault::from(too_deep(&state.stack)));
+    }
+    if writes_none {
+        Ok(())
+    } else {
+        Err(StepFault::from(Reason::KeptEntry))
+    }
 }

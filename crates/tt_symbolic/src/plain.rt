@@ -1,16 +1,15 @@
-//! The instructions of plain lines, which take, test, change and push.
+//! What plain lines change and push, once their operands are taken and tested.
 
 ghost use Rattle.std.specs.Prelude.{IfOk, OnOk, [], ◌∷◌};
 ghost use Rattle.tt_code.specs.declared.kinds.Pushed.TheVariants as pushed_kind;
-ghost use Rattle.tt_setting.specs.Settings.{setting_of};
-ghost use Rattle.tt_symbolic.specs.Representation.Plain.{Cuts, Finishes, IsAny, IsControlAt, IsStoredAt, ListsControl, ListsStored, PlainWorks};
+ghost use Rattle.tt_symbolic.specs.Representation.Plain.{Cuts, Finishes, IsAny, IsControlAt, IsStoredAt, ListsControl, ListsStored};
 ghost use Rattle.tt_symbolic.specs.Sound.{Puts};
 
 use crate::changes::{index_of, taken, update_all};
 use crate::push::put;
-use tt_code::kinds::{Pushed, Row, Update};
-use tt_setting::{Setting, StepFault};
-use tt_symbolic_cells::{UNDECIDED, take_operands, test_uses};
+use tt_code::kinds::{Pushed, Update};
+use tt_setting::StepFault;
+use tt_symbolic_cells::UNDECIDED;
 use tt_symbolic_state::cell::{Cell, FULL};
 use tt_symbolic_state::state::{State, fresh};
 
@@ -134,8 +133,11 @@ fn finish_pushes(state: &mut State, count: usize, pushes: &[Pushed]) -> Result<(
     }
 }
 
-/// Makes the changes or the pushes.
-fn finish(
+/// Makes the changes or the pushes of a line whose operands, so many, are tested.
+///
+/// # Errors
+/// `Refused` where not enough is known; `OutOfMemory`.
+pub fn finish(
     state: &mut State,
     count: usize,
     changes: &[Update],
@@ -150,23 +152,4 @@ fn finish(
             _ => Err(StepFault::from(UNDECIDED)),
         },
     }
-}
-
-/// Carries out a plain line.
-///
-/// # Errors
-/// `Refused` where it may fault, or isn't known well enough; `OutOfMemory`.
-pub fn execute_plain(setting: &Setting<'_>, state: &mut State, line: &Row) -> Result<(), StepFault>
-    ensures { OnOk result (PlainWorks (setting_of setting.now) line.now state.old state.new) }
-{
-    let ranges = state.ranges.as_slice();
-    let count = take_operands(
-        setting,
-        &state.graphics,
-        ranges,
-        &state.stack,
-        line.operands,
-    )?;
-    test_uses(setting, &state.graphics, ranges, line.uses)?;
-    finish(state, count, line.updates, line.pushes)
 }

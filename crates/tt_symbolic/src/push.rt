@@ -5,8 +5,8 @@ ghost use Rattle.tt_symbolic.specs.Sound.{Pops, Pushes};
 
 use tt_setting::{Failed, StepFault};
 use tt_symbolic_cells::{cell_under, too_few};
-use tt_symbolic_state::cell::{Cell, FULL, Range};
-use tt_symbolic_state::state::{State, fresh};
+use tt_symbolic_state::cell::Cell;
+use tt_symbolic_state::state::State;
 
 /// Takes the top, after the instruction took this many others.
 ///

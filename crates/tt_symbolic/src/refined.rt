@@ -4,22 +4,21 @@
 ghost use Rattle.std.specs.Prelude.{◌≡◌, ◌∷◌, IfOk, OnOk, drop, pos};
 ghost use Rattle.tt_setting.specs.Settings.{setting_of};
 ghost use Rattle.tt_symbolic.specs.Representation.Areas.{ForgetsPair, ForgetsPairs};
-ghost use Rattle.tt_symbolic.specs.Representation.Refined.{ChangeWorks, ChangesWork, ExactWorks, ReadWorks, WriteWorks, exact_line, of_one_line, of_two_line};
+ghost use Rattle.tt_symbolic.specs.Representation.Refined.{ChangeWorks, ExactWorks, ReadWorks, WriteWorks, exact_line, of_one_line, of_two_line};
 ghost use Rattle.tt_symbolic_state.specs.Values.{Fits, Valuation, value};
 ghost use Rattle.tt_symbolic_state.specs.declared.cell.Cell.{Cell as AnyCell};
 
 use crate::areas::forget;
 use crate::changes::{index_bounds, index_of};
 use crate::compute::put_answer;
-use crate::plain::{cut, execute_plain, put_any, put_control};
+use crate::plain::{cut, put_any, put_control};
 use crate::push::pop;
-use tt_code::kinds::Row;
 use tt_setting::{Failed, Role, Setting, StepFault};
 use tt_symbolic_cells::{
     Exact, Named, UNDECIDED, answer_of_one, answer_of_two, cell_under, failed_index, is_index,
     unknown, unknown_index,
 };
-use tt_symbolic_state::cell::{Cell, is_in_machine, number};
+use tt_symbolic_state::cell::{is_in_machine, number};
 use tt_symbolic_state::state::State;
 
 /// Carries out RCVT.
@@ -93,7 +92,7 @@ fn forget_pair(state: &mut State, pair: u32) -> Result<(), StepFault>
 }
 
 /// Forgets the control values that the indexes of the first pairs under the top may name.
-fn forget_pairs(state: &mut State, count: u32) -> Result<(), StepFault>
+pub(crate) fn forget_pairs(state: &mut State, count: u32) -> Result<(), StepFault>
     ensures { OnOk result (ForgetsPairs count state.old state.new) }
 {
     for pair in 0..count {
@@ -116,23 +115,6 @@ pub(crate) fn pair_count(state: &State) -> Result<u32, Failed>
         },
         None => Err(unknown(Role::Count, 0)),
     }
-}
-
-/// Carries out DELTAC, whose line this is: the control values that it names may be any numbers
-/// then.
-///
-/// # Errors
-/// `Refused` where it may fault, or isn't known well enough; `OutOfMemory`.
-pub fn change_controls(
-    setting: &Setting<'_>,
-    state: &mut State,
-    line: &Row,
-) -> Result<(), StepFault>
-    ensures { OnOk result (ChangesWork (setting_of setting.now) line.now state.old state.new) }
-{
-    let count = pair_count(state)?;
-    forget_pairs(state, count)?;
-    execute_plain(setting, state, line)
 }
 
 /// Carries out WCVTP.

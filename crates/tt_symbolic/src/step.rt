@@ -1,106 +1,66 @@
 //! What an instruction makes of a symbolic state.
 
-ghost use Rattle.std.specs.Prelude.{◌≡◌, OnOk, Some, true, ℕ, reverse};
+ghost use Rattle.std.specs.Prelude.{◌≡◌, OnOk, reverse};
 ghost use Rattle.std.specs.Option.{option_to_list};
-ghost use Rattle.tt_code.specs.Cut.{code_of};
-ghost use Rattle.tt_setting.specs.Settings.{point_instruction};
+ghost use Rattle.tt_code.specs.Table.{Plain, effect_of};
 ghost use Rattle.tt_setting.specs.Settings.{setting_of};
-ghost use Rattle.tt_code.specs.declared.kinds.Refinement.TheVariants.{ChangesControls};
-ghost use Rattle.tt_code.specs.Table.{refinement_of};
 ghost use Rattle.tt_symbolic.specs.Representation.Leading.{IsAt, SameBody};
-ghost use Rattle.tt_symbolic.specs.Sound.{keeps_controls};
-ghost use Rattle.tt_symbolic.specs.Steps.{CarriesOut, Dispatches, StepsTo, always, refined_by};
+ghost use Rattle.tt_symbolic.specs.Representation.Plain.{line_of};
+ghost use Rattle.tt_symbolic.specs.Representation.Refined.{LineWorks};
+ghost use Rattle.tt_symbolic.specs.Steps.{Dispatches};
 
 use crate::compute::compute;
 use crate::control::execute_control;
-use crate::plain::execute_plain;
+use crate::plain::finish;
 use crate::refined::{
-    change_control, change_controls, compute_exact_of_one, compute_exact_of_two, read_control,
-    write_control,
+    change_control, compute_exact_of_one, compute_exact_of_two, forget_pairs, pair_count,
+    read_control, write_control,
 };
+use tt_code::kinds::Row;
 use tt_code::{Effect, Frame, Instr, Reason, Refinement, entry, refinement};
 use tt_setting::{Point, Setting, StepFault};
-use tt_symbolic_cells::{Exact, push_data, shuffle, too_deep};
+use tt_symbolic_cells::{Exact, push_data, shuffle, take_operands, test_uses};
 use tt_symbolic_state::state::State;
 
-/// Carries out an instruction that goes on at the next one, by its effect.
-fn execute_ordinary(
+/// Carries out the plain line of this code. Where the machine with control values says more of the
+/// instruction, a function of its kind does so; DELTAC first forgets the control values that it
+/// names.
+fn execute_line(
     setting: &Setting<'_>,
     state: &mut State,
-    instr: &Instr<'_>,
+    code: u8,
+    line: &Row,
 ) -> Result<(), StepFault>
+    requires { effect_of code ≡ Plain (line_of line.now) }
     ensures { OnOk result
-        (CarriesOut (setting_of setting.now) (always keeps_controls) instr.now state.old
-        state.new) }
+        (LineWorks (setting_of setting.now) code line.now state.old state.new) }
 {
-    match entry(instr.code()) {
-        Effect::Plain(line) => execute_plain(setting, state, line),
-        Effect::Push(push) => {
-            push_data(&mut state.stack, *push, instr.data())?;
-            Ok(())
+    match refinement(code) {
+        Refinement::Ordinary => {}
+        Refinement::ChangesControls => {
+            let count = pair_count(state)?;
+            forget_pairs(state, count)?;
         }
-        Effect::Stack(operation) => {
-            shuffle(&mut state.stack, state.ranges.as_slice(), *operation)
-        }
-        Effect::Arithmetic(operation) => compute(state, *operation),
-        _ => Err(StepFault::from(Reason::Opcode)),
+        Refinement::ReadsControl => return read_control(setting, state),
+        Refinement::WritesControl => return write_control(setting, state),
+        Refinement::ChangesControl => return change_control(setting, state),
+        Refinement::Greatest => return compute_exact_of_two(setting, state, Exact::Greatest),
+        Refinement::Least => return compute_exact_of_two(setting, state, Exact::Least),
+        Refinement::Product => return compute_exact_of_two(setting, state, Exact::Product),
+        Refinement::Quotient => return compute_exact_of_two(setting, state, Exact::Quotient),
+        Refinement::Floor => return compute_exact_of_one(setting, state, Exact::Floor),
+        Refinement::Ceiling => return compute_exact_of_one(setting, state, Exact::Ceiling),
     }
+    let graphics = &state.graphics;
+    let ranges = state.ranges.as_slice();
+    let count = take_operands(setting, graphics, ranges, &state.stack, line.operands)?;
+    test_uses(setting, graphics, ranges, line.uses)?;
+    finish(state, count, line.updates, line.pushes)
 }
 
-/// Carries out DELTAC1, DELTAC2 or DELTAC3.
-fn execute_delta(
-    setting: &Setting<'_>,
-    state: &mut State,
-    instr: &Instr<'_>,
-) -> Result<(), StepFault>
-    requires { (c : ℕ) → code_of instr.now ≡ Some c → refinement_of c ≡ ChangesControls }
-    ensures { OnOk result
-        (CarriesOut (setting_of setting.now) refined_by instr.now state.old state.new) }
-{
-    match entry(instr.code()) {
-        Effect::Plain(line) => change_controls(setting, state, line),
-        _ => Err(StepFault::from(Reason::Opcode)),
-    }
-}
-
-/// Carries out an instruction that goes on at the next one.
-fn execute_here(
-    setting: &Setting<'_>,
-    state: &mut State,
-    instr: &Instr<'_>,
-) -> Result<(), StepFault>
-    ensures { OnOk result
-        (CarriesOut (setting_of setting.now) refined_by instr.now state.old state.new) }
-{
-    match refinement(instr.code()) {
-        Refinement::Ordinary => execute_ordinary(setting, state, instr),
-        Refinement::ReadsControl => read_control(setting, state),
-        Refinement::WritesControl => write_control(setting, state),
-        Refinement::ChangesControl => change_control(setting, state),
-        Refinement::ChangesControls => execute_delta(setting, state, instr),
-        Refinement::Greatest => compute_exact_of_two(setting, state, Exact::Greatest),
-        Refinement::Least => compute_exact_of_two(setting, state, Exact::Least),
-        Refinement::Product => compute_exact_of_two(setting, state, Exact::Product),
-        Refinement::Quotient => compute_exact_of_two(setting, state, Exact::Quotient),
-        Refinement::Floor => compute_exact_of_one(setting, state, Exact::Floor),
-        Refinement::Ceiling => compute_exact_of_one(setting, state, Exact::Ceiling),
-    }
-}
-
-/// Carries out an instruction that goes on at the next one, and goes there.
-fn execute_on(setting: &Setting<'_>, state: &mut State, instr: &Instr<'_>) -> Result<(), StepFault>
-    ensures { OnOk result (Dispatches setting.now instr.now state.old state.new) }
-{
-    let Some(next) = state.offset.checked_add(instr.len()) else {
-        return Err(StepFault::from(Reason::Target));
-    };
-    execute_here(setting, state, instr)?;
-    state.offset = next;
-    Ok(())
-}
-
-/// Carries out an instruction at the state's point.
-fn dispatch(
+/// Carries out the instruction at the state's point. One that doesn't lead elsewhere goes on at the
+/// next one. Its caller tests the stack's depth.
+pub(crate) fn execute(
     setting: &Setting<'_>,
     point: &Point<'_>,
     state: &mut State,
@@ -109,9 +69,26 @@ fn dispatch(
     requires { IsAt point.now state.old }
     ensures { OnOk result (Dispatches setting.now instr.now state.old state.new) }
 {
-    match entry(instr.code()) {
-        Effect::Control(operation) => execute_control(setting, point, state, *operation),
-        _ => execute_on(setting, state, instr),
+    let code = instr.code();
+    let effect = entry(code);
+    if let Effect::Control(operation) = effect {
+        return execute_control(setting, point, state, *operation);
+    }
+    let Some(next) = state.offset.checked_add(instr.len()) else {
+        return Err(StepFault::from(Reason::Target));
+    };
+    state.offset = next;
+    match effect {
+        Effect::Plain(line) => execute_line(setting, state, code, line),
+        Effect::Push(push) => {
+            push_data(&mut state.stack, *push, instr.data())?;
+            Ok(())
+        }
+        Effect::Stack(operation) => {
+            shuffle(&mut state.stack, state.ranges.as_slice(), *operation)
+        }
+        Effect::Arithmetic(operation) => compute(state, *operation),
+        Effect::Control(_) | Effect::NoEntry => Err(StepFault::from(Reason::Opcode)),
     }
 }
 
@@ -128,53 +105,6 @@ pub(crate) fn innermost(state: &State) -> Option<Frame>
             count: 1,
         }),
     }
-}
-
-/// Carries out the instruction that starts at the state's point.
-pub(crate) fn perform(
-    setting: &Setting<'_>,
-    point: &Point<'_>,
-    state: &mut State,
-    instr: &Instr<'_>,
-) -> Result<(), StepFault>
-    requires place { IsAt point.now state.old }
-    requires there { point_instruction setting.now point.now ≡ Some instr.now }
-    ensures { OnOk result (StepsTo setting.now state.old state.new) }
-{
-    prove!(u32::from(instr.code()) < 256);
-    dispatch(setting, point, state, instr)?;
-    if state.stack.len() > usize::from(setting.limits.stack) {
-        return Err(StepFault::from(too_deep(&state.stack)));
-    }
-    Ok(())
-}
-
-/// Carries out the instruction at the state's point, if one starts there.
-fn step_at(setting: &Setting<'_>, point: &Point<'_>, state: &mut State) -> Result<(), StepFault>
-    requires { IsAt point.now state.old }
-    ensures { OnOk result (StepsTo setting.now state.old state.new) }
-{
-    match setting.instruction(point) {
-        Some(instr) => perform(setting, point, state, &instr),
-        None => Err(StepFault::from(Reason::Target)),
-    }
-}
-
-/// Carries out the instruction where the state is, if one of its body starts there. After a refusal
-/// the state's content is unspecified.
-///
-/// # Errors
-/// `Refused` where a machine that the state shows may fault, or where not enough is known, with the
-/// first test that fails; `OutOfMemory`.
-pub fn step(setting: &Setting<'_>, state: &mut State) -> Result<(), StepFault>
-    ensures { OnOk result (StepsTo setting.now state.old state.new) }
-{
-    let frame = innermost(state);
-    let point = Point {
-        frames: frame.as_slice(),
-        offset: state.offset,
-    };
-    step_at(setting, &point, state)
 }
 
 /// Returns the code of the instruction where the state is, if one starts there.

@@ -388,26 +388,6 @@ fn least(a: Cell, b: Cell, ranges: &[Range]) -> Answer
     }
 }
 
-/// Returns what FLOOR makes of a cell.
-fn floor(cell: Cell, ranges: &[Range]) -> Answer
-    ensures { AnswersExact exact.Floor cell cell ranges.now result }
-{
-    match fixed_floor(cell, ranges) {
-        Some(answer) => answer,
-        None => Answer::Within(FULL),
-    }
-}
-
-/// Returns what CEILING makes of a cell.
-fn ceiling(cell: Cell, ranges: &[Range]) -> Answer
-    ensures { AnswersExact exact.Ceiling cell cell ranges.now result }
-{
-    match fixed_ceiling(cell, ranges) {
-        Some(answer) => answer,
-        None => Answer::Within(FULL),
-    }
-}
-
 /// Returns what an instruction that takes two operands makes of them, which are numbers where their
 /// values are always the same.
 fn answer_of_simplified(operation: Exact, a: Cell, b: Cell, ranges: &[Range]) -> Answer
@@ -434,15 +414,14 @@ pub fn answer_of_two(operation: Exact, a: Cell, b: Cell, ranges: &[Range]) -> An
     )
 }
 
-/// Returns what an instruction that takes one operand makes of it, which is a number where its value
-/// is always the same.
-fn answer_of_simplified_one(operation: Exact, cell: Cell, ranges: &[Range]) -> Answer
-    ensures { AnswersExact operation cell cell ranges.now result }
+/// Returns what FLOOR or CEILING makes of a cell, where it is more than any number.
+fn fixed_of_one(operation: Exact, cell: Cell, ranges: &[Range]) -> Option<Answer>
+    ensures { IfSome result (AnswersExact operation cell cell ranges.now) }
 {
     match operation {
-        Exact::Floor => floor(cell, ranges),
-        Exact::Ceiling => ceiling(cell, ranges),
-        _ => Answer::Within(FULL),
+        Exact::Floor => fixed_floor(cell, ranges),
+        Exact::Ceiling => fixed_ceiling(cell, ranges),
+        _ => None,
     }
 }
 
@@ -450,5 +429,9 @@ fn answer_of_simplified_one(operation: Exact, cell: Cell, ranges: &[Range]) -> A
 pub fn answer_of_one(operation: Exact, cell: Cell, ranges: &[Range]) -> Answer
     ensures { AnswersExact operation cell cell ranges.now result }
 {
-    answer_of_simplified_one(operation, simplified(cell, ranges), ranges)
+    let simple = simplified(cell, ranges);
+    match fixed_of_one(operation, simple, ranges) {
+        Some(answer) => answer,
+        None => Answer::Within(FULL),
+    }
 }

@@ -1,8 +1,8 @@
 //! Taking operands. `taken` is how many cells are taken from the top already; a function that takes
 //! more returns how many are taken then.
 
-ghost use Rattle.std.specs.Prelude.{◌≡◌, ◌+◌, IfOk, OnOk, drop, Ok, true};
-ghost use Rattle.tt_code.specs.Operands.{count_of, is_zone, pair, pairs, take_one, take_operand, take_operands as take_all, test_uses as test_all, tested, times};
+ghost use Rattle.std.specs.Prelude.{◌≡◌, ◌+◌, ℤ, IfOk, OnOk, drop, Ok, true};
+ghost use Rattle.tt_code.specs.Operands.{count_of, is_point, is_zone, pair, pairs, take_one, take_operand, take_operands as take_all, test_uses as test_all, tested, times};
 ghost use Rattle.tt_code.specs.declared.reason.Reason.{Reason as AnyReason};
 ghost use Rattle.tt_code.specs.States.{is_below};
 ghost use Rattle.tt_setting.specs.Settings.{setting_of};
@@ -13,7 +13,7 @@ ghost use Rattle.tt_symbolic_cells.specs.Taking.{Leaves, Takes, below_bound};
 use crate::failures::{Named, failed_index, failed_use, too_few, unknown};
 use crate::zones::{cell_of, contours, pointer, points_in, points_within, reference, zone_within};
 use tt_code::Graphics;
-use tt_code::kinds::{Operand, Use};
+use tt_code::kinds::{Operand, Use, Within};
 use tt_setting::{Failed, Register, Role, Setting};
 use tt_symbolic_state::cell::{Cell, Range, bounds, number};
 use tt_symbolic_state::stack::Stack;
@@ -191,6 +191,15 @@ fn take_pairs(
     }
 }
 
+/// Returns how many points there are where a point is tested, and what it names.
+fn points(setting: &Setting<'_>, graphics: &Graphics<Cell, Zone>, within: Within) -> (u32, Named)
+    ensures { (v : Valuation) (z : ℤ) → is_below z result.0
+        ≡ is_point (setting_of setting.now) (graphics_of v graphics.now) within z }
+{
+    let named = Named::Point(zone_within(graphics, within));
+    (points_within(setting, graphics, within), named)
+}
+
 /// Takes what an operand describes.
 fn take(
     setting: &Setting<'_>,
@@ -207,53 +216,28 @@ fn take(
     match operand {
         Operand::Number => take_any(stack, taken),
         Operand::Point(within) => {
-            take_below(
-                ranges,
-                stack,
-                taken,
-                points_within(setting, graphics, within),
-                Named::Point(zone_within(graphics, within)),
-            )
+            let (bound, named) = points(setting, graphics, within);
+            take_below(ranges, stack, taken, bound, named)
         }
         Operand::Cvt => take_below(ranges, stack, taken, setting.cvt, Named::ControlValue),
         Operand::Storage => {
-            take_below(
-                ranges,
-                stack,
-                taken,
-                u32::from(setting.limits.storage),
-                Named::StorageCell,
-            )
+            let bound = u32::from(setting.limits.storage);
+            take_below(ranges, stack, taken, bound, Named::StorageCell)
         }
         Operand::Zone => take_zone(setting, ranges, stack, taken),
         Operand::Contour => {
-            take_below(
-                ranges,
-                stack,
-                taken,
-                contours(setting, graphics.zp2),
-                Named::Contour(cell_of(graphics.zp2)),
-            )
+            let bound = contours(setting, graphics.zp2);
+            let named = Named::Contour(cell_of(graphics.zp2));
+            take_below(ranges, stack, taken, bound, named)
         }
         Operand::LoopPoints(within) => {
             let n = loop_count(ranges, graphics.loop_number)?;
-            take_many(
-                ranges,
-                stack,
-                taken,
-                points_within(setting, graphics, within),
-                n,
-                Named::Point(zone_within(graphics, within)),
-            )
+            let (bound, named) = points(setting, graphics, within);
+            take_many(ranges, stack, taken, bound, n, named)
         }
         Operand::PointPairs(within) => {
-            take_pairs(
-                ranges,
-                stack,
-                taken,
-                points_within(setting, graphics, within),
-                Named::Point(zone_within(graphics, within)),
-            )
+            let (bound, named) = points(setting, graphics, within);
+            take_pairs(ranges, stack, taken, bound, named)
         }
         Operand::CvtPairs => take_pairs(ranges, stack, taken, setting.cvt, Named::ControlValue),
     }

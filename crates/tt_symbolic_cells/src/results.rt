@@ -316,41 +316,17 @@ fn range_of_one(operation: Arithmetic, cell: Cell, ranges: &[Range]) -> Answer
     }
 }
 
-/// Returns what an instruction makes of two operands, which are numbers where their values are
-/// always the same.
-fn result_of_simplified(operation: Arithmetic, a: Cell, b: Cell, ranges: &[Range]) -> Answer
-    requires { takes_only_one operation ≡ false }
-    ensures { AnswersResult operation a b ranges.now result }
-{
-    match exact_of_two(operation, a, b, ranges) {
-        Some(cell) => Answer::Exactly(cell),
-        None => range_of_two(operation, a, b, ranges),
-    }
-}
-
-/// Returns what an instruction makes of one operand, which is a number where its value is always the
-/// same.
-fn result_of_simplified_one(operation: Arithmetic, cell: Cell, ranges: &[Range]) -> Answer
-    requires { takes_only_one operation ≡ true }
-    ensures { AnswersResult operation cell cell ranges.now result }
-{
-    match exact_of_one(operation, cell, ranges) {
-        Some(cell) => Answer::Exactly(cell),
-        None => range_of_one(operation, cell, ranges),
-    }
-}
-
 /// Returns what an instruction makes of two operands.
 pub fn result_of_two(operation: Arithmetic, a: Cell, b: Cell, ranges: &[Range]) -> Answer
     requires { takes_only_one operation ≡ false }
     ensures { AnswersResult operation a b ranges.now result }
 {
-    result_of_simplified(
-        operation,
-        simplified(a, ranges),
-        simplified(b, ranges),
-        ranges,
-    )
+    let one = simplified(a, ranges);
+    let other = simplified(b, ranges);
+    match exact_of_two(operation, one, other, ranges) {
+        Some(cell) => Answer::Exactly(cell),
+        None => range_of_two(operation, one, other, ranges),
+    }
 }
 
 /// Returns what an instruction makes of one operand.
@@ -358,7 +334,11 @@ pub fn result_of_one(operation: Arithmetic, cell: Cell, ranges: &[Range]) -> Ans
     requires { takes_only_one operation ≡ true }
     ensures { AnswersResult operation cell cell ranges.now result }
 {
-    result_of_simplified_one(operation, simplified(cell, ranges), ranges)
+    let simple = simplified(cell, ranges);
+    match exact_of_one(operation, simple, ranges) {
+        Some(cell) => Answer::Exactly(cell),
+        None => range_of_one(operation, simple, ranges),
+    }
 }
 
 /// Whether the instruction takes the top only.

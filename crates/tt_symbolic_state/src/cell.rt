@@ -92,10 +92,7 @@ pub fn number(cell: Cell, ranges: &[Range]) -> Option<i32>
     if low != high {
         return None;
     }
-    match i32::try_from(low) {
-        Ok(number) => Some(number),
-        Err(_) => None,
-    }
+    i32::try_from(low).ok()
 }
 
 /// Returns the cell as a number, where its value is always the same, and otherwise as it is.

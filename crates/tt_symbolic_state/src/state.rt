@@ -7,7 +7,7 @@ ghost use Rattle.tt_symbolic_state.specs.declared.cell.Cell.{Cell as AnyCell};
 
 use crate::cell::{Cell, Range, symbol};
 use crate::stack::Stack;
-use std::alloc::{AllocError, Global};
+use std::alloc::AllocError;
 use tt_code::{Graphics, Reason};
 use tt_setting::{SortedMap, StepFault};
 

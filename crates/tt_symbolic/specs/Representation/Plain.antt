@@ -1,9 +1,8 @@
 -- What it means that a plain line was carried out on a symbolic state.
 use Rattle.std.specs.Prelude.{◌≡◌, ◌+◌, ℕ, ℤ, pos, negsuc, List, take, drop, length}
 use Rattle.tt_code.specs.Table.{Lists}
-use Rattle.tt_code.specs.Settings.{Setting}
 use Rattle.tt_code.specs.States.{Machine, Outcome, IsNumber, leaves}
-use Rattle.tt_code.specs.Changes.{all_updated, numbers, plain, values_pushed}
+use Rattle.tt_code.specs.Changes.{all_updated, numbers, values_pushed}
 use Rattle.tt_code.specs.Runs.{Choices, left_by}
 use Rattle.tt_code.specs.declared.kinds.Row.{Row}
 use Rattle.tt_code.specs.declared.kinds.Update.{Update}
@@ -14,7 +13,7 @@ use Rattle.tt_symbolic_state.specs.declared.cell.Range.{Range}
 use Rattle.tt_symbolic_state.specs.Values.{Fits, Valuation}
 use Rattle.tt_symbolic_state.specs.Shows.{IsFresh, Shows, values}
 use Rattle.tt_symbolic_state.specs.declared.state.State.{State}
-use Rattle.tt_symbolic.specs.Sound.{ShowsSome, Works, keeps_controls}
+use Rattle.tt_symbolic.specs.Sound.{ShowsSome}
 
 -- all numbers of the machine
 abbrev pub FULL : Range
@@ -62,10 +61,6 @@ line_of row = record {
   updates = row.updates.now;
   pushes = row.pushes.now;
 }
-
--- a plain line is carried out
-abbrev pub PlainWorks : Setting → Row → State → State → Type 0
-PlainWorks s line old new = Works (λ m. plain s m (line_of line)) keeps_controls old new
 
 -- a storage cell of which nothing was known is listed with a new symbol
 pub record ListsStored (index : ℕ) (old new : State) (cell : Cell) : Type 0 where

@@ -1,6 +1,6 @@
 -- The instructions of which the machine with control values says more, on a symbolic state.
-use Rattle.std.specs.Prelude.{[], ◌∷◌}
-use Rattle.tt_code.specs.Table.{Lists}
+use Rattle.std.specs.Prelude.{ℕ, [], ◌∷◌}
+use Rattle.tt_code.specs.Table.{Lists, refinement_of}
 use Rattle.tt_code.specs.Settings.{Setting}
 use Rattle.tt_code.specs.Changes.{plain}
 use Rattle.tt_code.specs.declared.kinds.Operand.TheVariants as operand
@@ -8,7 +8,7 @@ use Rattle.tt_code.specs.declared.kinds.Pushed.TheVariants as pushed
 use Rattle.tt_code.specs.declared.kinds.Row.{Row}
 use Rattle.tt_symbolic_state.specs.declared.state.State.{State}
 use Rattle.tt_code.specs.declared.kinds.Refinement.{Refinement}
-use Rattle.tt_code.specs.declared.kinds.Refinement.TheVariants.{ChangesControl, ChangesControls, ReadsControl, WritesControl}
+use Rattle.tt_code.specs.declared.kinds.Refinement.TheVariants.{ChangesControl, ReadsControl, WritesControl}
 use Rattle.tt_symbolic_state.specs.CvtMachine.{Refines}
 use Rattle.tt_code.specs.declared.kinds.Refinement.TheVariants as kinds
 use Rattle.tt_symbolic_cells.specs.declared.exact.Exact.{Exact}
@@ -89,7 +89,7 @@ WriteWorks s old new = Works (λ m. plain s m write_line) (refined WritesControl
 abbrev pub ChangeWorks : Setting → State → State → Type 0
 ChangeWorks s old new = Works (λ m. plain s m write_line) (refined ChangesControl) old new
 
--- DELTAC, whose line this is, is carried out
-abbrev pub ChangesWork : Setting → Row → State → State → Type 0
-ChangesWork s line old new =
-    Works (λ m. plain s m (line_of line)) (refined ChangesControls) old new
+-- the plain line of this code is carried out
+abbrev pub LineWorks : Setting → ℕ → Row → State → State → Type 0
+LineWorks s code line old new =
+    Works (λ m. plain s m (line_of line)) (refined (refinement_of code)) old new

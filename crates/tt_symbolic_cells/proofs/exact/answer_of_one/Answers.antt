@@ -1,5 +1,5 @@
 use Rattle.tt_symbolic_cells.proofs.Simplifying.{simplified_exact}
 use Rattle.tt_symbolic_cells.proofs.exact.answer_of_one.Goals as goal
 
-pub returns : goal.returns
-returns c = simplified_exact c.args.operation c.args.cell c.args.cell c.simplified.result c.simplified.result c.args.ranges.now c.answer_of_simplified_one.result c.simplified.ensures c.simplified.ensures c.answer_of_simplified_one.ensures
+pub returns-in-Some : goal.returns-in-Some
+returns-in-Some c = simplified_exact c.args.operation c.args.cell c.args.cell c.simplified-simple.result c.simplified-simple.result c.args.ranges.now c.in-Some.answer c.simplified-simple.ensures c.simplified-simple.ensures c.in-Some.ensures
