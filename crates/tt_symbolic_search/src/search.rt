@@ -218,7 +218,7 @@ impl Search {
         let learnt = self.apart.len();
         let mut trial = self.begin_trials(effort);
         for _ in 0..MOST_TRIALS {
-            let refusal = match self.walk(setting, kept, starts, &mut trial, None) {
+            let refusal = match self.walk(&*setting, kept, starts, &mut trial, None) {
                 Ok(ends) => {
                     self.widest = trial.effort.widest_compared;
                     return Ok(ends);
