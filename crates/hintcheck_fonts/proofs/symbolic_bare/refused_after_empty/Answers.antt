@@ -1,4 +1,4 @@
-use Rattle.std.proofs.Common.{[], sym}
+use Rattle.std.proofs.Common.{[]}
 use Rattle.std.proofs.lemmas.Result.{IfOk-weaker}
 use Rattle.hintcheck_programs.specs.FontPrograms.{font_of}
 use Rattle.hintcheck_fonts.proofs.SymbolicAnswers.{listed_alone, listed_one, one_alone, told_alone}

@@ -1,5 +1,5 @@
 use Rattle.std.proofs.Common.{[], List, subst, sym}
-use Rattle.tt_font.specs.Reading.{FontData, GlyphData}
+use Rattle.tt_font.specs.Reading.{FontData}
 use Rattle.hintcheck_programs.specs.FontPrograms.{font_of, glyph_subject}
 use Rattle.hintcheck_report.specs.declared.refused.Refused.{Refused}
 use Rattle.hintcheck_programs.specs.Representation.ProgramOrder.{IsAnswerBy, IsGlyphNext, IsJudgedBy, stage_of}
