@@ -78,41 +78,6 @@ fn upgrade_section<S: Source, W: Sink>(
     Ok(())
 }
 
-/// Reads the sections of this many programs with this decoder, and writes each again with this
-/// encoder before the next one is read.
-fn upgrade_each<S: Source, W: Sink>(
-    alloc: Global,
-    decoder: &mut Decoder,
-    encoder: &mut Encoder,
-    count: u32,
-    source: &mut S,
-    progress: &mut Progress,
-    sink: &mut W,
-) -> Result<(), UpgradeFault>
-    requires { count ≤ 65537 }
-    ensures sections { IsTold (S.remaining source.old) → ComesTo result
-        (λ _. IsTold (S.remaining source.new) × AreUpgraded progress.old.form 0 count
-        (input_from progress.old (S.remaining source.old))
-        (input_from progress.new (S.remaining source.new))
-        (W.contents sink.old) (W.contents sink.new))
-        (LackSection progress.old.form 0 count
-        (input_from progress.old (S.remaining source.old))) }
-    ensures begun { IsTold (S.remaining source.old) → OnErr result
-        (AreBegun progress.old.form 0 count (input_from progress.old (S.remaining source.old))
-        (W.contents sink.old) (W.contents sink.new)) }
-    ensures beginning { ConsumesBeginning (S.remaining source.old) (S.remaining source.new) }
-    ensures stopped { IfErr result (HasReadOld (S.remaining source.old) (S.remaining source.new)
-        (λ front. LackSection progress.old.form 0 count (input_from progress.old (Some front))
-        (place_after progress.old.place (length front)))) }
-    ensures reads { CountsReads result (S.failures source.old) (S.failures source.new) }
-    ensures writes { CountsWrites result (W.failures sink.old) (W.failures sink.new) }
-{
-    for number in 0..count {
-        upgrade_section(alloc, decoder, encoder, number, source, progress, sink)?;
-    }
-    Ok(())
-}
-
 /// Reads the sections of this many programs and writes each again before the next one is read.
 fn upgrade_sections<S: Source, W: Sink>(
     alloc: Global,
@@ -141,15 +106,18 @@ fn upgrade_sections<S: Source, W: Sink>(
 {
     let mut decoder = Decoder::new();
     let mut encoder = Encoder::new(alloc);
-    upgrade_each(
-        alloc,
-        &mut decoder,
-        &mut encoder,
-        count,
-        source,
-        progress,
-        sink,
-    )
+    for number in 0..count {
+        upgrade_section(
+            alloc,
+            &mut decoder,
+            &mut encoder,
+            number,
+            source,
+            progress,
+            sink,
+        )?;
+    }
+    Ok(())
 }
 
 /// Reads a certificate of any form, which is all that is left in the source, and writes one of the

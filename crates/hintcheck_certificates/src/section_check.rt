@@ -69,6 +69,8 @@ impl<'c> Judge for SectionCheck<'c> {
 
     ghost Keeps = { λ j k. k ≡ j };
 
+    ghost KeepsForGlyphs = { λ j k. Unit {0} };
+
     fn judge(
         &mut self,
         alloc: Global,
@@ -95,4 +97,6 @@ impl<'c> Judge for SectionCheck<'c> {
     }
 
     ghost keeps_itself = { λ j. refl };
+
+    ghost keeps_itself_for_glyphs = { λ j. tt };
 }

@@ -3,18 +3,16 @@
 ghost use Rattle.std.specs.Prelude.{◌≡◌, ℕ, IfOk};
 ghost use Rattle.tt_setting.specs.Budgets.{EndTellsBudget, Spends};
 ghost use Rattle.tt_font.specs.FileFaults.{font_fault};
-ghost use Rattle.tt_font.specs.Reading.{FontData, Reads};
 ghost use Rattle.hintcheck_programs.specs.BudgetAnswers.{VerdictTellsBudget, VerdictTellsFontFault};
-ghost use Rattle.hintcheck_programs.specs.FontPrograms.{IsFontInRange, judgement_on};
+ghost use Rattle.hintcheck_programs.specs.FontPrograms.{judgement_on};
 ghost use Rattle.hintcheck_fonts.specs.Requests.{GivesVerdict, IsVerdictAsked};
-ghost use Rattle.hintcheck_fonts.specs.SymbolicVerdicts.{IsSymbolicVerdict};
 
 use crate::symbolic_check::SymbolicCheck;
-use crate::symbolic_verdict;
+use crate::symbolic_verdict::{refused_programs, verdict_symbolic_within};
 use hintcheck_programs::font;
 use hintcheck_programs::report::{Refused, Verdict};
 use hintcheck_report::AnswerFault;
-use std::alloc::{AllocError, Global};
+use std::alloc::Global;
 use tt_abs::Exhausted;
 use tt_family::Budget;
 use tt_font::Font;
@@ -31,24 +29,6 @@ pub enum Request {
         /// How many steps the search makes at most for a font.
         steps: u64,
     },
-}
-
-/// Judges the programs of a font by symbolic states, with so many steps at most: returns the
-/// refused ones, in their order.
-///
-/// # Errors
-/// If memory runs out.
-fn refused_by_symbols(
-    alloc: Global,
-    font: &Font<'_>,
-    steps: u64,
-) -> Result<Vec<Refused>, AllocError>
-    requires { IsFontInRange font.now }
-    ensures { IfOk result (λ refused. IsSymbolicVerdict font.now
-        (judgement_on font.now refused.items)) }
-{
-    let mut judge = SymbolicCheck::new(alloc, steps);
-    symbolic_verdict::refused_programs(alloc, font, &mut judge)
 }
 
 /// Judges the programs of a font as is asked: returns the refused ones, in their order.
@@ -70,32 +50,11 @@ pub fn refused_by(
     font.range_facts();
     match request {
         Request::Strict => font::refused_programs(alloc, font, points),
-        Request::Symbolic { steps } => match refused_by_symbols(alloc, font, steps) {
-            Ok(refused) => Ok(refused),
-            Err(_) => Err(Exhausted::Memory),
-        },
+        Request::Symbolic { steps } => {
+            let mut judge = SymbolicCheck::new(alloc, steps);
+            Ok(refused_programs(alloc, font, &mut judge)?)
+        }
     }
-}
-
-/// Returns the verdict by symbolic states on the programs of a font file, where the budget isn't
-/// exceeded yet, of which nothing is spent.
-///
-/// # Errors
-/// As `verdict_by`.
-fn verdict_by_symbols(
-    alloc: Global,
-    font: &[u8],
-    steps: u64,
-    points: &Budget,
-) -> Result<Verdict, AnswerFault>
-    ensures given { IfOk result (λ v. (d : FontData) × Reads font.now d × IsSymbolicVerdict d v) }
-    ensures faults { VerdictTellsFontFault (font_fault font.now) result }
-    ensures budget { VerdictTellsBudget points.now result }
-{
-    if points.is_exceeded() {
-        return Err(AnswerFault::Exhausted(Exhausted::Budget));
-    }
-    Ok(symbolic_verdict::verdict_symbolic_within(alloc, font, steps)?)
 }
 
 /// Returns the verdict on the programs of a font file by the profile that is asked for: as
@@ -118,6 +77,11 @@ pub fn verdict_by(
 {
     match request {
         Request::Strict => font::verdict_within(alloc, font, points),
-        Request::Symbolic { steps } => verdict_by_symbols(alloc, font, steps, points),
+        Request::Symbolic { steps } => {
+            if points.is_exceeded() {
+                return Err(AnswerFault::Exhausted(Exhausted::Budget));
+            }
+            Ok(verdict_symbolic_within(alloc, font, steps)?)
+        }
     }
 }

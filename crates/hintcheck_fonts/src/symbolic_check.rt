@@ -1,15 +1,12 @@
 //! The judge that searches and checks a program by symbolic states.
 
-ghost use Rattle.std.specs.Prelude.{◌≡◌, [], IfErr, IsTrue, OnOk, Some, refl};
+ghost use Rattle.std.specs.Prelude.{◌≡◌, [], IfErr, OnOk, refl};
 ghost use Rattle.tt_setting.specs.Entries.{Ascends};
-ghost use Rattle.tt_setting.specs.Refusals.{IsOfNoBudget, told_reason};
-ghost use Rattle.tt_setting.specs.Settings.{setting_of};
 ghost use Rattle.hintcheck_fonts.specs.SymbolicEnds.{StartGlyphs};
 ghost use Rattle.hintcheck_programs.specs.FontPrograms.{font_of};
 ghost use Rattle.hintcheck_programs.specs.ProgramVerdicts.{with_start};
-ghost use Rattle.hintcheck_fonts.specs.SymbolicRefusals.{IsSymbolicAnswer, IsSymbolicRefusal, IsToldInTurn};
-ghost use Rattle.hintcheck_programs.specs.Representation.FontVerdicts.{ComesToEnd};
-ghost use Rattle.hintcheck_fonts.specs.Representation.SymbolicChecks.{AreBegun, IsCheckedBy, IsEnded, IsEndedBy, IsRunnable};
+ghost use Rattle.hintcheck_fonts.specs.SymbolicRefusals.{IsSymbolicRefusal, IsToldInTurn};
+ghost use Rattle.hintcheck_fonts.specs.Representation.SymbolicChecks.{AreBegun, IsCheckedBy, IsEndedBy};
 
 use crate::ends::{Ends, check_to_end};
 use crate::glyph_starts::{GlyphStarts, check_glyph, starts_after};
@@ -17,9 +14,7 @@ use hintcheck_programs::judge::Judge;
 use hintcheck_programs::program::empty_program;
 use hintcheck_programs::report::Name;
 use std::alloc::{AllocError, Global};
-use std::mem;
 use tt_abs::{Kind, Refusal, Setting};
-use tt_code::Reason;
 use tt_family::Budget;
 use tt_font::Font;
 use tt_symbolic_search::{Effort, Insight, Question, Search, USUAL_SEARCH};
@@ -34,8 +29,6 @@ pub struct SymbolicCheck {
     ends: Ends,
     /// With what glyph programs start.
     starts: GlyphStarts,
-    /// Whether a glyph program may write what these starts list.
-    may_write_kept: bool,
     /// The program that is to be explained, and what is asked about it; nothing where no answer is.
     explained: Option<(Name, Question)>,
 }
@@ -48,22 +41,11 @@ impl Drop for SymbolicCheck {
             most_steps: _,
             ends,
             starts,
-            may_write_kept: _,
             explained: _,
         } = self;
         drop(search);
         drop(ends);
         drop(starts);
-    }
-}
-
-/// Returns how much may be done for the next program, where so many steps may be made for all
-/// programs together.
-fn effort_left(search: &Search, most_steps: u64) -> Effort {
-    let left = most_steps.saturating_sub(search.steps());
-    Effort {
-        steps: USUAL_SEARCH.steps.min(left),
-        ..USUAL_SEARCH
     }
 }
 
@@ -84,7 +66,6 @@ impl SymbolicCheck {
             most_steps,
             ends: Ends::none(alloc),
             starts: GlyphStarts::none(alloc),
-            may_write_kept: false,
             explained: None,
         }
     }
@@ -99,68 +80,38 @@ impl SymbolicCheck {
         self.search.take_insight()
     }
 
-    /// Takes what is known where the program ends that was accepted last.
-    pub(crate) fn take_ends(&mut self, alloc: Global) -> Ends
-        ensures { result ≡ self.old.ends }
-    {
-        mem::replace(&mut self.ends, Ends::none(alloc))
+    /// Returns how much may be done for the next program.
+    fn effort_left(&self) -> Effort {
+        let left = self.most_steps.saturating_sub(self.search.steps());
+        Effort {
+            steps: USUAL_SEARCH.steps.min(left),
+            ..USUAL_SEARCH
+        }
     }
 
-    /// Makes the starts of glyph programs after these ends of the CVT program, without the memory
+    /// Makes the starts of glyph programs after the ends of the CVT program, without the memory
     /// entries that glyph programs were found to write.
     ///
     /// # Errors
     /// If memory runs out.
-    pub(crate) fn start_glyphs(&mut self, alloc: Global, ends: &Ends) -> Result<(), AllocError>
-        ensures { OnOk result (StartGlyphs ends.now self.new.starts) }
+    pub(crate) fn start_glyphs(&mut self, alloc: Global) -> Result<(), AllocError>
+        ensures starts { OnOk result (StartGlyphs self.new.ends self.new.starts) }
+        ensures ends { self.new.ends ≡ self.old.ends }
+        ensures bound { self.new.most_steps ≡ self.old.most_steps }
     {
-        self.starts = starts_after(alloc, &mut self.search, ends)?;
-        self.may_write_kept = false;
+        self.starts = starts_after(alloc, &mut self.search, &self.ends)?;
         Ok(())
-    }
-
-    /// Whether a glyph program was refused from the present starts because it may write what they
-    /// list.
-    pub(crate) fn may_write_kept(&self) -> bool {
-        self.may_write_kept
-    }
-
-    /// Searches and checks the program of this setting, which starts with these functions if it is no
-    /// glyph's.
-    fn check(
-        &mut self,
-        alloc: Global,
-        setting: &Setting<'_>,
-        functions: &[(u16, u32)],
-    ) -> Result<(), Refusal>
-        requires { Ascends functions.now }
-        ensures ended { OnOk result (ComesToEnd (setting_of setting.now).kind
-            → IsEnded (setting_of setting.now) functions.now self.new.ends) }
-        ensures runnable { OnOk result ((ComesToEnd (setting_of setting.now).kind → ⊥)
-            → IsRunnable (setting_of setting.now) self.new.starts) }
-        ensures starts { self.new.starts ≡ self.old.starts }
-        ensures answer { IfErr result (IsSymbolicAnswer setting.now functions.now) }
-        ensures within { IfErr result IsOfNoBudget }
-    {
-        let effort = effort_left(&self.search, self.most_steps);
-        let search = &mut self.search;
-        match setting.kind {
-            Kind::Font | Kind::Cvt => {
-                self.ends = check_to_end(alloc, search, effort, setting, functions)?;
-                Ok(())
-            }
-            Kind::Glyph { .. } => check_glyph(search, effort, setting, &self.starts),
-        }
     }
 
     /// Judges the font program and the CVT program of a font in which both are empty, and makes the
     /// starts of its glyph programs.
     ///
     /// # Errors
-    /// Those of `check`.
+    /// Those of `check_to_end`.
     #[tactic(auto, using(crate::proofs::SymbolicAnswers::answer_in_turn, crate::proofs::SymbolicAnswers::memory_in_turn))]
     pub(crate) fn pass_empty(&mut self, alloc: Global, font: &Font<'_>) -> Result<(), Refusal>
-        ensures begun { OnOk result (AreBegun (font_of font.now [] []) self.new.starts) }
+        ensures begun { OnOk result
+            (AreBegun (font_of font.now [] []) self.new.ends self.new.starts) }
         ensures told { IfErr result IsToldInTurn }
     {
         let empty = empty_program(alloc)?;
@@ -177,28 +128,13 @@ impl SymbolicCheck {
             kind: Kind::Cvt,
             ..for_font
         };
-        self.check(alloc, &for_font, &[])?;
-        let first = self.take_ends(alloc);
-        self.check(alloc, &for_cvt, first.functions.as_slice())?;
-        let second = self.take_ends(alloc);
-        self.start_glyphs(alloc, &second)?;
+        let effort = self.effort_left();
+        let first = check_to_end(alloc, &mut self.search, effort, &for_font, &[])?;
+        let left = self.effort_left();
+        let functions = first.functions.as_slice();
+        self.ends = check_to_end(alloc, &mut self.search, left, &for_cvt, functions)?;
+        self.start_glyphs(alloc)?;
         Ok(())
-    }
-
-    /// Hands on the answer for a program, and notes where it is refused because it may write what the
-    /// starts list.
-    fn note(&mut self, answer: Result<(), Refusal>) -> Result<(), Refusal>
-        ensures answer { result ≡ answer }
-        ensures noted { IfErr answer (λ refusal. told_reason refusal ≡ Some Reason.KeptEntry
-            → IsTrue self.new.may_write_kept) }
-        ensures rest { self.new ≡ record self.old { may_write_kept = self.new.may_write_kept } }
-    {
-        if let Err(refusal) = &answer {
-            if refusal.reason() == Some(Reason::KeptEntry) {
-                self.may_write_kept = true;
-            }
-        }
-        answer
     }
 }
 
@@ -213,7 +149,9 @@ impl Judge for SymbolicCheck {
 
     ghost Refuses = { λ j x start r. IsSymbolicRefusal (with_start x start) r };
 
-    ghost Keeps = { λ j k. k.starts ≡ j.starts };
+    ghost Keeps = { λ j k. k.most_steps ≡ j.most_steps };
+
+    ghost KeepsForGlyphs = { λ j k. (k.ends ≡ j.ends) × (k.starts ≡ j.starts) };
 
     fn judge(
         &mut self,
@@ -224,8 +162,20 @@ impl Judge for SymbolicCheck {
         _budget: &mut Budget,
     ) -> Result<(), Refusal> {
         self.search.ask(question_on(self.explained, program));
-        let answer = self.check(alloc, setting, start);
-        self.note(answer)
+        let effort = self.effort_left();
+        let search = &mut self.search;
+        match setting.kind {
+            Kind::Font => {
+                self.ends = check_to_end(alloc, search, effort, setting, start)?;
+                Ok(())
+            }
+            Kind::Cvt => {
+                self.ends = check_to_end(alloc, search, effort, setting, start)?;
+                self.start_glyphs(alloc)?;
+                Ok(())
+            }
+            Kind::Glyph { .. } => check_glyph(search, effort, setting, &self.starts),
+        }
     }
 
     fn uncut_facts(&self) {}
@@ -240,4 +190,6 @@ impl Judge for SymbolicCheck {
     }
 
     ghost keeps_itself = { λ j. refl };
+
+    ghost keeps_itself_for_glyphs = { λ j. (refl, refl) };
 }

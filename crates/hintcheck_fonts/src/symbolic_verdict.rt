@@ -1,24 +1,19 @@
 //! The verdict on a font by symbolic states.
 
-ghost use Rattle.std.specs.Prelude.{◌≡◌, ◌∷◌, [], IfOk, IfSome, None, OnOk};
-ghost use Rattle.tt_setting.specs.Entries.{Ascends};
-ghost use Rattle.tt_setting.specs.declared.name.Name.TheVariants as name;
+ghost use Rattle.std.specs.Prelude.{◌≡◌, IfOk, true};
 ghost use Rattle.tt_font.specs.Conditions.{TestsWithMemory};
 ghost use Rattle.tt_font.specs.FileFaults.{font_fault};
 ghost use Rattle.tt_font.specs.Reading.{FontData, Reads};
-ghost use Rattle.hintcheck_fonts.specs.SymbolicEnds.{StartGlyphs};
 ghost use Rattle.hintcheck_programs.specs.FontPrograms.{IsFontInRange, judgement_on};
-ghost use Rattle.hintcheck_programs.specs.Representation.ProgramOrder.{CanGoOn, skipped_to, stage_of};
-ghost use Rattle.hintcheck_fonts.specs.Representation.SymbolicChecks.{AnswersBySymbols, IsAfterCvt, TellsRefused};
-ghost use Rattle.hintcheck_programs.specs.Stages.{at_start};
+ghost use Rattle.hintcheck_fonts.specs.Representation.SymbolicChecks.{MayWriteKept};
 ghost use Rattle.hintcheck_fonts.specs.SymbolicVerdicts.{IsSymbolicVerdict};
 
-use crate::ends::Ends;
 use crate::symbolic_check::SymbolicCheck;
 use hintcheck_programs::font::{list_outcome, read_font};
-use hintcheck_programs::programs::{FontPrograms, Programs};
+use hintcheck_programs::programs::Programs;
 use hintcheck_programs::report::{Name, Outcome, Refused, Verdict};
 use std::alloc::{AllocError, Global};
+use tt_code::Reason;
 use tt_family::Budget;
 use tt_font::{Font, FontFault};
 
@@ -29,115 +24,19 @@ const MOST_TAKEN_UP_AGAIN: u32 = 40;
 /// How many steps the search of a font usually makes at most, for all its programs together.
 pub const USUAL_STEPS: u64 = 1_000_000_000;
 
-/// Judges the next program and goes on to the one after it: returns the program's outcome, or none
-/// where no program is left. A search by steps makes no points, so that only memory ends it.
-fn judge_next(
-    alloc: Global,
-    programs: &mut FontPrograms<'_>,
-    judge: &mut SymbolicCheck,
-) -> Result<Option<Outcome>, AllocError>
-    requires range { IsFontInRange programs.old.font.now }
-    requires start { CanGoOn (λ functions. Ascends functions) (stage_of programs.old) }
-    ensures answer { IfOk result (λ answer. AnswersBySymbols programs.old.font.now judge.new
-        (stage_of programs.old) answer (stage_of programs.new)) }
-    ensures start { CanGoOn (λ functions. Ascends functions) (stage_of programs.new) }
-    ensures font { programs.new.font ≡ programs.old.font }
-    ensures keeps { judge.new.starts ≡ judge.old.starts }
+/// Whether it is a glyph program that may write what glyph programs start with.
+fn may_write_kept(outcome: Outcome) -> bool
+    ensures { result ≡ true → MayWriteKept outcome.program outcome.refused }
 {
-    match programs.judge_next(alloc, judge, &mut Budget::unlimited()) {
-        Ok(outcome) => Ok(outcome),
-        Err(_) => Err(AllocError),
+    match (outcome.program, outcome.refused) {
+        (Name::Glyph(_), Some(refused)) => matches!(refused.reason, Reason::KeptEntry),
+        _ => false,
     }
-}
-
-/// Judges the next program. Returns what is reported of it, if it is refused.
-fn refused_next(
-    alloc: Global,
-    programs: &mut FontPrograms<'_>,
-    judge: &mut SymbolicCheck,
-) -> Result<Option<Refused>, AllocError>
-    requires range { IsFontInRange programs.old.font.now }
-    requires start { CanGoOn (λ functions. Ascends functions) (stage_of programs.old) }
-    ensures answer { IfOk result (λ refused. TellsRefused programs.old.font.now judge.new
-        (stage_of programs.old) refused (stage_of programs.new)) }
-    ensures start { CanGoOn (λ functions. Ascends functions) (stage_of programs.new) }
-    ensures font { programs.new.font ≡ programs.old.font }
-{
-    match judge_next(alloc, programs, judge)? {
-        Some(outcome) => Ok(outcome.refused),
-        None => Ok(None),
-    }
-}
-
-/// Judges the font program and the CVT program. Returns what is reported of the first refused one.
-fn refused_before_glyphs(
-    alloc: Global,
-    programs: &mut FontPrograms<'_>,
-    judge: &mut SymbolicCheck,
-) -> Result<Option<Refused>, AllocError>
-    requires range { IsFontInRange programs.old.font.now }
-    requires start { stage_of programs.old ≡ at_start }
-    ensures none { IfOk result (λ refused. refused ≡ None
-        → IsAfterCvt programs.new.font.now judge.new.ends (stage_of programs.new)) }
-    ensures start { CanGoOn (λ functions. Ascends functions) (stage_of programs.new) }
-    ensures some { IfOk result (λ refused. IfSome refused (λ r.
-        IsSymbolicVerdict programs.new.font.now (judgement_on programs.new.font.now (r ∷ [])))) }
-    ensures font { programs.new.font ≡ programs.old.font }
-{
-    let refused = refused_next(alloc, programs, judge)?;
-    if refused.is_some() {
-        return Ok(refused);
-    }
-    refused_next(alloc, programs, judge)
-}
-
-/// Begins with the first glyph program, once more or for the first time, from starts after these
-/// ends of the CVT program.
-fn take_up(
-    alloc: Global,
-    programs: &mut FontPrograms<'_>,
-    judge: &mut SymbolicCheck,
-    ends: &Ends,
-) -> Result<(), AllocError>
-    ensures starts { OnOk result (StartGlyphs ends.now judge.new.starts) }
-    ensures stage { stage_of programs.new ≡ skipped_to (name.Glyph 0) (stage_of programs.old) }
-    ensures font { programs.new.font ≡ programs.old.font }
-{
-    programs.skip_to(Name::Glyph(0));
-    judge.start_glyphs(alloc, ends)
-}
-
-/// Judges the glyph programs, all of them from the same starts: where one may write what these list,
-/// they are taken up again from others. Returns the refused ones, in their order.
-fn refused_glyphs(
-    alloc: Global,
-    programs: &mut FontPrograms<'_>,
-    judge: &mut SymbolicCheck,
-) -> Result<Vec<Refused>, AllocError>
-    requires range { IsFontInRange programs.old.font.now }
-    requires start { CanGoOn (λ functions. Ascends functions) (stage_of programs.old) }
-    requires stage { IsAfterCvt programs.old.font.now judge.old.ends (stage_of programs.old) }
-    ensures { IfOk result (λ refused. IsSymbolicVerdict programs.old.font.now
-        (judgement_on programs.old.font.now refused.items)) }
-{
-    let ends = judge.take_ends(alloc);
-    take_up(alloc, programs, judge, &ends)?;
-    let mut again = 0;
-    let mut refused = Vec::new(alloc);
-    while let Some(outcome) = judge_next(alloc, programs, judge)? {
-        if judge.may_write_kept() && again < MOST_TAKEN_UP_AGAIN {
-            again += 1;
-            take_up(alloc, programs, judge, &ends)?;
-            refused.clear();
-            continue;
-        }
-        list_outcome(&mut refused, outcome)?;
-    }
-    Ok(refused)
 }
 
 /// Judges the programs of a font by symbolic states, one after the other: returns the refused ones,
-/// in their order.
+/// in their order. All glyph programs are judged from the same starts: where one may write what these
+/// list, they are taken up again from others.
 ///
 /// # Errors
 /// If memory runs out.
@@ -151,13 +50,23 @@ pub fn refused_programs(
         (judgement_on font.now refused.items)) }
 {
     let mut programs = Programs::new(font);
-    match refused_before_glyphs(alloc, &mut programs, judge)? {
-        Some(one) => {
-            let mut refused = Vec::new(alloc);
-            refused.push(one)?;
-            Ok(refused)
+    let mut again = 0;
+    let mut refused = Vec::new(alloc);
+    loop {
+        // A search by steps makes no points, so that only memory ends it.
+        let outcome = match programs.judge_next(alloc, judge, &mut Budget::unlimited()) {
+            Ok(Some(outcome)) => outcome,
+            Ok(None) => return Ok(refused),
+            Err(_) => return Err(AllocError),
+        };
+        if may_write_kept(outcome) && again < MOST_TAKEN_UP_AGAIN {
+            again += 1;
+            programs.skip_to(Name::Glyph(0));
+            judge.start_glyphs(alloc)?;
+            refused.clear();
+            continue;
         }
-        None => refused_glyphs(alloc, &mut programs, judge),
+        list_outcome(&mut refused, outcome)?;
     }
 }
 

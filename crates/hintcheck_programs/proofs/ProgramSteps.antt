@@ -8,6 +8,7 @@ use Rattle.tt_code.specs.Grammar.{IsStructured}
 use Rattle.tt_code.specs.Settings.{Kind as MachineKind}
 use Rattle.tt_setting.specs.Refusals.{reason_of}
 use Rattle.tt_setting.specs.Settings.{kind_of}
+use Rattle.tt_setting.specs.declared.setting.Kind.{Kind}
 use Rattle.tt_setting.specs.declared.setting.Setting.{Setting}
 use Rattle.tt_setting.specs.declared.refusal.Refusal.{Refusal}
 use Rattle.tt_setting.specs.declared.refusal.Refusal.TheVariants as fault
@@ -18,7 +19,7 @@ use Rattle.hintcheck_programs.specs.ProgramVerdicts.{IfRefused, IsProgramOf, IsU
 use Rattle.hintcheck_report.specs.Places.{reported_at}
 use Rattle.hintcheck_programs.specs.Programs.{IsCutInto, Subject}
 use Rattle.hintcheck_programs.specs.Representation.FontVerdicts.{ComesToEnd}
-use Rattle.hintcheck_programs.specs.Representation.ProgramOrder.{CanGoOn, IsAcceptedTo, IsAnswerBy, IsNext, IsOutcomeBy, IsSettingOf, TellsOutcome, cvt_done, cvt_stops, font_done, font_stops, glyph_done, glyph_stops, next_program, stage_after, start_at}
+use Rattle.hintcheck_programs.specs.Representation.ProgramOrder.{IsAcceptedTo, IsAnswerBy, IsGlyphNext, IsNext, IsOutcomeBy, IsSettingOf, TellsOutcome, cvt_done, cvt_stops, font_done, font_stops, glyph_done, glyph_stops, next_program, stage_after, start_at}
 use Rattle.hintcheck_programs.specs.Stages.{StageOf, accepted_as, after_font, at_glyph, at_start, over, refused_as}
 use Rattle.hintcheck_programs.specs.declared.programs.Ended.{Ended}
 use Rattle.hintcheck_programs.specs.declared.programs.Next.{Next}
@@ -60,6 +61,15 @@ uncut_next d stage x n f Refuses next (y, is_next, told) uncut refuses =
     go (fault.Refused spot offset failed) is = refuses (reported_at x.name spot offset (reason_of failed)) is
     go (fault.Exhausted e) is = tt
 
+-- a glyph program has no end to come to
+pub glyph_has_no_end : {K : Type 0} (d : FontData) (s : StageOf K) (n : Next) (kind : Kind) → IsGlyphNext s → IsNext d s n → kind ≡ n.kind → ComesToEnd (kind_of kind) → ⊥
+glyph_has_no_end d at_start n kind here is_next same comes = here
+glyph_has_no_end d (after_font f known) n kind here is_next same comes = here
+glyph_has_no_end d (at_glyph f p known id) n kind here (y, is_next, told) same comes =
+    let (g, there, one) = glyph_of (λ g. glyph_subject (font_of d f p) [] id g) (slice_get d.glyphs id) y is_next in
+    subst (λ (k : MachineKind). ComesToEnd k) (ap kind_of same ∙ sym (told.kind []) ∙ sym (ap (λ (z : Subject). (z.setting []).kind) one)) comes
+glyph_has_no_end d over n kind here is_next same comes = here
+
 -- a program that has no end to come to is a glyph's
 pub accepted_glyph : {K : Type 0} (d : FontData) (s : StageOf K) (x : Subject) (n : Next) (Accepts : List Instruction → Type 0) (Ends : List Instruction → List K → Type 0) (is : List Instruction)
     → next_program d s ≡ Some x → IsNext d s n → (ComesToEnd (kind_of n.kind) → ⊥) → Accepts is → IsAcceptedTo Accepts Ends s None
@@ -77,9 +87,7 @@ pub accepted_end : {K : Type 0} (d : FontData) (s : StageOf K) (x : Subject) (n 
     → next_program d s ≡ Some x → IsNext d s n → ComesToEnd (kind_of n.kind) → Ends e.program e.known.items → IsAcceptedTo Accepts Ends s (Some e)
 accepted_end d at_start x n Accepts Ends e next is_next comes ends = ends
 accepted_end d (after_font f known) x n Accepts Ends e next is_next comes ends = ends
-accepted_end d (at_glyph f p known id) x n Accepts Ends e next (y, is_next, told) comes ends =
-    let (g, there, same) = glyph_of (λ g. glyph_subject (font_of d f p) [] id g) (slice_get d.glyphs id) y is_next in
-    absurd (subst (λ (k : MachineKind). ComesToEnd k) (sym (told.kind []) ∙ sym (ap (λ (z : Subject). (z.setting []).kind) same)) comes)
+accepted_end d (at_glyph f p known id) x n Accepts Ends e next is_next comes ends = absurd (glyph_has_no_end d (at_glyph f p known id) n n.kind tt is_next refl comes)
 accepted_end d over x n Accepts Ends e next is_next comes ends = absurd cc
 
 module _ {K : Type 0} (d : FontData) (Accepts : Subject → List K → List Instruction → Type 0) (Ends : Subject → List K → List Instruction → List K → Type 0)
@@ -147,13 +155,6 @@ module _ {K : Type 0} (d : FontData) (Accepts : Subject → List K → List Inst
       let T : StageOf K → Type 0 = λ u. IsOutcomeBy d Accepts Ends Refuses s o u in
       let N : Name → Type 0 = λ called. TellsOutcome called f (Ok o) in
       subst T (sym is_t) (refused_next s x f o next is (subst N name tells))
-
--- what the next program may start with, where there is one
-pub can_start : {K : Type 0} (P : List K → Type 0) (d : FontData) (s : StageOf K) (x : Subject) → next_program d s ≡ Some x → CanGoOn P s → P (start_at s)
-can_start P d at_start x next can = can
-can_start P d (after_font f known) x next can = can
-can_start P d (at_glyph f p known id) x next can = can
-can_start P d over x next can = absurd cc
 
 -- this many calls answer at most
 unfoldable pub calls_left : {K : Type 0} → FontData → StageOf K → ℕ

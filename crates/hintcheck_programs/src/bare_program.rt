@@ -41,7 +41,7 @@ pub fn refused_glyph<J: Judge<Known = (u16, u32)>>(
         (J.Accepts judge.new (glyph_subject (font_of font.now [] []) [] 0 g) [])
         (J.Refuses judge.new (glyph_subject (font_of font.now [] []) [] 0 g) [])
         refused.items) }
-    ensures keeps { J.Keeps judge.old judge.new }
+    ensures keeps { J.KeepsForGlyphs judge.old judge.new }
     ensures spends { Spends budget.old budget.new }
     ensures budget { EndTellsBudget budget.old budget.new result }
 {

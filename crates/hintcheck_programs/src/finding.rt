@@ -85,6 +85,8 @@ impl Judge for Finding {
 
     ghost Keeps = { λ j k. k.search ≡ j.search };
 
+    ghost KeepsForGlyphs = { λ j k. Unit {0} };
+
     fn judge(
         &mut self,
         alloc: Global,
@@ -115,4 +117,6 @@ impl Judge for Finding {
     }
 
     ghost keeps_itself = { λ j. refl };
+
+    ghost keeps_itself_for_glyphs = { λ j. tt };
 }

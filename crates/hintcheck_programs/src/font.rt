@@ -7,14 +7,11 @@ ghost use Rattle.tt_font.specs.FileFaults.{font_fault};
 ghost use Rattle.tt_font.specs.Reading.{FontData, Reads};
 ghost use Rattle.hintcheck_programs.specs.BudgetAnswers.{VerdictTellsBudget, VerdictTellsFontFault};
 ghost use Rattle.hintcheck_programs.specs.FontPrograms.{IsFontInRange, IsSafeFont, IsVerdict, judgement_on};
-ghost use Rattle.hintcheck_programs.specs.Representation.FontVerdicts.{AreAllRefused};
-ghost use Rattle.hintcheck_programs.specs.Representation.ProgramOrder.{stage_of};
 ghost use Rattle.hintcheck_programs.specs.Representation.FontVerdicts.{ListsOutcome};
-ghost use Rattle.hintcheck_programs.specs.Stages.{at_start};
 
 use crate::finding::Finding;
 use crate::program::Search;
-use crate::programs::{FontPrograms, Programs};
+use crate::programs::Programs;
 use crate::report::{Outcome, Refused, Verdict};
 use hintcheck_report::AnswerFault;
 use std::alloc::{AllocError, Global};
@@ -30,27 +27,6 @@ pub fn list_outcome(refused: &mut Vec<Refused>, outcome: Outcome) -> Result<(), 
         refused.push(one)?;
     }
     Ok(())
-}
-
-/// Judges these programs with this judge, one after the other: returns the refused ones, in their
-/// order.
-fn refused_by<'a>(
-    alloc: Global,
-    programs: &mut FontPrograms<'a>,
-    judge: &mut Finding,
-    budget: &mut Budget,
-) -> Result<Vec<Refused>, Exhausted>
-    requires range { IsFontInRange programs.old.font.now }
-    requires start { stage_of programs.old ≡ at_start }
-    ensures refused { IfOk result (λ refused. AreAllRefused programs.old.font.now refused.items) }
-    ensures spends { Spends budget.old budget.new }
-    ensures budget { EndTellsBudget budget.old budget.new result }
-{
-    let mut refused = Vec::new(alloc);
-    while let Some(outcome) = programs.judge_next(alloc, judge, budget)? {
-        list_outcome(&mut refused, outcome)?;
-    }
-    Ok(refused)
 }
 
 /// Judges the programs of a font, one after the other, each in the memory of those before: returns
@@ -72,7 +48,11 @@ pub fn refused_programs(
 {
     let mut programs = Programs::new(font);
     let mut judge = Finding::new(alloc, Search::Verdict);
-    refused_by(alloc, &mut programs, &mut judge, budget)
+    let mut refused = Vec::new(alloc);
+    while let Some(outcome) = programs.judge_next(alloc, &mut judge, budget)? {
+        list_outcome(&mut refused, outcome)?;
+    }
+    Ok(refused)
 }
 
 /// Reads a font. Each of its programs has fewer than 2^31 bytes, and the greatest depth of its

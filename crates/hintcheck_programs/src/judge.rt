@@ -35,6 +35,9 @@ pub trait Judge {
     /// What stays of a judge while it decides on programs.
     ghost Keeps: { Self → Self → Type 0 };
 
+    /// What stays of it besides while it decides on a glyph program.
+    ghost KeepsForGlyphs: { Self → Self → Type 0 };
+
     /// Decides on the program of this name and setting, which starts with what is known where the one
     /// before it ends.
     ///
@@ -54,6 +57,8 @@ pub trait Judge {
         ensures refused { (x : Subject) → IsProgramOf x setting.now
             → IfErr result (λ fault. IfRefused x.name fault (Refuses self.new x start.now)) }
         ensures keeps { Keeps self.old self.new }
+        ensures keeps_for_glyphs { (ComesToEnd (setting_of setting.now).kind → ⊥)
+            → KeepsForGlyphs self.old self.new }
         ensures spends { Spends budget.old budget.new }
         ensures budget { TellsBudget budget.old budget.new result };
 
@@ -82,4 +87,7 @@ pub trait Judge {
 
     /// A judge that decides on nothing stays as it is.
     ghost keeps_itself: { (j : Self) → Keeps j j };
+
+    /// So does one that decides on no glyph program.
+    ghost keeps_itself_for_glyphs: { (j : Self) → KeepsForGlyphs j j };
 }

@@ -2,14 +2,12 @@
 //! Each starts with what is known where the one before it ends, a glyph program with what is known
 //! where the CVT program ends.
 
-ghost use Rattle.std.specs.Prelude.{◌≡◌, ◌↔◌, [], IfErr, IfOk, IfSome, IsTrue, None, Some, false, true};
+ghost use Rattle.std.specs.Prelude.{◌≡◌, ◌↔◌, [], IfErr, IfOk, IfSome, IsTrue, None, OnErr, OnOk, Some, false, true};
 ghost use Rattle.tt_setting.specs.Settings.{kind_of};
-ghost use Rattle.tt_setting.specs.Budgets.{EndTellsBudget, Spends, TellsBudget};
+ghost use Rattle.tt_setting.specs.Budgets.{EndTellsBudget, Spends};
 ghost use Rattle.hintcheck_programs.specs.FontPrograms.{IsFontInRange};
-ghost use Rattle.hintcheck_programs.specs.ProgramVerdicts.{IfRefused};
-ghost use Rattle.hintcheck_programs.specs.Programs.{Subject};
 ghost use Rattle.hintcheck_programs.specs.Representation.FontVerdicts.{ComesToEnd};
-ghost use Rattle.hintcheck_programs.specs.Representation.ProgramOrder.{CanGoOn, IsAcceptedTo, IsAnswerBy, IsGlyphNext, IsNext, IsOfKindNext, IsSettingOf, TellsOutcome, next_program, skipped_to, stage_after, stage_in, stage_of, start_at};
+ghost use Rattle.hintcheck_programs.specs.Representation.ProgramOrder.{CanGoOn, IsAnswerBy, IsGlyphNext, IsNext, IsOfKindNext, IsSettingOf, TellsOutcome, next_program, skipped_to, stage_after, stage_in, stage_of, start_at};
 ghost use Rattle.hintcheck_programs.specs.Stages.{accepted_as, at_glyph, at_start, over};
 
 use crate::judge::Judge;
@@ -270,46 +268,6 @@ impl<'a, K: Drop> Programs<'a, K> {
         }
     }
 
-    /// Judges the next program, which stays the next one: returns it with what is known where it
-    /// ends, unless it is a glyph's.
-    ///
-    /// # Errors
-    /// `Refused`; `Exhausted`.
-    pub fn judge<J: Judge<Known = K>>(
-        &self,
-        alloc: Global,
-        next: Next<'a>,
-        judge: &mut J,
-        budget: &mut Budget,
-    ) -> Result<Option<Ended<'a, K>>, Refusal>
-        requires next { IsNext self.now.font.now (stage_of self.now) next }
-        requires start { CanGoOn (J.CanStart self.now.font.now.limits) (stage_of self.now) }
-        ensures accepted { (x : Subject)
-            → next_program self.now.font.now (stage_of self.now) ≡ Some x → IfOk result
-            (IsAcceptedTo (J.Accepts judge.new x (start_at (stage_of self.now)))
-            (J.Ends judge.new x (start_at (stage_of self.now))) (stage_of self.now)) }
-        ensures start { IfOk result (λ ended. CanGoOn (J.CanStart self.now.font.now.limits)
-            (stage_after (stage_of self.now) ended)) }
-        ensures refused { (x : Subject)
-            → next_program self.now.font.now (stage_of self.now) ≡ Some x
-            → IfErr result (λ fault. IfRefused x.name fault
-            (J.Refuses judge.new x (start_at (stage_of self.now)))) }
-        ensures keeps { J.Keeps judge.old judge.new }
-        ensures spends { Spends budget.old budget.new }
-        ensures budget { TellsBudget budget.old budget.new result }
-    {
-        judge.uncut_facts();
-        let program = cut(alloc, next.bytes)?;
-        let setting = self.setting(next.kind, &program);
-        let start = self.start();
-        judge.judge(alloc, next.name, &setting, start, budget)?;
-        if !has_end(next.kind) {
-            return Ok(None);
-        }
-        let known = judge.known_at_end(alloc, &setting, start)?;
-        Ok(Some(Ended { program, known }))
-    }
-
     /// Goes on to the program after the next one: after a font program or a CVT program with what
     /// is known where it ends, if it is accepted.
     pub(crate) fn advance(&mut self, ended: Option<Ended<'a, K>>)
@@ -328,6 +286,22 @@ impl<'a, K: Drop> Programs<'a, K> {
         if let Some(ended) = ended {
             self.before = after(before, ended);
         }
+    }
+
+    /// Goes on to the program after the next one, which the fault refuses: returns its outcome.
+    ///
+    /// # Errors
+    /// What ended the work without an answer; then the program is still the next one.
+    fn refuse(&mut self, called: Name, fault: Refusal) -> Result<Outcome, Exhausted>
+        requires { next_program self.old.font.now (stage_of self.old) ≡ None → ⊥ }
+        ensures outcome { TellsOutcome called fault result }
+        ensures stage { OnOk result (stage_of self.new ≡ stage_after (stage_of self.old) None) }
+        ensures unchanged { OnErr result (self.new ≡ self.old) }
+        ensures font { self.new.font ≡ self.old.font }
+    {
+        let outcome = refused(called, fault)?;
+        self.advance(None);
+        Ok(outcome)
     }
 
     /// Judges the next program and goes on to the one after it: returns the program's outcome, or
@@ -350,6 +324,8 @@ impl<'a, K: Drop> Programs<'a, K> {
         ensures unchanged { IfErr result (λ _. self.new ≡ self.old) }
         ensures font { self.new.font ≡ self.old.font }
         ensures keeps { J.Keeps judge.old judge.new }
+        ensures keeps_for_glyphs { IsGlyphNext (stage_of self.old)
+            → J.KeepsForGlyphs judge.old judge.new }
         ensures spends { Spends budget.old budget.new }
         ensures budget { EndTellsBudget budget.old budget.new result }
     {
@@ -357,16 +333,22 @@ impl<'a, K: Drop> Programs<'a, K> {
             self.end();
             return Ok(None);
         };
-        match self.judge(alloc, next, judge, budget) {
-            Ok(ended) => {
-                self.advance(ended);
-                Ok(Some(accepted(next.name)))
-            }
-            Err(fault) => {
-                let outcome = refused(next.name, fault)?;
-                self.advance(None);
-                Ok(Some(outcome))
-            }
+        judge.uncut_facts();
+        let program = match cut(alloc, next.bytes) {
+            Ok(program) => program,
+            Err(fault) => return Ok(Some(self.refuse(next.name, fault)?)),
+        };
+        let setting = self.setting(next.kind, &program);
+        let start = self.start();
+        if let Err(fault) = judge.judge(alloc, next.name, &setting, start, budget) {
+            return Ok(Some(self.refuse(next.name, fault)?));
         }
+        if !has_end(next.kind) {
+            self.advance(None);
+            return Ok(Some(accepted(next.name)));
+        }
+        let known = judge.known_at_end(alloc, &setting, start)?;
+        self.advance(Some(Ended { program, known }));
+        Ok(Some(accepted(next.name)))
     }
 }

@@ -1,4 +1,4 @@
-use Rattle.std.proofs.Common.{[], sym}
+use Rattle.std.proofs.Common.{[]}
 use Rattle.std.proofs.lemmas.Result.{IfOk-weaker}
 use Rattle.hintcheck_programs.specs.FontPrograms.{font_of}
 use Rattle.hintcheck_fonts.proofs.SymbolicAnswers.{listed_alone, listed_one, one_alone, told_alone}
@@ -17,7 +17,7 @@ returns-in-Err-clause-one c = λ g at.
 pub returns-clause-safe : goal.returns-clause-safe
 returns-clause-safe c = λ g at.
     IfOk-weaker c.refused_glyph.result _ _
-    (λ v judged. safe_alone (font_of c.args.font.now [] []) g c.refused_glyph.new.judge c.pass_empty.new.self.starts _ v.items c.in_default.ensures.begun c.refused_glyph.ensures.keeps judged)
+    (λ v judged. safe_alone (font_of c.args.font.now [] []) g c.refused_glyph.new.judge c.pass_empty.new.self.ends c.pass_empty.new.self.starts _ v.items c.in_default.ensures.begun c.refused_glyph.ensures.keeps.1 judged)
     (c.refused_glyph.ensures.judged g at)
 
 pub returns-clause-one : goal.returns-clause-one

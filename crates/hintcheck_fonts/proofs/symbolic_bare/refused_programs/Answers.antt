@@ -1,9 +1,7 @@
-use Rattle.std.proofs.Common.{◌≡◌, ◌∙◌, ◌≤◌, [], IfOk, ap, length, subst}
-use Rattle.std.specs.List.{All}
-use Rattle.std.specs.Prelude.{Some, slice_get}
+use Rattle.std.proofs.Common.{◌≡◌, ◌∙◌, [], IfOk, ap, subst}
+use Rattle.std.specs.Prelude.{slice_get}
 use Rattle.tt_font.specs.Reading.{FontData, GlyphData, font_around, glyph_data}
 use Rattle.hintcheck_programs.specs.FontPrograms.{font_of}
-use Rattle.hintcheck_fonts.specs.SymbolicRefusals.{IsRefusedAlone}
 use Rattle.hintcheck_fonts.specs.SymbolicVerdicts.{IsSafeAlone}
 use Rattle.hintcheck_fonts.proofs.symbolic_bare.refused_programs.Goals as goal
 

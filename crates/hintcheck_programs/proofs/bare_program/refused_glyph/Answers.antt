@@ -1,8 +1,8 @@
 use Rattle.std.proofs.Common.{[], List, subst, sym}
-use Rattle.tt_font.specs.Reading.{FontData, GlyphData}
+use Rattle.tt_font.specs.Reading.{FontData}
 use Rattle.hintcheck_programs.specs.FontPrograms.{font_of, glyph_subject}
 use Rattle.hintcheck_report.specs.declared.refused.Refused.{Refused}
-use Rattle.hintcheck_programs.specs.Representation.ProgramOrder.{IsAnswerBy, IsJudgedBy, stage_of}
+use Rattle.hintcheck_programs.specs.Representation.ProgramOrder.{IsAnswerBy, IsGlyphNext, IsJudgedBy, stage_of}
 use Rattle.hintcheck_programs.proofs.BareProgramLemmas.{glyph_is_next, judged_glyph}
 use Rattle.hintcheck_programs.proofs.bare_program.refused_glyph.Goals as goal
 use Rattle.hintcheck_programs.proofs.bare_program.refused_glyph.Goals.{in-Some+in_ok-list_outcome, in_default}
@@ -24,3 +24,6 @@ returns-clause-judged g c = λ glyph at.
           (judged_glyph d A E R [] [] [] 0 glyph at s t c.in_ok-outcome.field-0 w.in-Some.outcome c.new-refused.result.items w.list_outcome.new.refused.items here answers w.in-Some.is c.new-refused.ensures.items w.in_ok-list_outcome.ensures)
       | in_default w ↦ absurd (glyph_is_next d A E R [] [] [] 0 glyph at s t c.in_ok-outcome.field-0 here answers w.in_default.is)
     ]
+
+pub returns-clause-keeps : goal.returns-clause-keeps
+returns-clause-keeps g c = c.judge_next.ensures.keeps_for_glyphs (subst (λ s. IsGlyphNext s) (sym c.in_ok-programs.ensures.stage) tt)

@@ -9,7 +9,8 @@ returns-clause-begun c =
     let limits = c.limits.ensures in
     let count = c.cvt_count.ensures in
     let empty = c.in_ok-empty.ensures in
-    begun_empty (font_of c.args.font.now [] []) _ _ c.take_ends-first.result c.take_ends-second.result _ _ _ _ (c.in_ok-check.ensures.ended tt) (c.in_ok-check-2.ensures.ended tt)
-    c.take_ends-first.ensures c.take_ends-second.ensures c.as_slice.ensures.value c.in_ok-start_glyphs.ensures
+    let started = c.in_ok-start_glyphs.ensures in
+    begun_empty (font_of c.args.font.now [] []) _ _ c.in_ok-first.first c.in_ok-self.field-0 _ _ _ c.in_ok-first.ensures.ended c.in_ok-self.ensures.ended
+    started.ends c.as_slice-functions.ensures.value started.starts
     (λ i. record { limits = limits i; cvt = count i; kind = FontProgram; main = empty i; font = empty i; prep = empty i })
     (λ i. record { limits = limits i; cvt = count i; kind = CvtProgram; main = empty i; font = empty i; prep = empty i })

@@ -4,11 +4,11 @@ use Rattle.hintcheck_programs.specs.Representation.ProgramOrder.{stage_of}
 use Rattle.hintcheck_programs.specs.Representation.FontVerdicts.{KeepsKnown}
 use Rattle.hintcheck_programs.proofs.ProgramSteps.{calls_left}
 use Rattle.hintcheck_programs.proofs.VerdictSteps.{AreRefusedTill}
-use Rattle.hintcheck_programs.proofs.font.refused_by.Given as goal
+use Rattle.hintcheck_programs.proofs.font.refused_programs.Given as goal
 
 abbrev pub invariant-loop-refused : goal.invariant-loop-refused
 invariant-loop-refused l = record {
-  font : l.programs.font.now ≡ l.fn.programs.font.now;
+  font : l.programs.font.now ≡ l.fn.font;
   known : KeepsKnown l.programs.font.now (stage_of l.programs);
   till : AreRefusedTill l.programs.font.now (stage_of l.programs) l.refused.items;
   spends : Spends l.fn.budget l.budget;

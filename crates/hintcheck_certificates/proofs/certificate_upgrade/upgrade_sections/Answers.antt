@@ -10,7 +10,7 @@ use Rattle.hintcheck_certificates.proofs.UpgradeSteps.{begun_on, comes_on, lack_
 use Rattle.tt_cert.specs.Readers.{place_after}
 use Rattle.hintcheck_certificates.specs.FailedReads.{HasReadOld}
 use Rattle.hintcheck_certificates.proofs.UpgradeReads.{lack_after}
-use Rattle.hintcheck_certificates.proofs.certificate_upgrade.upgrade_each.Goals as goal
+use Rattle.hintcheck_certificates.proofs.certificate_upgrade.upgrade_sections.Goals as goal
 
 pub loop-number-init : goal.loop-number-init
 loop-number-init g c = record {

@@ -3,7 +3,7 @@ use Rattle.tt_cert.specs.Answers.{input_at}
 use Rattle.tt_stream.specs.Reads.{ConsumesBeginning}
 use Rattle.hintcheck_certificates.specs.CheckedFonts.{IsTold}
 use Rattle.hintcheck_certificates.specs.Upgrades.{AreUpgraded}
-use Rattle.hintcheck_certificates.proofs.certificate_upgrade.upgrade_each.Given as goal
+use Rattle.hintcheck_certificates.proofs.certificate_upgrade.upgrade_sections.Given as goal
 
 abbrev pub invariant-loop-number : goal.invariant-loop-number
 invariant-loop-number g l = record {

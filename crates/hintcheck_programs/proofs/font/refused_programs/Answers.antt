@@ -8,15 +8,16 @@ use Rattle.hintcheck_programs.specs.Representation.FontVerdicts.{KeepsKnown}
 use Rattle.hintcheck_programs.proofs.VerdictSteps.{stays_known}
 use Rattle.hintcheck_programs.proofs.ProgramSteps.{calls_left, fewer_after}
 use Rattle.hintcheck_programs.proofs.VerdictSteps.{AreRefusedTill, all_refused_till, known_can_go_on, none_refused_yet, refused_till}
-use Rattle.hintcheck_programs.proofs.font.refused_by.Goals as goal
+use Rattle.hintcheck_programs.proofs.font.refused_programs.Goals as goal
 
 pub loop-refused-init : goal.loop-refused-init
 loop-refused-init c =
-    let yet = none_refused_yet c.args.programs.now.font.now (stage_of c.args.programs.now) c.new-refused.result.items c.requires.start c.new-refused.ensures.items in
-    record { font = refl; known = yet.0; till = yet.1; spends = (refl, omega arith); alike = refl }
+    let programs = c.new-programs in
+    let yet = none_refused_yet programs.result.font.now (stage_of programs.result) c.new-refused.result.items programs.ensures.stage c.new-refused.ensures.items in
+    record { font = programs.ensures.font; known = yet.0; till = yet.1; spends = (refl, omega arith); alike = refl }
 
 pub judge_next-requires-clause-range : goal.judge_next-requires-clause-range
-judge_next-requires-clause-range c = subst IsFontInRange (sym c.loop-refused.invariant.font) c.requires.range
+judge_next-requires-clause-range c = subst IsFontInRange (sym c.loop-refused.invariant.font) c.requires
 
 pub judge_next-requires-clause-start : goal.judge_next-requires-clause-start
 judge_next-requires-clause-start c = known_can_go_on c.loop-refused.programs.font.now (stage_of c.loop-refused.programs) c.loop-refused.invariant.known
