@@ -1,9 +1,12 @@
 //! The instructions around a place.
 
+use crate::explored_program::code_of;
 use crate::instruction_text::{InstructionText, length_by_code};
 use hintcheck_report::Place;
 use std::fmt;
 use tt_code::Program;
+use tt_setting::{Name, Setting};
+use tt_symbolic_check::Site;
 
 /// How many instructions are listed.
 const LISTED: usize = 8;
@@ -24,11 +27,8 @@ impl<'a> Code<'a> {
             Code::Cut(program) => Some(program.at(offset)?.bytes()),
             Code::Uncut(bytes) => {
                 let rest = bytes.get(offset as usize..)?;
-                if rest.is_empty() {
-                    return None;
-                }
-                let length = length_by_code(rest);
-                Some(rest.get(..length).unwrap_or(rest))
+                let length = length_by_code(rest).min(rest.len());
+                (length > 0).then_some(rest.get(..length)?)
             }
         }
     }
@@ -67,6 +67,12 @@ pub(crate) struct Excerpt<'a> {
 }
 
 impl<'a> Excerpt<'a> {
+    /// Makes the list of the instructions around a site, seen from the program of this name.
+    pub(crate) fn at(program: Name, setting: &Setting<'a>, site: Site) -> Excerpt<'a> {
+        let code = Code::Cut(code_of(setting, site.spot));
+        Excerpt::around(code, Place::at(program, site.spot, site.offset))
+    }
+
     /// Makes the list of the instructions around a place.
     pub(crate) fn around(code: Code<'a>, place: Place) -> Excerpt<'a> {
         Excerpt { code, place }
