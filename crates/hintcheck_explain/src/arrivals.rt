@@ -118,9 +118,12 @@ impl Ways<'_> {
         if point == START && depth == 0 {
             return Some(BEGINNING);
         }
-        let mut edges = self.edges.iter();
-        let edge = edges.find(|edge| edge.to == point && edge.depth == depth)?;
-        Some(self.arrival(edge))
+        for edge in self.edges {
+            if edge.to == point && edge.depth == depth {
+                return Some(self.arrival(edge));
+            }
+        }
+        None
     }
 }
 

@@ -34,7 +34,7 @@ impl<'a> Code<'a> {
     }
 
     /// Returns the offset after the instruction at an offset.
-    fn after(&self, offset: u32) -> Option<u32> {
+    pub(crate) fn after(&self, offset: u32) -> Option<u32> {
         let bytes = self.at(offset)?;
         offset.checked_add(u32::try_from(bytes.len()).ok()?)
     }

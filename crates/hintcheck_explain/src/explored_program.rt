@@ -25,15 +25,15 @@ pub(crate) fn instruction_at<'a>(setting: &Setting<'a>, site: Site) -> Option<In
     code_of(setting, site.spot).at(site.offset)
 }
 
-/// Returns the code of the instruction at a site; 0 where there is none.
-pub(crate) fn code_at(setting: &Setting<'_>, site: Site) -> u8 {
-    instruction_at(setting, site).map_or(0, |instruction| instruction.code())
+/// Returns the code of the instruction at a site, if one is there.
+pub(crate) fn code_at(setting: &Setting<'_>, site: Site) -> Option<u8> {
+    Some(instruction_at(setting, site)?.code())
 }
 
-/// Returns the name of the instruction at a site; words for the program's end where there is none.
-pub(crate) fn name_at(setting: &Setting<'_>, site: Site) -> &'static str {
-    match instruction_at(setting, site) {
-        Some(instruction) => name_of(instruction.code()),
+/// Returns the name of an instruction by its code; words for the program's end where there is none.
+pub(crate) fn name_or_end(code: Option<u8>) -> &'static str {
+    match code {
+        Some(code) => name_of(code),
         None => "the program's end",
     }
 }
@@ -50,7 +50,7 @@ impl Landmark {
     pub(crate) fn at(program: Name, setting: &Setting<'_>, site: Site) -> Landmark {
         Landmark {
             place: Place::at(program, site.spot, site.offset),
-            name: name_at(setting, site),
+            name: name_or_end(code_at(setting, site)),
         }
     }
 }

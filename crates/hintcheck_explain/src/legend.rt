@@ -20,9 +20,8 @@ fn add_entries(cells: &mut Vec<Cell>, entries: &SortedMap<Cell>) -> Result<(), A
     Ok(())
 }
 
-/// Returns the cells of a state that are printed, in their order.
-fn shown_cells(alloc: Global, state: &State) -> Result<Vec<Cell>, AllocError> {
-    let mut cells = Vec::new(alloc);
+/// Adds the cells of a state that are printed, in their order.
+fn add_shown(cells: &mut Vec<Cell>, state: &State) -> Result<(), AllocError> {
     for call in state.calls.as_slice() {
         cells.push(call.left)?;
     }
@@ -30,26 +29,28 @@ fn shown_cells(alloc: Global, state: &State) -> Result<Vec<Cell>, AllocError> {
         cells.push(*cell)?;
     }
     let graphics = &state.graphics;
-    cells.push(graphics.rp0)?;
-    cells.push(graphics.rp1)?;
-    cells.push(graphics.rp2)?;
-    cells.push(graphics.loop_number)?;
-    add_entries(&mut cells, &state.storage)?;
-    add_entries(&mut cells, &state.controls)?;
-    Ok(cells)
-}
-
-/// Returns how many of the cells have a symbol.
-fn count_uses(cells: &[Cell], symbol: u32) -> usize {
-    cells
-        .iter()
-        .filter(|cell| cell.factor != 0 && cell.symbol == symbol)
-        .count()
+    let numbers = [
+        graphics.rp0,
+        graphics.rp1,
+        graphics.rp2,
+        graphics.loop_number,
+    ];
+    for cell in numbers {
+        cells.push(cell)?;
+    }
+    add_entries(cells, &state.storage)?;
+    add_entries(cells, &state.controls)
 }
 
 /// Whether a cell's symbol is to be named: another cell has it too, or the cell is a multiple of it.
 fn is_named(cells: &[Cell], cell: Cell) -> bool {
-    cell.factor != 0 && (cell.factor.unsigned_abs() != 1 || count_uses(cells, cell.symbol) > 1)
+    let mut uses: usize = 0;
+    for other in cells {
+        if other.factor != 0 && other.symbol == cell.symbol {
+            uses = uses.saturating_add(1);
+        }
+    }
+    cell.factor != 0 && (cell.factor.unsigned_abs() != 1 || uses > 1)
 }
 
 /// The symbols of a state that are named where its cells are printed.
@@ -62,26 +63,22 @@ pub(crate) struct Legend<'a> {
 }
 
 impl<'a> Legend<'a> {
-    /// Makes the legend of cells that have no symbols.
-    pub(crate) fn empty(alloc: Global) -> Legend<'a> {
+    /// Makes a legend that names none of the symbols with these ranges.
+    pub(crate) fn new(alloc: Global, ranges: &'a [Range]) -> Legend<'a> {
         Legend {
-            ranges: &[],
+            ranges,
             named: Vec::new(alloc),
         }
     }
 
-    /// Makes the legend of a state.
+    /// Names the symbols of a state that are to be named where its cells are printed.
     ///
     /// # Errors
     /// If memory runs out.
-    pub(crate) fn of(alloc: Global, state: &'a State) -> Result<Legend<'a>, AllocError> {
-        let mut legend = Legend {
-            ranges: state.ranges.as_slice(),
-            named: Vec::new(alloc),
-        };
-        let cells = shown_cells(alloc, state)?;
-        legend.add_named(cells.as_slice())?;
-        Ok(legend)
+    pub(crate) fn add(&mut self, alloc: Global, state: &State) -> Result<(), AllocError> {
+        let mut cells = Vec::new(alloc);
+        add_shown(&mut cells, state)?;
+        self.add_named(cells.as_slice())
     }
 
     /// Adds the symbols of these cells that are to be named.

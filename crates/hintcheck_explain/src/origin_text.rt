@@ -34,7 +34,8 @@ impl fmt::Display for OriginText<'_> {
         match self.origin {
             CellOrigin::Made(point) => {
                 let Landmark { place, name } = subject.landmark(point);
-                let making = making_by_strict(code_at(subject.setting, subject.site(point)));
+                let code = code_at(subject.setting, subject.site(point));
+                let making = making_by_strict(code.unwrap_or(0));
                 write!(f, "{name} at {place} {making}")
             }
             CellOrigin::Joined { at, first, second } => write!(
@@ -70,7 +71,8 @@ impl fmt::Display for SymbolOriginText<'_> {
             SymbolOrigin::Made(at) => {
                 let Landmark { place, name } = Landmark::at(self.program, self.setting, at);
                 let is_glyph = matches!(self.setting.kind, Kind::Glyph { .. });
-                let making = making_by_symbolic(code_at(self.setting, at), is_glyph);
+                let code = code_at(self.setting, at);
+                let making = making_by_symbolic(code.unwrap_or(0), is_glyph);
                 write!(f, "{name} at {place} {making}")
             }
             SymbolOrigin::Met { at, first, second } => {

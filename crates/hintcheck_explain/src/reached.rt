@@ -29,7 +29,7 @@ pub(crate) fn tell_known<O: Sink>(
     ensures failures { TellsFailure result (O.failures out.old) (O.failures out.new) }
 {
     let frames = subject.frames(point.0)?;
-    let legend = Legend::empty(subject.alloc);
+    let legend = Legend::new(subject.alloc, &[]);
     let known = Knowledge {
         program: subject.name,
         setting: subject.setting,

@@ -58,9 +58,10 @@ fn is_branch(ways: Ways<'_>, edge: &Edge) -> bool {
         return true;
     }
     let second = first_from(ways.edges, edge.from).saturating_add(1);
-    ways.edges
-        .get(second)
-        .is_some_and(|other| other.from == edge.from)
+    match ways.edges.get(second) {
+        Some(other) => other.from == edge.from,
+        None => false,
+    }
 }
 
 /// Adds the branches of one route from the program's start to a point, the last one first.

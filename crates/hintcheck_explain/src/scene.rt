@@ -2,7 +2,7 @@
 
 use crate::element::Element;
 use crate::exchange::{Exchange, exchange_of};
-use crate::explored_program::{instruction_at, name_at};
+use crate::explored_program::{instruction_at, name_or_end};
 use crate::view::View;
 use tt_setting::{Failed, Setting};
 use tt_symbolic_check::Site;
@@ -36,7 +36,7 @@ impl<'a> Scene<'a> {
 
     /// Returns the instruction's name; words for the program's end where there is none.
     pub(crate) fn name(&self) -> &'static str {
-        name_at(self.setting, self.site)
+        name_or_end(self.code)
     }
 
     /// Returns the least and the greatest number that an index may be, if this test fails since it may

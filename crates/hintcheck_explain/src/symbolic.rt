@@ -18,7 +18,7 @@ use hintcheck_report::{AnswerFault, Refused};
 use std::alloc::Global;
 use tt_setting::{Failed, Name, Setting, Spot};
 use tt_stream::{PrintFailed, Sink};
-use tt_symbolic_check::{Insight, KnownState, Site};
+use tt_symbolic_check::{Insight, KnownState, RefusedState, Site};
 
 /// A program that is explained: its name, what it is checked against, and what the search tells of
 /// it.
@@ -28,6 +28,13 @@ struct Searched<'a> {
     name: Name,
     setting: &'a Setting<'a>,
     insight: Option<&'a Insight>,
+}
+
+impl<'a> Searched<'a> {
+    /// Returns the state that is refused, if the search tells it.
+    fn refused(&self) -> Option<&'a RefusedState> {
+        self.insight?.refused.as_ref()
+    }
 }
 
 /// Prints how much an accepted program takes.
@@ -69,7 +76,8 @@ fn tell_known<O: Sink>(
     ensures failures { TellsFailure result (O.failures out.old) (O.failures out.new) }
 {
     let state = &known.state;
-    let legend = Legend::of(searched.alloc, state)?;
+    let mut legend = Legend::new(searched.alloc, state.ranges.as_slice());
+    legend.add(searched.alloc, state)?;
     let text = Knowledge {
         program: searched.name,
         setting: searched.setting,
@@ -182,10 +190,7 @@ fn tell_refusal<O: Sink>(
     ensures failures { TellsFailure result (O.failures out.old) (O.failures out.new) }
 {
     let reason = refused.reason;
-    match searched
-        .insight
-        .and_then(|insight| insight.refused.as_ref())
-    {
+    match searched.refused() {
         Some(state) if state.failed.reason() == reason => {
             tell_case(searched, &state.known, state.failed, out)?;
         }

@@ -13,8 +13,8 @@ const ALL_NUMBERS: i64 = (1 << 32) - 1;
 /// The number of a symbol that has no range: nothing is known of its cell.
 const UNKNOWN: u32 = u32::MAX;
 
-/// Returns a number of which a state of the strict profile knows which it is.
-fn strict_number(state: &State, element: Element) -> Option<i32> {
+/// Returns the cell of a number that a state of the strict profile knows.
+fn strict_cell(state: &State, element: Element) -> Option<Cell> {
     let cell = match element {
         Element::Stack(place) => state.cell(place)?,
         Element::Register(Register::Rp0) => state.reference_point(Reference::Rp0),
@@ -24,7 +24,7 @@ fn strict_number(state: &State, element: Element) -> Option<i32> {
         Element::Storage(index) => state.storage(index),
     };
     match cell {
-        StrictCell::Known(number) => Some(number),
+        StrictCell::Known(number) => Some(known(number)),
         StrictCell::Unknown => None,
     }
 }
@@ -102,7 +102,7 @@ impl<'a> View<'a> {
     /// Returns the cell of a number.
     pub(crate) fn cell(self, element: Element) -> Cell {
         let cell = match self {
-            View::Strict(state) => strict_number(state, element).map(known),
+            View::Strict(state) => strict_cell(state, element),
             View::Symbolic(state) => symbolic_cell(state, element),
         };
         cell.unwrap_or(symbol(UNKNOWN))
