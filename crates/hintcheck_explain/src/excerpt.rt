@@ -50,13 +50,15 @@ fn start_around(code: Code<'_>, offset: u32) -> u32 {
         if at >= offset {
             break;
         }
-        recent = [at, recent[0], recent[1], recent[2]];
+        let [one, two, three, _] = recent;
+        recent = [at, one, two, three];
         match code.after(at) {
             Some(next) => at = next,
             None => break,
         }
     }
-    recent[3]
+    let [_, _, _, fourth] = recent;
+    fourth
 }
 
 /// The instructions around a place of a program, which is marked.
