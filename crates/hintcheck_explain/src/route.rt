@@ -22,7 +22,10 @@ fn reach(
     point: PointKey,
 ) -> Result<(), AllocError> {
     let first = first_from(edges, point);
-    for edge in edges.iter().skip(first).take(2) {
+    for more in 0..2 {
+        let Some(edge) = edges.get(first.saturating_add(more)) else {
+            break;
+        };
         if edge.from == point && edge.to != START && reached.get(&edge.to).is_none() {
             reached.insert(edge.to, *edge)?;
             queue.push(edge.to)?;
