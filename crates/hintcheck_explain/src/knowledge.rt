@@ -90,33 +90,51 @@ impl<'l> Knowledge<'l, '_> {
         Ok(spot)
     }
 
-    /// Writes the open calls, each with which of its turns it is in, or how many are left, if it has
-    /// more than one.
-    fn write_calls<W: fmt::Write>(&self, f: &mut fmt::Formatter<W>) -> fmt::Result {
+    /// Writes the calls of the strict profile, each with its turn, if it has more than one.
+    fn write_strict<W: fmt::Write>(
+        &self,
+        frames: &[Frame],
+        f: &mut fmt::Formatter<W>,
+    ) -> fmt::Result {
         let mut caller = Spot::Main;
-        match self.calls {
-            Calls::Strict([]) | Calls::Symbolic([]) => return f.write_str("Open calls: none"),
-            _ => f.write_str("Open calls, the outermost first:")?,
-        }
-        match self.calls {
-            Calls::Strict(frames) => {
-                for frame in frames {
-                    caller = self.write_call(caller, frame.call, frame.body, f)?;
-                    if frame.count > 1 {
-                        write!(f, " (turn {} of {})", frame.turn, frame.count)?;
-                    }
-                }
-            }
-            Calls::Symbolic(calls) => {
-                for call in calls {
-                    caller = self.write_call(caller, call.call, call.body, f)?;
-                    if call.left != known(0) {
-                        write!(f, " (turns left: {})", self.legend.text(call.left))?;
-                    }
-                }
+        for frame in frames {
+            caller = self.write_call(caller, frame.call, frame.body, f)?;
+            if frame.count > 1 {
+                write!(f, " (turn {} of {})", frame.turn, frame.count)?;
             }
         }
         Ok(())
+    }
+
+    /// Writes the calls of the symbolic profile, each with how many turns are left, if any is.
+    fn write_symbolic<W: fmt::Write>(
+        &self,
+        calls: &[OpenCall],
+        f: &mut fmt::Formatter<W>,
+    ) -> fmt::Result {
+        let mut caller = Spot::Main;
+        for call in calls {
+            caller = self.write_call(caller, call.call, call.body, f)?;
+            if call.left != known(0) {
+                write!(f, " (turns left: {})", self.legend.text(call.left))?;
+            }
+        }
+        Ok(())
+    }
+
+    /// Writes the open calls.
+    fn write_calls<W: fmt::Write>(&self, f: &mut fmt::Formatter<W>) -> fmt::Result {
+        match self.calls {
+            Calls::Strict([]) | Calls::Symbolic([]) => f.write_str("Open calls: none"),
+            Calls::Strict(frames) => {
+                f.write_str("Open calls, the outermost first:")?;
+                self.write_strict(frames, f)
+            }
+            Calls::Symbolic(calls) => {
+                f.write_str("Open calls, the outermost first:")?;
+                self.write_symbolic(calls, f)
+            }
+        }
     }
 
     /// Writes the cells of the stack, from the top on.
