@@ -100,6 +100,20 @@ impl Ways<'_> {
         }
     }
 
+    /// Writes the first ways that come to a point, and how many more there are.
+    fn write_to<W: fmt::Write>(&self, point: PointKey, f: &mut fmt::Formatter<W>) -> fmt::Result {
+        let mut count: usize = 0;
+        for edge in self.edges {
+            if edge.to == point {
+                if count < SHOWN_WAYS {
+                    write!(f, "\n    {}", self.arrival(edge))?;
+                }
+                count = count.saturating_add(1);
+            }
+        }
+        write_more("\n    ", count, SHOWN_WAYS, f)
+    }
+
     /// Returns an arrival that brings a stack of the one depth to a point, and one that brings one of
     /// the other depth, if there are two such ways.
     pub(crate) fn meeting(
@@ -148,15 +162,6 @@ impl fmt::Display for WaysTo<'_> {
         if point == START {
             write!(f, "\n    {BEGINNING}")?;
         }
-        let mut count: usize = 0;
-        for edge in ways.edges {
-            if edge.to == point {
-                if count < SHOWN_WAYS {
-                    write!(f, "\n    {}", ways.arrival(edge))?;
-                }
-                count = count.saturating_add(1);
-            }
-        }
-        write_more("\n    ", count, SHOWN_WAYS, f)
+        ways.write_to(point, f)
     }
 }
