@@ -1,3 +1,2 @@
-pub mod CauseLemmas
-pub mod Written
 pub mod NeedLemmas
+pub mod Written

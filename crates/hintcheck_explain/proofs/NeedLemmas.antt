@@ -3,9 +3,16 @@ use Rattle.std.proofs.Common.{◌≡◌, ◌≤◌, ℕ, arith, refl}
 use Rattle.tt_setting.specs.Settings.{setting_of}
 use Rattle.tt_abs.specs.StateFlow.{FunctionsFit}
 use Rattle.tt_setting.specs.declared.setting.Setting.{Setting as Subject}
-use Rattle.hintcheck_explain.specs.Representation.Needs.{raised}
+use Rattle.hintcheck_report.specs.Bounds.{cvt_count_with, limits_with}
 use Rattle.hintcheck_report.specs.declared.bound.Bound.{Bound}
 use Rattle.hintcheck_report.specs.declared.bound.Bound.TheVariants.{StackElements, Storage, FunctionDefs, ControlValues}
+
+-- the subject where the limit has this number
+abbrev pub raised : Subject → Bound → ℕ → Subject
+raised x limit number = record x {
+  limits = limits_with x.limits limit number;
+  cvt = cvt_count_with x.cvt limit number;
+}
 
 -- the number isn't below maxFunctionDefs, where it is that one which is raised
 abbrev pub IsRaise : Subject → Bound → ℕ → Type 0

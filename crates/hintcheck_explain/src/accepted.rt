@@ -2,6 +2,7 @@
 
 ghost use Rattle.tt_stream.specs.Streams.{CountsPrintFailure};
 
+use crate::excerpt::Code;
 use crate::explored_program::ExploredProgram;
 use tt_code::Program;
 use tt_family::Certificate;
@@ -9,14 +10,15 @@ use tt_stream::{PrintFailed, Sink};
 
 /// Returns how many instructions a program has.
 pub(crate) fn count_instructions(program: &Program<'_>) -> u32 {
+    let code = Code::Cut(program);
     let mut count: u32 = 0;
-    let mut offset: u32 = 0;
+    let mut offset = 0;
     for _ in 0..program.len() {
-        let Some(instruction) = program.at(offset) else {
+        let Some(next) = code.after(offset) else {
             break;
         };
         count = count.saturating_add(1);
-        offset = offset.saturating_add(instruction.len());
+        offset = next;
     }
     count
 }

@@ -1,16 +1,11 @@
 //! From where states come to a point.
 
-ghost use Rattle.std.specs.Prelude.{◌≡◌, IfSome};
-ghost use Rattle.hintcheck_explain.specs.Representation.Causes.{BringsDepths};
-
 use crate::describing::{Numbers, write_more};
-use crate::explored_program::ExploredProgram;
+use crate::explored_program::{ExploredProgram, Landmark};
 use crate::stepping::{StepOutcome, outcome_at};
-use crate::trouble::{Arrival, Trouble};
-use std::alloc::{AllocError, Global};
+use std::alloc::AllocError;
 use std::fmt;
 use tt_abs::State;
-use tt_code::Frame;
 use tt_family::PointKey;
 
 /// How many of the ways that come to a place are printed.
@@ -28,21 +23,15 @@ pub(crate) struct Edge {
     pub depth: usize,
 }
 
-/// Adds the ways that lead from a point.
+/// Adds the ways that lead from a point. What is known after its instruction is then `next`.
 fn push_edges(
     edges: &mut Vec<Edge>,
     subject: &ExploredProgram<'_>,
     from: PointKey,
-    frames: &[Frame],
     state: &State,
+    next: &mut State,
 ) -> Result<(), AllocError> {
-    let StepOutcome::Goes { moves, state: next } = outcome_at(
-        subject.setting,
-        frames,
-        from.1,
-        state,
-    )?
-    else {
+    let StepOutcome::Goes(moves) = outcome_at(subject, from, state, next)? else {
         return Ok(());
     };
     let depth = next.depth();
@@ -57,97 +46,105 @@ fn push_edges(
     Ok(())
 }
 
-/// Returns all ways from point to point that the search has found.
+/// Adds all ways from point to point that the search has found.
 ///
 /// # Errors
 /// If memory runs out.
-pub(crate) fn edges_of(
-    alloc: Global,
+pub(crate) fn add_edges(
+    edges: &mut Vec<Edge>,
     subject: &ExploredProgram<'_>,
-) -> Result<Vec<Edge>, AllocError> {
-    let mut edges = Vec::new(alloc);
+    next: &mut State,
+) -> Result<(), AllocError> {
     let mut states = subject.certificate.states();
-    let mut frames = Vec::new(alloc);
-    let mut here = START.0;
     for _ in 0..subject.certificate.points() {
         let Some((context, offset, state)) = states.take_first() else {
             break;
         };
-        if context != here {
-            frames = subject.frames(alloc, context)?;
-            here = context;
-        }
-        push_edges(
-            &mut edges,
-            subject,
-            (context, offset),
-            frames.as_slice(),
-            state,
-        )?;
+        push_edges(edges, subject, (context, offset), state, next)?;
     }
-    Ok(edges)
+    Ok(())
 }
 
-/// Returns a way as an arrival at the point to which it leads.
-fn arrival_of(subject: &ExploredProgram<'_>, edge: &Edge) -> Arrival
-    ensures { result.depth ≡ edge.now.depth }
-{
-    Arrival {
-        point: edge.from,
-        from: Some(subject.place(edge.from)),
-        name: subject.name_at(edge.from),
-        depth: edge.depth,
-    }
+/// The ways of a program that was searched.
+#[derive(Clone, Copy)]
+pub(crate) struct Ways<'a> {
+    pub subject: &'a ExploredProgram<'a>,
+    /// The ways, which ascend by the points from which they lead.
+    pub edges: &'a [Edge],
+}
+
+/// How a stack comes to a place: from which instruction, and how deep it is.
+#[derive(Clone, Copy)]
+pub(crate) struct Arrival {
+    /// The point from where it comes.
+    pub point: PointKey,
+    /// The place of this point: `None` for the program's start.
+    from: Option<Landmark>,
+    depth: usize,
 }
 
 /// The program's start, as an arrival at the program's first point.
 const BEGINNING: Arrival = Arrival {
     point: START,
     from: None,
-    name: "",
     depth: 0,
 };
 
-/// Returns an arrival that brings a stack of this depth to a point.
-fn way_with(
-    subject: &ExploredProgram<'_>,
-    edges: &[Edge],
-    point: PointKey,
-    depth: usize,
-) -> Option<Arrival>
-    ensures { IfSome result (λ arrival. arrival.depth ≡ depth) }
-{
-    if point == START && depth == 0 {
-        return Some(BEGINNING);
-    }
-    for edge in edges {
-        if edge.to == point && edge.depth == depth {
-            return Some(arrival_of(subject, edge));
+impl Ways<'_> {
+    /// Returns a way as an arrival at the point to which it leads.
+    fn arrival(&self, edge: &Edge) -> Arrival {
+        Arrival {
+            point: edge.from,
+            from: Some(self.subject.landmark(edge.from)),
+            depth: edge.depth,
         }
     }
-    None
-}
 
-/// Returns the trouble at a point to which one way brings a stack of the one depth, and another way
-/// a stack of the other depth, if there are two such ways.
-pub(crate) fn depths_at(
-    subject: &ExploredProgram<'_>,
-    edges: &[Edge],
-    point: PointKey,
-    depth: usize,
-    other_depth: usize,
-) -> Option<Trouble>
-    ensures { IfSome result (BringsDepths depth other_depth) }
-{
-    let one = way_with(subject, edges, point, depth)?;
-    let other = way_with(subject, edges, point, other_depth)?;
-    Some(Trouble::Depths { one, other })
+    /// Writes the first ways that come to a point, and how many more there are.
+    fn write_to<W: fmt::Write>(&self, point: PointKey, f: &mut fmt::Formatter<W>) -> fmt::Result {
+        let mut count: usize = 0;
+        for edge in self.edges {
+            if edge.to == point {
+                if count < SHOWN_WAYS {
+                    write!(f, "\n    {}", self.arrival(edge))?;
+                }
+                count = count.saturating_add(1);
+            }
+        }
+        write_more("\n    ", count, SHOWN_WAYS, f)
+    }
+
+    /// Returns an arrival that brings a stack of the one depth to a point, and one that brings one of
+    /// the other depth, if there are two such ways.
+    pub(crate) fn meeting(
+        &self,
+        point: PointKey,
+        depth: usize,
+        other_depth: usize,
+    ) -> Option<(Arrival, Arrival)> {
+        let one = self.way_with(point, depth)?;
+        let other = self.way_with(point, other_depth)?;
+        Some((one, other))
+    }
+
+    /// Returns an arrival that brings a stack of this depth to a point.
+    fn way_with(&self, point: PointKey, depth: usize) -> Option<Arrival> {
+        if point == START && depth == 0 {
+            return Some(BEGINNING);
+        }
+        for edge in self.edges {
+            if edge.to == point && edge.depth == depth {
+                return Some(self.arrival(edge));
+            }
+        }
+        None
+    }
 }
 
 impl fmt::Display for Arrival {
     fn fmt<W: fmt::Write>(&self, f: &mut fmt::Formatter<W>) -> fmt::Result {
         match self.from {
-            Some(place) => write!(f, "from {place} {}", self.name)?,
+            Some(place) => write!(f, "from {place}")?,
             None => f.write_str("from the program's start")?,
         }
         write!(f, ", with {} on the stack", Numbers(self.depth))
@@ -156,27 +153,15 @@ impl fmt::Display for Arrival {
 
 /// The ways that come to a point.
 #[derive(Clone, Copy)]
-pub(crate) struct Ways<'a, 'b> {
-    pub subject: &'a ExploredProgram<'b>,
-    pub edges: &'a [Edge],
-    pub point: PointKey,
-}
+pub(crate) struct WaysTo<'a>(pub Ways<'a>, pub PointKey);
 
-impl fmt::Display for Ways<'_, '_> {
+impl fmt::Display for WaysTo<'_> {
     fn fmt<W: fmt::Write>(&self, f: &mut fmt::Formatter<W>) -> fmt::Result {
-        write!(f, "Ways that come here:")?;
-        if self.point == START {
+        let WaysTo(ways, point) = *self;
+        f.write_str("Ways that come here:")?;
+        if point == START {
             write!(f, "\n    {BEGINNING}")?;
         }
-        let mut count: usize = 0;
-        for edge in self.edges {
-            if edge.to == self.point {
-                if count < SHOWN_WAYS {
-                    write!(f, "\n    {}", arrival_of(self.subject, edge))?;
-                }
-                count = count.saturating_add(1);
-            }
-        }
-        write_more("\n    ", count, SHOWN_WAYS, f)
+        ways.write_to(point, f)
     }
 }

@@ -13,13 +13,6 @@ pub struct Asked {
     pub site: Option<Site>,
 }
 
-impl Asked {
-    /// Returns the place that is asked for, if one is, as it is printed.
-    pub(crate) fn place(self) -> Option<Place> {
-        Some(place_of(self.program, self.site?))
-    }
-}
-
 /// Returns the place of a site, as it is printed for the program of this name.
 pub(crate) fn place_of(program: Name, site: Site) -> Place {
     Place::at(program, site.spot, site.offset)

@@ -2,39 +2,39 @@
 
 ghost use Rattle.tt_stream.specs.Streams.{CountsPrintFailure};
 
-use crate::describing::{Scene, Why};
+use crate::arrivals::Arrival;
+use crate::describing::{Why, reason_text};
 use crate::effect_text::tell_effect;
 use crate::meaning::{ADVICE_ON_RANGE, advice_of, class_of, class_text};
-use crate::trouble::Trouble;
-use crate::view::View;
-use tt_code::{Instr, Reason};
-use tt_setting::Setting;
+use crate::scene::Scene;
+use std::fmt;
+use tt_code::Reason;
+use tt_setting::{Failed, Setting};
 use tt_stream::{PrintFailed, Sink};
 
-/// Prints why a program is refused, the class of the reason, and what to do.
-fn tell_why<O: Sink>(
-    scene: Scene<'_>,
+/// Why a program is refused of which nothing is known at a place.
+#[derive(Clone, Copy)]
+struct WhyProgram<'a> {
+    setting: &'a Setting<'a>,
     reason: Reason,
-    trouble: Trouble,
-    out: &mut O,
-) -> Result<(), PrintFailed>
-    ensures failures { CountsPrintFailure result (O.failures out.old) (O.failures out.new) }
-{
-    let class = class_of(reason, trouble);
-    let kind = class_text(reason, class);
-    let advice = match trouble {
-        Trouble::Range { .. } => ADVICE_ON_RANGE,
-        _ => advice_of(reason, class, scene.name),
-    };
-    let why = Why {
-        scene,
-        reason,
-        trouble,
-    };
-    writeln!(out, "Why: {why}\nClass: {kind}\nWhat to do: {advice}")
 }
 
-/// Prints why a program is refused for this reason, where nothing is known of a place.
+impl fmt::Display for WhyProgram<'_> {
+    fn fmt<W: fmt::Write>(&self, f: &mut fmt::Formatter<W>) -> fmt::Result {
+        match self.reason {
+            Reason::ProgramTooLong => write!(
+                f,
+                "The program has {} bytes, and maxSizeOfInstructions is {}.",
+                self.setting.main.len(),
+                self.setting.limits.program_size
+            ),
+            reason => f.write_str(reason_text(reason)),
+        }
+    }
+}
+
+/// Prints why a program is refused for this reason, its class and what to do, where nothing is known
+/// of a place.
 pub(crate) fn tell_cause_of_program<O: Sink>(
     setting: &Setting<'_>,
     reason: Reason,
@@ -42,27 +42,35 @@ pub(crate) fn tell_cause_of_program<O: Sink>(
 ) -> Result<(), PrintFailed>
     ensures failures { CountsPrintFailure result (O.failures out.old) (O.failures out.new) }
 {
-    let trouble = match reason {
-        Reason::ProgramTooLong => Trouble::Length(setting.main.len()),
-        _ => Trouble::Other,
-    };
-    tell_why(Scene::nowhere(setting), reason, trouble, out)
+    let why = WhyProgram { setting, reason };
+    let class = reason.class();
+    let kind = class_text(reason, class);
+    let advice = advice_of(reason, class, "");
+    writeln!(out, "Why: {why}\nClass: {kind}\nWhat to do: {advice}")
 }
 
-/// Prints why a program is refused at an offset where this is known, and what the instruction there
-/// takes and pushes, if one is there.
+/// Prints why a program is refused at a place, since this test fails there, or two ways meet; the
+/// class of the reason; what to do; and what the instruction there takes and pushes, if one is there.
 pub(crate) fn tell_cause<O: Sink>(
-    setting: &Setting<'_>,
-    instruction: Option<Instr<'_>>,
-    offset: u32,
-    view: View<'_>,
-    reason: Reason,
-    trouble: Trouble,
+    scene: Scene<'_>,
+    failed: Failed,
+    meeting: Option<(Arrival, Arrival)>,
     out: &mut O,
 ) -> Result<(), PrintFailed>
     ensures failures { CountsPrintFailure result (O.failures out.old) (O.failures out.new) }
 {
-    let scene = Scene::at(setting, instruction.as_ref(), offset, view);
-    tell_why(scene, reason, trouble, out)?;
-    tell_effect(instruction.as_ref(), view, out)
+    let why = Why {
+        scene,
+        failed,
+        meeting,
+    };
+    let reason = failed.reason();
+    let class = class_of(failed);
+    let kind = class_text(reason, class);
+    let advice = match scene.range(failed) {
+        Some(_) => ADVICE_ON_RANGE,
+        None => advice_of(reason, class, scene.name()),
+    };
+    writeln!(out, "Why: {why}\nClass: {kind}\nWhat to do: {advice}")?;
+    tell_effect(scene, out)
 }

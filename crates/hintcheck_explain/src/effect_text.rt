@@ -3,12 +3,11 @@
 ghost use Rattle.tt_stream.specs.Streams.{CountsPrintFailure};
 
 use crate::describing::Numbers;
-use crate::exchange::{exchange_of, is_of_one};
-use crate::instruction_text::name_of;
-use crate::view::View;
+use crate::exchange::is_of_one;
+use crate::scene::Scene;
 use std::fmt;
+use tt_code::entry;
 use tt_code::kinds::{Control, Effect, Operand, StackOp};
-use tt_code::{Instr, entry};
 use tt_stream::{PrintFailed, Sink};
 
 /// Returns an operand in words.
@@ -50,6 +49,17 @@ fn control_text(operation: Control) -> &'static str {
     }
 }
 
+/// Returns what an instruction takes whose operands aren't listed, in words.
+fn taken_text(effect: &Effect) -> &'static str {
+    match effect {
+        Effect::NoEntry | Effect::Push(_) | Effect::Plain(_) => "nothing",
+        Effect::Stack(operation) => stack_text(*operation),
+        Effect::Arithmetic(operation) if is_of_one(*operation) => "a number",
+        Effect::Arithmetic(_) => "two numbers",
+        Effect::Control(operation) => control_text(*operation),
+    }
+}
+
 /// Writes operands, the top first.
 fn write_operands<W: fmt::Write>(operands: &[Operand], f: &mut fmt::Formatter<W>) -> fmt::Result {
     if operands.is_empty() {
@@ -63,29 +73,20 @@ fn write_operands<W: fmt::Write>(operands: &[Operand], f: &mut fmt::Formatter<W>
     Ok(())
 }
 
-/// What an instruction takes and pushes.
+/// What the instruction with this code takes and pushes.
 #[derive(Clone, Copy)]
-struct EffectText {
-    code: u8,
-    pushes: usize,
-}
+struct EffectText<'a>(Scene<'a>, u8);
 
-impl fmt::Display for EffectText {
+impl fmt::Display for EffectText<'_> {
     fn fmt<W: fmt::Write>(&self, f: &mut fmt::Formatter<W>) -> fmt::Result {
-        write!(
-            f,
-            "{} takes, the top of the stack first: ",
-            name_of(self.code)
-        )?;
-        match entry(self.code) {
-            Effect::NoEntry | Effect::Push(_) => f.write_str("nothing")?,
+        let EffectText(scene, code) = *self;
+        let name = scene.name();
+        write!(f, "{name} takes, the top of the stack first: ")?;
+        match entry(code) {
             Effect::Plain(row) => write_operands(row.operands, f)?,
-            Effect::Stack(operation) => f.write_str(stack_text(*operation))?,
-            Effect::Arithmetic(operation) if is_of_one(*operation) => f.write_str("a number")?,
-            Effect::Arithmetic(_) => f.write_str("two numbers")?,
-            Effect::Control(operation) => f.write_str(control_text(*operation))?,
+            effect => f.write_str(taken_text(effect))?,
         }
-        write!(f, "; it pushes {}.", Numbers(self.pushes))
+        write!(f, "; it pushes {}.", Numbers(scene.exchange.pushes))
     }
 }
 
@@ -93,19 +94,12 @@ impl fmt::Display for EffectText {
 ///
 /// # Errors
 /// `Write` exactly where a write failed.
-pub(crate) fn tell_effect<O: Sink>(
-    instruction: Option<&Instr<'_>>,
-    view: View<'_>,
-    out: &mut O,
-) -> Result<(), PrintFailed>
+pub(crate) fn tell_effect<O: Sink>(scene: Scene<'_>, out: &mut O) -> Result<(), PrintFailed>
     ensures failures { CountsPrintFailure result (O.failures out.old) (O.failures out.new) }
 {
-    let Some(instruction) = instruction else {
-        return Ok(());
-    };
-    let effect = EffectText {
-        code: instruction.code(),
-        pushes: exchange_of(view, instruction).pushes,
-    };
-    writeln!(out, "What is there: {effect}")
+    if let Some(code) = scene.code {
+        let effect = EffectText(scene, code);
+        writeln!(out, "What is there: {effect}")?;
+    }
+    Ok(())
 }

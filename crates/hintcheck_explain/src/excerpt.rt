@@ -1,9 +1,12 @@
 //! The instructions around a place.
 
+use crate::explored_program::code_of;
 use crate::instruction_text::{InstructionText, length_by_code};
 use hintcheck_report::Place;
 use std::fmt;
 use tt_code::Program;
+use tt_setting::{Name, Setting};
+use tt_symbolic_check::Site;
 
 /// How many instructions are listed.
 const LISTED: usize = 8;
@@ -24,17 +27,14 @@ impl<'a> Code<'a> {
             Code::Cut(program) => Some(program.at(offset)?.bytes()),
             Code::Uncut(bytes) => {
                 let rest = bytes.get(offset as usize..)?;
-                if rest.is_empty() {
-                    return None;
-                }
-                let length = length_by_code(rest);
-                Some(rest.get(..length).unwrap_or(rest))
+                let length = length_by_code(rest).min(rest.len());
+                (length > 0).then_some(rest.get(..length)?)
             }
         }
     }
 
     /// Returns the offset after the instruction at an offset.
-    fn after(&self, offset: u32) -> Option<u32> {
+    pub(crate) fn after(&self, offset: u32) -> Option<u32> {
         let bytes = self.at(offset)?;
         offset.checked_add(u32::try_from(bytes.len()).ok()?)
     }
@@ -50,13 +50,15 @@ fn start_around(code: Code<'_>, offset: u32) -> u32 {
         if at >= offset {
             break;
         }
-        recent = [at, recent[0], recent[1], recent[2]];
+        let [one, two, three, _] = recent;
+        recent = [at, one, two, three];
         match code.after(at) {
             Some(next) => at = next,
             None => break,
         }
     }
-    recent[3]
+    let [_, _, _, fourth] = recent;
+    fourth
 }
 
 /// The instructions around a place of a program, which is marked.
@@ -67,6 +69,12 @@ pub(crate) struct Excerpt<'a> {
 }
 
 impl<'a> Excerpt<'a> {
+    /// Makes the list of the instructions around a site, seen from the program of this name.
+    pub(crate) fn at(program: Name, setting: &Setting<'a>, site: Site) -> Excerpt<'a> {
+        let code = Code::Cut(code_of(setting, site.spot));
+        Excerpt::around(code, Place::at(program, site.spot, site.offset))
+    }
+
     /// Makes the list of the instructions around a place.
     pub(crate) fn around(code: Code<'a>, place: Place) -> Excerpt<'a> {
         Excerpt { code, place }

@@ -5,6 +5,7 @@ use crate::instruction_text::count_of_data;
 use crate::view::View;
 use tt_code::kinds::{Arithmetic, Control, Effect, Operand, Row, StackOp};
 use tt_code::{Instr, entry};
+use tt_setting::Register;
 
 /// How many cells an instruction takes from the stack, and how many it pushes onto it.
 #[derive(Clone, Copy, Default)]
@@ -16,7 +17,7 @@ pub(crate) struct Exchange {
 /// Returns how many cells an operand takes after this many others, as far as that is known.
 fn cells_of(view: View<'_>, taken: usize, operand: Operand) -> usize {
     match operand {
-        Operand::LoopPoints(_) => count_of(view.number(Element::Loop), 1),
+        Operand::LoopPoints(_) => count_of(view.number(Element::Register(Register::Loop)), 1),
         Operand::PointPairs(_) | Operand::CvtPairs => {
             let pairs = count_of(view.number_under(taken), 0);
             pairs.saturating_mul(2).saturating_add(1)

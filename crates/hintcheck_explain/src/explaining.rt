@@ -8,8 +8,8 @@ ghost use Rattle.hintcheck_explain.specs.Faults.{IsAnsweredFor, TellsFailure};
 
 use crate::accepted::tell_accepted;
 use crate::asked::{Asked, Explained, place_of};
-use crate::excerpt::{Code, Excerpt};
-use crate::explored_program::{ExploredProgram, code_of};
+use crate::excerpt::Excerpt;
+use crate::explored_program::ExploredProgram;
 use crate::needs::tell_needs;
 use crate::reached::tell_contexts;
 use crate::refusal::tell_refusal;
@@ -22,7 +22,6 @@ use tt_symbolic_check::Site;
 
 /// Prints what is known at a site of the subject, and the instructions around it.
 fn tell_site<O: Sink>(
-    alloc: Global,
     subject: &ExploredProgram<'_>,
     site: Site,
     out: &mut O,
@@ -30,9 +29,9 @@ fn tell_site<O: Sink>(
     ensures failures { TellsFailure result (O.failures out.old) (O.failures out.new) }
 {
     let place = place_of(subject.name, site);
-    let listing = Excerpt::around(Code::Cut(code_of(subject.setting, site.spot)), place);
+    let listing = Excerpt::at(subject.name, subject.setting, site);
     writeln!(out, "What is known at {place}:")?;
-    tell_contexts(alloc, subject, place, out)?;
+    tell_contexts(subject, place, out)?;
     writeln!(out, "{listing}")?;
     Ok(())
 }
@@ -57,6 +56,7 @@ pub fn explain<O: Sink>(
 {
     let explored = explore(alloc, setting, budget)?;
     let subject = ExploredProgram {
+        alloc,
         name: asked.program,
         setting: &*setting,
         certificate: &explored.found.certificate,
@@ -65,7 +65,7 @@ pub fn explain<O: Sink>(
         None => {
             tell_accepted(&subject, out)?;
             if let Some(site) = asked.site {
-                tell_site(alloc, &subject, site, out)?;
+                tell_site(&subject, site, out)?;
             }
             Ok(Explained::Accepted)
         }
@@ -79,9 +79,9 @@ pub fn explain<O: Sink>(
             let refused = Refused::at(asked.program, spot, offset, failed.reason());
             writeln!(out, "{refused}")?;
             match asked.site {
-                Some(site) => tell_site(alloc, &subject, site, out)?,
+                Some(site) => tell_site(&subject, site, out)?,
                 None => {
-                    tell_refusal(alloc, &subject, spot, offset, failed, out)?;
+                    tell_refusal(&subject, Site { spot, offset }, failed, out)?;
                     tell_needs(alloc, setting, asked.program, failed, budget, out)?;
                 }
             }

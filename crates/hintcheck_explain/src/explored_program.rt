@@ -1,27 +1,15 @@
 //! A program with what the search has found of it.
 
-ghost use Rattle.std.specs.Prelude.{◌≡◌, ◌<◌, IfOk, length, reverse};
-ghost use Rattle.tt_setting.specs.Spots.{spot_of};
-ghost use Rattle.tt_family.specs.Contents.{frames_at};
-
 use crate::instruction_text::name_of;
 use hintcheck_report::Place;
 use std::alloc::{AllocError, Global};
-use tt_abs::Move;
+use std::fmt;
+use tt_abs::{Move, State};
 use tt_code::{Frame, Instr, Program};
 use tt_family::{Certificate, PointKey};
 use tt_setting::setting::body_offset;
 use tt_setting::{Name, Setting, Spot};
 use tt_symbolic_check::Site;
-
-/// A program that is explained: its name, what it is checked against, and the contexts and states
-/// that the search has found of it.
-#[derive(Clone, Copy)]
-pub(crate) struct ExploredProgram<'a> {
-    pub name: Name,
-    pub setting: &'a Setting<'a>,
-    pub certificate: &'a Certificate,
-}
 
 /// Returns the program of a spot.
 pub(crate) fn code_of<'a>(setting: &Setting<'a>, spot: Spot) -> &'a Program<'a> {
@@ -37,16 +25,67 @@ pub(crate) fn instruction_at<'a>(setting: &Setting<'a>, site: Site) -> Option<In
     code_of(setting, site.spot).at(site.offset)
 }
 
+/// Returns the code of the instruction at a site, if one is there.
+pub(crate) fn code_at(setting: &Setting<'_>, site: Site) -> Option<u8> {
+    Some(instruction_at(setting, site)?.code())
+}
+
+/// Returns the name of an instruction by its code; words for the program's end where there is none.
+pub(crate) fn name_or_end(code: Option<u8>) -> &'static str {
+    match code {
+        Some(code) => name_of(code),
+        None => "the program's end",
+    }
+}
+
+/// A place with the name of the instruction there, as `g0:4 ELSE`.
+#[derive(Clone, Copy)]
+pub(crate) struct Landmark {
+    pub place: Place,
+    pub name: &'static str,
+}
+
+impl Landmark {
+    /// Makes the landmark of a site, seen from the program of this name.
+    pub(crate) fn at(program: Name, setting: &Setting<'_>, site: Site) -> Landmark {
+        Landmark {
+            place: Place::at(program, site.spot, site.offset),
+            name: name_or_end(code_at(setting, site)),
+        }
+    }
+}
+
+impl fmt::Display for Landmark {
+    fn fmt<W: fmt::Write>(&self, f: &mut fmt::Formatter<W>) -> fmt::Result {
+        write!(f, "{} {}", self.place, self.name)
+    }
+}
+
+/// A program that is explained: its name, what it is checked against, and the contexts and states
+/// that the search has found of it.
+#[derive(Clone, Copy)]
+pub(crate) struct ExploredProgram<'a> {
+    pub alloc: Global,
+    pub name: Name,
+    pub setting: &'a Setting<'a>,
+    pub certificate: &'a Certificate,
+}
+
 impl<'a> ExploredProgram<'a> {
     /// Returns in which program a context is.
-    pub(crate) fn spot(&self, context: u32) -> Spot
-        ensures { context < length self.now.certificate.now.contexts
-            → result ≡ spot_of (frames_at self.now.certificate.now.contexts context) }
-    {
+    pub(crate) fn spot(&self, context: u32) -> Spot {
         if context < self.certificate.contexts() {
             self.certificate.builder().spot(context)
         } else {
             Spot::Main
+        }
+    }
+
+    /// Returns the site of a point.
+    pub(crate) fn site(&self, point: PointKey) -> Site {
+        Site {
+            spot: self.spot(point.0),
+            offset: point.1,
         }
     }
 
@@ -55,40 +94,30 @@ impl<'a> ExploredProgram<'a> {
         Place::at(self.name, self.spot(point.0), point.1)
     }
 
+    /// Returns the place of a point, with the name of the instruction there.
+    pub(crate) fn landmark(&self, point: PointKey) -> Landmark {
+        Landmark::at(self.name, self.setting, self.site(point))
+    }
+
     /// Returns the instruction at a point.
     pub(crate) fn instruction_at(&self, point: PointKey) -> Option<Instr<'a>> {
-        code_of(self.setting, self.spot(point.0)).at(point.1)
+        instruction_at(self.setting, self.site(point))
     }
 
-    /// Returns the name of the instruction at a point; words for the program's end where there is
-    /// none.
-    pub(crate) fn name_at(&self, point: PointKey) -> &'static str {
-        match self.instruction_at(point) {
-            Some(instruction) => name_of(instruction.code()),
-            None => "the program's end",
-        }
-    }
-
-    /// Returns the code of the instruction at a point; 0 where there is none.
-    pub(crate) fn code_at(&self, point: PointKey) -> u8 {
-        match self.instruction_at(point) {
-            Some(instruction) => instruction.code(),
-            None => 0,
-        }
+    /// Returns what is known at a point, if the program comes there.
+    pub(crate) fn state(&self, point: PointKey) -> Option<&'a State> {
+        self.certificate.state(point.0, point.1)
     }
 
     /// Returns the calls that are open in a context, the outermost first.
     ///
     /// # Errors
     /// If memory runs out.
-    pub(crate) fn frames(&self, alloc: Global, context: u32) -> Result<Vec<Frame>, AllocError>
-        ensures { context < length self.now.certificate.now.contexts → IfOk result (λ frames.
-            frames.items ≡ reverse (frames_at self.now.certificate.now.contexts context)) }
-    {
+    pub(crate) fn frames(&self, context: u32) -> Result<Vec<Frame>, AllocError> {
         if context < self.certificate.contexts() {
-            self.certificate.builder().frames(alloc, context)
+            self.certificate.builder().frames(self.alloc, context)
         } else {
-            Ok(Vec::new(alloc))
+            Ok(Vec::new(self.alloc))
         }
     }
 

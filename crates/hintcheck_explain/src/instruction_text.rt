@@ -20,12 +20,10 @@ pub(crate) fn count_of_data(push: Push, data: &[u8]) -> usize {
 fn number_of_data(push: Push, data: &[u8], index: usize) -> Option<i32> {
     match push {
         Push::CountedBytes | Push::Bytes(_) => Some(i32::from(*data.get(index)?)),
-        Push::CountedWords | Push::Words(_) => {
-            let first = index.checked_mul(2)?;
-            let high = *data.get(first)?;
-            let low = *data.get(first.checked_add(1)?)?;
-            Some(i32::from(i16::from_be_bytes([high, low])))
-        }
+        Push::CountedWords | Push::Words(_) => match data.get(index.checked_mul(2)?..)? {
+            [high, low, ..] => Some(i32::from(i16::from_be_bytes([*high, *low]))),
+            _ => None,
+        },
     }
 }
 

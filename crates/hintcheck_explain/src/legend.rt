@@ -20,9 +20,8 @@ fn add_entries(cells: &mut Vec<Cell>, entries: &SortedMap<Cell>) -> Result<(), A
     Ok(())
 }
 
-/// Returns the cells of a state that are printed, in their order.
-fn shown_cells(alloc: Global, state: &State) -> Result<Vec<Cell>, AllocError> {
-    let mut cells = Vec::new(alloc);
+/// Adds the cells of a state that are printed, in their order.
+fn add_shown(cells: &mut Vec<Cell>, state: &State) -> Result<(), AllocError> {
     for call in state.calls.as_slice() {
         cells.push(call.left)?;
     }
@@ -30,26 +29,28 @@ fn shown_cells(alloc: Global, state: &State) -> Result<Vec<Cell>, AllocError> {
         cells.push(*cell)?;
     }
     let graphics = &state.graphics;
-    cells.push(graphics.rp0)?;
-    cells.push(graphics.rp1)?;
-    cells.push(graphics.rp2)?;
-    cells.push(graphics.loop_number)?;
-    add_entries(&mut cells, &state.storage)?;
-    add_entries(&mut cells, &state.controls)?;
-    Ok(cells)
-}
-
-/// Returns how many of the cells have a symbol.
-fn count_uses(cells: &[Cell], symbol: u32) -> usize {
-    cells
-        .iter()
-        .filter(|cell| cell.factor != 0 && cell.symbol == symbol)
-        .count()
+    let numbers = [
+        graphics.rp0,
+        graphics.rp1,
+        graphics.rp2,
+        graphics.loop_number,
+    ];
+    for cell in numbers {
+        cells.push(cell)?;
+    }
+    add_entries(cells, &state.storage)?;
+    add_entries(cells, &state.controls)
 }
 
 /// Whether a cell's symbol is to be named: another cell has it too, or the cell is a multiple of it.
 fn is_named(cells: &[Cell], cell: Cell) -> bool {
-    cell.factor != 0 && (cell.factor.unsigned_abs() != 1 || count_uses(cells, cell.symbol) > 1)
+    let mut uses: usize = 0;
+    for other in cells {
+        if other.factor != 0 && other.symbol == cell.symbol {
+            uses = uses.saturating_add(1);
+        }
+    }
+    cell.factor != 0 && (cell.factor.unsigned_abs() != 1 || uses > 1)
 }
 
 /// The symbols of a state that are named where its cells are printed.
@@ -62,39 +63,41 @@ pub(crate) struct Legend<'a> {
 }
 
 impl<'a> Legend<'a> {
-    /// Makes the legend of a state.
+    /// Makes a legend that names none of the symbols with these ranges.
+    pub(crate) fn new(alloc: Global, ranges: &'a [Range]) -> Legend<'a> {
+        Legend {
+            ranges,
+            named: Vec::new(alloc),
+        }
+    }
+
+    /// Names the symbols of a state that are to be named where its cells are printed.
     ///
     /// # Errors
     /// If memory runs out.
-    pub(crate) fn of(alloc: Global, state: &'a State) -> Result<Legend<'a>, AllocError> {
-        let ranges = state.ranges.as_slice();
-        let cells = shown_cells(alloc, state)?;
-        let mut named = Vec::new(alloc);
-        for cell in cells.as_slice() {
-            let is_known = number(*cell, ranges).is_some();
-            if !is_known && is_named(cells.as_slice(), *cell) && !named.contains(&cell.symbol) {
-                named.push(cell.symbol)?;
-            }
-        }
-        Ok(Legend { ranges, named })
+    pub(crate) fn add(&mut self, alloc: Global, state: &State) -> Result<(), AllocError> {
+        let mut cells = Vec::new(alloc);
+        add_shown(&mut cells, state)?;
+        self.add_named(cells.as_slice())
     }
 
-    /// Returns the name of a symbol, if it has one.
-    fn name(&self, symbol: u32) -> Option<SymbolName> {
-        let place = self.named.iter().position(|named| *named == symbol)?;
-        Some(SymbolName(place))
+    /// Adds the symbols of these cells that are to be named.
+    fn add_named(&mut self, cells: &[Cell]) -> Result<(), AllocError> {
+        for cell in cells {
+            let is_known = number(*cell, self.ranges).is_some();
+            if !is_known && is_named(cells, *cell) && !self.named.contains(&cell.symbol) {
+                self.named.push(cell.symbol)?;
+            }
+        }
+        Ok(())
     }
 
     /// Returns the text of a cell.
     pub(crate) fn text(&self, cell: Cell) -> CellText<'_> {
         CellText {
-            ranges: self.ranges,
-            name: if cell.factor == 0 {
-                None
-            } else {
-                self.name(cell.symbol)
-            },
             cell,
+            place: self.named.iter().position(|named| *named == cell.symbol),
+            ranges: self.ranges,
         }
     }
 }
@@ -104,7 +107,8 @@ impl fmt::Display for Legend<'_> {
     fn fmt<W: fmt::Write>(&self, f: &mut fmt::Formatter<W>) -> fmt::Result {
         let mut before = "\nwhere ";
         for (place, named) in self.named.as_slice().iter().enumerate() {
-            write!(f, "{before}{} is ", SymbolName(place))?;
+            let name = Multiple { factor: 1, place };
+            write!(f, "{before}{name} is ")?;
             write_range(symbol(*named), self.ranges, "any number", f)?;
             before = ", ";
         }
@@ -112,16 +116,23 @@ impl fmt::Display for Legend<'_> {
     }
 }
 
-/// The name of a symbol, by its place among those that are named.
+/// A multiple of a symbol, by the symbol's place among those that are named.
 #[derive(Clone, Copy)]
-struct SymbolName(usize);
+struct Multiple {
+    factor: i32,
+    place: usize,
+}
 
-impl fmt::Display for SymbolName {
+impl fmt::Display for Multiple {
     fn fmt<W: fmt::Write>(&self, f: &mut fmt::Formatter<W>) -> fmt::Result {
-        let place = self.0;
-        match NAMES.get(place) {
-            Some(name) => write!(f, "{name}"),
-            None => write!(f, "x{place}"),
+        match self.factor {
+            1 => {}
+            -1 => f.write_str("-")?,
+            factor => write!(f, "{factor}")?,
+        }
+        match NAMES.get(self.place) {
+            Some(name) => f.write_str(name),
+            None => write!(f, "x{}", self.place),
         }
     }
 }
@@ -144,8 +155,8 @@ fn write_range<W: fmt::Write>(
 #[derive(Clone, Copy)]
 pub(crate) struct CellText<'a> {
     cell: Cell,
-    /// The name of its symbol, if that has one.
-    name: Option<SymbolName>,
+    /// The place of its symbol among those that are named, if it is one of them.
+    place: Option<usize>,
     ranges: &'a [Range],
 }
 
@@ -154,29 +165,15 @@ impl fmt::Display for CellText<'_> {
         if let Some(number) = number(self.cell, self.ranges) {
             return write!(f, "{number}");
         }
-        let Some(name) = self.name else {
+        let Some(place) = self.place else {
             return write_range(self.cell, self.ranges, "?", f);
         };
         let Cell { factor, offset, .. } = self.cell;
-        if offset == 0 {
-            return write_multiple(factor, name, f);
+        let multiple = Multiple { factor, place };
+        match offset {
+            0 => write!(f, "{multiple}"),
+            1.. => write!(f, "({multiple} + {offset})"),
+            _ => write!(f, "({multiple} - {})", offset.unsigned_abs()),
         }
-        f.write_str("(")?;
-        write_multiple(factor, name, f)?;
-        let sign = if offset > 0 { '+' } else { '-' };
-        write!(f, " {sign} {})", offset.unsigned_abs())
-    }
-}
-
-/// Writes a multiple of a symbol.
-fn write_multiple<W: fmt::Write>(
-    factor: i32,
-    name: SymbolName,
-    f: &mut fmt::Formatter<W>,
-) -> fmt::Result {
-    match factor {
-        1 => write!(f, "{name}"),
-        -1 => write!(f, "-{name}"),
-        _ => write!(f, "{factor}{name}"),
     }
 }

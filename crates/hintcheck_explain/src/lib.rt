@@ -5,7 +5,6 @@
 mod accepted;
 mod arrivals;
 mod asked;
-mod calls;
 mod cause;
 mod describing;
 mod effect_text;
@@ -27,9 +26,9 @@ mod reached;
 mod reason_text;
 mod refusal;
 mod route;
+mod scene;
 mod stepping;
 mod symbolic;
-mod trouble;
 mod unread;
 mod view;
 

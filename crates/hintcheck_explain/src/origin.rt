@@ -1,12 +1,12 @@
 //! Where a number comes from that isn't known.
 
-use crate::arrivals::{Edge, START};
+use crate::arrivals::{START, Ways};
 use crate::element::Element;
-use crate::explored_program::ExploredProgram;
 use crate::provenance::kept_before;
 use crate::stepping::{StepOutcome, outcome_at};
 use crate::view::View;
-use std::alloc::{AllocError, Global};
+use std::alloc::AllocError;
+use tt_abs::State;
 use tt_family::PointKey;
 
 /// How many numbers at points are looked at, at most.
@@ -14,9 +14,9 @@ const MOST_LOOKS: usize = 1000;
 
 /// A number at a point that isn't known there.
 #[derive(Clone, Copy, PartialEq, Eq)]
-struct Traced {
-    point: PointKey,
-    element: Element,
+pub(crate) struct Traced {
+    pub point: PointKey,
+    pub element: Element,
 }
 
 /// What one way to a point brings of a number: from where the way comes, and the number after the
@@ -46,23 +46,6 @@ pub(crate) enum CellOrigin {
     Lost,
 }
 
-/// What has been found so far of where a number comes from.
-#[derive(Drop)]
-struct Trace {
-    /// The numbers that are to be looked at, and those that were.
-    numbers: Vec<Traced>,
-    /// Where a known number and one that isn't known meet, if that was seen.
-    mixed: CellOrigin,
-}
-
-/// What the ways to a point bring of a number, as far as they were looked at: a known one, and one
-/// that isn't.
-#[derive(Clone, Copy)]
-struct Meeting {
-    known: Option<Brought>,
-    unknown: Option<Brought>,
-}
-
 /// Notes a number, if it wasn't noted before, and if fewer than `MOST_LOOKS` were.
 fn note(numbers: &mut Vec<Traced>, number: Traced) -> Result<(), AllocError> {
     if numbers.len() < MOST_LOOKS && !numbers.as_slice().contains(&number) {
@@ -71,86 +54,64 @@ fn note(numbers: &mut Vec<Traced>, number: Traced) -> Result<(), AllocError> {
     Ok(())
 }
 
-/// Returns what the instruction at a point brings of a number, and where the number was kept before.
+/// Returns the number that the instruction at a point brings, if it is known, and where it was kept
+/// before.
 fn brought_from(
-    alloc: Global,
-    subject: &ExploredProgram<'_>,
+    ways: Ways<'_>,
+    next: &mut State,
     from: PointKey,
     element: Element,
-) -> Result<Option<(Brought, Option<Element>)>, AllocError> {
-    let Some(state) = subject.certificate.state(from.0, from.1) else {
+) -> Result<Option<(Option<i32>, Option<Element>)>, AllocError> {
+    let subject = ways.subject;
+    let (Some(state), Some(instruction)) = (subject.state(from), subject.instruction_at(from))
+    else {
         return Ok(None);
     };
-    let Some(instruction) = subject.instruction_at(from) else {
-        return Ok(None);
-    };
-    let frames = subject.frames(alloc, from.0)?;
-    match outcome_at(subject.setting, frames.as_slice(), from.1, state)? {
-        StepOutcome::Goes { state: next, .. } => {
-            let number = View::Strict(&next).number(element);
-            let kept = kept_before(View::Strict(state), &instruction, element);
-            Ok(Some((Brought { from, number }, kept)))
-        }
+    match outcome_at(subject, from, state, next)? {
+        StepOutcome::Goes(_) => Ok(Some((
+            View::Strict(next).number(element),
+            kept_before(View::Strict(state), &instruction, element),
+        ))),
         _ => Ok(None),
     }
-}
-
-/// Adds to a meeting at a point what one more way brings of the number, which was kept here before.
-/// Returns where the number comes from, if that is clear.
-fn add_way(
-    trace: &mut Trace,
-    meeting: &mut Meeting,
-    at: PointKey,
-    second: Brought,
-    kept: Option<Element>,
-) -> Result<Option<CellOrigin>, AllocError> {
-    if second.number.is_some() {
-        let first = meeting.known.unwrap_or(second);
-        let is_joined = first.number != second.number;
-        meeting.known = Some(second);
-        return Ok(is_joined.then_some(CellOrigin::Joined { at, first, second }));
-    }
-    meeting.unknown = Some(second);
-    let point = second.from;
-    match kept {
-        Some(element) => note(&mut trace.numbers, Traced { point, element })?,
-        None => return Ok(Some(CellOrigin::Made(point))),
-    }
-    Ok(None)
 }
 
 /// Looks at the ways that come to a point. Returns where the number comes from, if that is clear.
 /// Notes where a known number meets one that isn't known, the first time.
 fn look_back(
-    alloc: Global,
-    subject: &ExploredProgram<'_>,
-    edges: &[Edge],
-    trace: &mut Trace,
+    ways: Ways<'_>,
+    next: &mut State,
+    numbers: &mut Vec<Traced>,
+    mixed: &mut CellOrigin,
     traced: Traced,
 ) -> Result<Option<CellOrigin>, AllocError> {
     let at = traced.point;
-    let mut meeting = Meeting {
-        known: None,
-        unknown: None,
-    };
-    for edge in edges {
+    let mut known: Option<Brought> = None;
+    let mut unknown = None;
+    for edge in ways.edges {
+        let from = edge.from;
         if edge.to != at {
             continue;
         }
-        let Some((way, kept)) = brought_from(alloc, subject, edge.from, traced.element)? else {
+        let Some((number, kept)) = brought_from(ways, next, from, traced.element)? else {
             continue;
         };
-        let origin = add_way(trace, &mut meeting, at, way, kept)?;
-        if origin.is_some() {
-            return Ok(origin);
+        let second = Brought { from, number };
+        match (number, known, kept) {
+            (Some(_), Some(first), _) if first.number != number => {
+                return Ok(Some(CellOrigin::Joined { at, first, second }));
+            }
+            (Some(_), ..) => known = Some(second),
+            (None, _, None) => return Ok(Some(CellOrigin::Made(from))),
+            (None, _, Some(element)) => {
+                unknown = Some(second);
+                let point = from;
+                note(numbers, Traced { point, element })?;
+            }
         }
     }
-    if let (CellOrigin::Lost, Some(first), Some(second)) = (
-        trace.mixed,
-        meeting.known,
-        meeting.unknown,
-    ) {
-        trace.mixed = CellOrigin::Joined { at, first, second };
+    if let (CellOrigin::Lost, Some(first), Some(second)) = (*mixed, known, unknown) {
+        *mixed = CellOrigin::Joined { at, first, second };
     }
     Ok(start_of(traced))
 }
@@ -163,30 +124,26 @@ fn start_of(traced: Traced) -> Option<CellOrigin> {
     }
 }
 
-/// Returns where a number comes from that isn't known at a point, as far as the states tell.
+/// Returns where a number comes from that isn't known at a point, as far as the states tell. The
+/// numbers are those that are to be looked at, and those that were.
 ///
 /// # Errors
 /// If memory runs out.
 pub(crate) fn origin_of(
-    alloc: Global,
-    subject: &ExploredProgram<'_>,
-    edges: &[Edge],
-    point: PointKey,
-    element: Element,
+    ways: Ways<'_>,
+    next: &mut State,
+    numbers: &mut Vec<Traced>,
+    number: Traced,
 ) -> Result<CellOrigin, AllocError> {
-    let mut trace = Trace {
-        numbers: Vec::new(alloc),
-        mixed: CellOrigin::Lost,
-    };
-    note(&mut trace.numbers, Traced { point, element })?;
+    let mut mixed = CellOrigin::Lost;
+    note(numbers, number)?;
     for index in 0..MOST_LOOKS {
-        let Some(traced) = trace.numbers.get(index) else {
+        let Some(traced) = numbers.get(index).copied() else {
             break;
         };
-        let traced = *traced;
-        if let Some(origin) = look_back(alloc, subject, edges, &mut trace, traced)? {
+        if let Some(origin) = look_back(ways, next, numbers, &mut mixed, traced)? {
             return Ok(origin);
         }
     }
-    Ok(trace.mixed)
+    Ok(mixed)
 }

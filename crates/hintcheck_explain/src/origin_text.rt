@@ -1,13 +1,12 @@
 //! Where a number comes from, as it is printed by either profile.
 
-use crate::asked::place_of;
-use crate::explored_program::{ExploredProgram, instruction_at};
-use crate::instruction_text::name_of;
-use crate::making::{making_by_strict, making_by_symbolic, reads_memory};
-use crate::origin::{Brought, CellOrigin};
+use crate::explored_program::{ExploredProgram, Landmark, code_at};
+use crate::making::{making_by_strict, making_by_symbolic};
+use crate::origin::CellOrigin;
+use hintcheck_report::Place;
 use std::fmt;
 use tt_setting::{Kind, Name, Setting};
-use tt_symbolic_check::{Site, SymbolOrigin};
+use tt_symbolic_check::SymbolOrigin;
 
 /// A number that ways bring which meet.
 #[derive(Clone, Copy)]
@@ -17,48 +16,37 @@ impl fmt::Display for MetNumber {
     fn fmt<W: fmt::Write>(&self, f: &mut fmt::Formatter<W>) -> fmt::Result {
         match self.0 {
             Some(number) => write!(f, "{number}"),
-            None => write!(f, "one that isn't known"),
+            None => f.write_str("one that isn't known"),
         }
     }
 }
 
 /// Where a number comes from that the strict profile doesn't know.
 #[derive(Clone, Copy)]
-pub(crate) struct OriginText<'a, 'b> {
-    pub subject: &'a ExploredProgram<'b>,
+pub(crate) struct OriginText<'a> {
+    pub subject: &'a ExploredProgram<'a>,
     pub origin: CellOrigin,
 }
 
-impl OriginText<'_, '_> {
-    /// Writes what one way brings.
-    fn write_brought<W: fmt::Write>(
-        &self,
-        brought: Brought,
-        f: &mut fmt::Formatter<W>,
-    ) -> fmt::Result {
-        let place = self.subject.place(brought.from);
-        let name = self.subject.name_at(brought.from);
-        write!(f, "{} from {place} {name}", MetNumber(brought.number))
-    }
-}
-
-impl fmt::Display for OriginText<'_, '_> {
+impl fmt::Display for OriginText<'_> {
     fn fmt<W: fmt::Write>(&self, f: &mut fmt::Formatter<W>) -> fmt::Result {
+        let subject = self.subject;
         match self.origin {
             CellOrigin::Made(point) => {
-                let place = self.subject.place(point);
-                let name = self.subject.name_at(point);
-                let making = making_by_strict(self.subject.code_at(point));
+                let Landmark { place, name } = subject.landmark(point);
+                let code = code_at(subject.setting, subject.site(point));
+                let making = making_by_strict(code.unwrap_or(0));
                 write!(f, "{name} at {place} {making}")
             }
-            CellOrigin::Joined { at, first, second } => {
-                let place = self.subject.place(at);
-                write!(f, "ways that meet at {place} bring different numbers: ")?;
-                self.write_brought(first, f)?;
-                f.write_str(", ")?;
-                self.write_brought(second, f)?;
-                f.write_str(".")
-            }
+            CellOrigin::Joined { at, first, second } => write!(
+                f,
+                "ways that meet at {} bring different numbers: {} from {}, {} from {}.",
+                subject.place(at),
+                MetNumber(first.number),
+                subject.landmark(first.from),
+                MetNumber(second.number),
+                subject.landmark(second.from)
+            ),
             CellOrigin::Start(element) => write!(
                 f,
                 "the program starts with it: {element} isn't written before on a way \
@@ -77,47 +65,31 @@ pub(crate) struct SymbolOriginText<'a> {
     pub origin: SymbolOrigin,
 }
 
-impl SymbolOriginText<'_> {
-    /// Writes how the instruction at a site makes the number.
-    fn write_made<W: fmt::Write>(&self, at: Site, f: &mut fmt::Formatter<W>) -> fmt::Result {
-        let code = match instruction_at(self.setting, at) {
-            Some(instruction) => instruction.code(),
-            None => 0,
-        };
-        write!(f, "{} at {} ", name_of(code), place_of(self.program, at))?;
-        if !reads_memory(code) {
-            return f.write_str(making_by_symbolic(code));
-        }
-        f.write_str("reads it, and what is there isn't known: it isn't written before")?;
-        match self.setting.kind {
-            Kind::Glyph { .. } => f.write_str(
-                ", and the CVT program leaves nothing known there, or a glyph program writes there.",
-            ),
-            Kind::Font | Kind::Cvt => f.write_str("."),
-        }
-    }
-}
-
 impl fmt::Display for SymbolOriginText<'_> {
     fn fmt<W: fmt::Write>(&self, f: &mut fmt::Formatter<W>) -> fmt::Result {
         match self.origin {
-            SymbolOrigin::Made(at) => self.write_made(at, f),
-            SymbolOrigin::Met {
-                at,
-                first: None,
-                second: None,
-            } => write!(
-                f,
-                "ways that meet at {} bring numbers that aren't known.",
-                place_of(self.program, at)
-            ),
-            SymbolOrigin::Met { at, first, second } => write!(
-                f,
-                "ways that meet at {} bring different numbers: {}, {}.",
-                place_of(self.program, at),
-                MetNumber(first),
-                MetNumber(second)
-            ),
+            SymbolOrigin::Made(at) => {
+                let Landmark { place, name } = Landmark::at(self.program, self.setting, at);
+                let is_glyph = matches!(self.setting.kind, Kind::Glyph { .. });
+                let code = code_at(self.setting, at);
+                let making = making_by_symbolic(code.unwrap_or(0), is_glyph);
+                write!(f, "{name} at {place} {making}")
+            }
+            SymbolOrigin::Met { at, first, second } => {
+                let place = Place::at(self.program, at.spot, at.offset);
+                if first.is_none() && second.is_none() {
+                    return write!(
+                        f,
+                        "ways that meet at {place} bring numbers that aren't known."
+                    );
+                }
+                let first = MetNumber(first);
+                let second = MetNumber(second);
+                write!(
+                    f,
+                    "ways that meet at {place} bring different numbers: {first}, {second}."
+                )
+            }
             SymbolOrigin::Start => {
                 f.write_str("the program starts with it, as the CVT program leaves it.")
             }

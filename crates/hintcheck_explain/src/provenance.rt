@@ -5,6 +5,7 @@ use crate::exchange::{count_of, exchange_of, is_of_one};
 use crate::view::View;
 use tt_code::kinds::{Arithmetic, Effect, NewNumber, Pushed, Row, StackOp, Update};
 use tt_code::{Instr, entry};
+use tt_setting::Register;
 
 /// Returns the storage cell whose index is the number under this many others.
 fn stored_under(before: View<'_>, taken: usize) -> Option<Element> {
@@ -71,8 +72,8 @@ fn kept_of_stack(before: View<'_>, instr: &Instr<'_>, place: usize) -> Option<El
 /// Returns which number a change sets, if it is one that isn't on the stack.
 fn number_set(before: View<'_>, update: Update) -> Option<Element> {
     match update {
-        Update::SetReference(reference, _) => Some(Element::of_reference(reference)),
-        Update::SetLoop(_) | Update::LoopIsOne => Some(Element::Loop),
+        Update::SetReference(reference, _) => Some(Element::Register(Register::of(reference))),
+        Update::SetLoop(_) | Update::LoopIsOne => Some(Element::Register(Register::Loop)),
         Update::Store(at, _) => stored_under(before, usize::from(at)),
         _ => None,
     }
@@ -81,7 +82,9 @@ fn number_set(before: View<'_>, update: Update) -> Option<Element> {
 /// Returns where the number was kept that a change sets.
 fn kept_of_set(before: View<'_>, update: Update) -> Option<Element> {
     match update {
-        Update::SetReference(_, NewNumber::Same(other)) => Some(Element::of_reference(other)),
+        Update::SetReference(_, NewNumber::Same(other)) => {
+            Some(Element::Register(Register::of(other)))
+        }
         Update::SetReference(_, NewNumber::Taken(position))
         | Update::SetLoop(position)
         | Update::Store(_, position) => Element::under(before.depth(), usize::from(position)),

@@ -4,10 +4,11 @@ ghost use Rattle.hintcheck_explain.specs.Faults.{TellsFailure};
 
 use crate::effect_text::tell_effect;
 use crate::explored_program::ExploredProgram;
-use crate::knowledge::{StateText, tell_state};
+use crate::knowledge::{Calls, Knowledge};
+use crate::legend::Legend;
+use crate::scene::Scene;
 use crate::view::View;
-use hintcheck_report::{AnswerFault, Place, program_at};
-use std::alloc::Global;
+use hintcheck_report::{AnswerFault, Place};
 use tt_abs::State;
 use tt_family::PointKey;
 use tt_stream::Sink;
@@ -15,9 +16,11 @@ use tt_stream::Sink;
 /// How many contexts of a place are printed.
 const SHOWN_CONTEXTS: u32 = 16;
 
-/// Prints what is known at a place in one context.
-fn tell_context<O: Sink>(
-    alloc: Global,
+/// Prints the calls that are open at a point where this is known, and what is known there.
+///
+/// # Errors
+/// `Print` where the text wasn't printed; `Exhausted`. No other comes.
+pub(crate) fn tell_known<O: Sink>(
     subject: &ExploredProgram<'_>,
     point: PointKey,
     state: &State,
@@ -25,25 +28,31 @@ fn tell_context<O: Sink>(
 ) -> Result<(), AnswerFault>
     ensures failures { TellsFailure result (O.failures out.old) (O.failures out.new) }
 {
-    let frames = subject.frames(alloc, point.0)?;
-    let instruction = subject.instruction_at(point);
-    let text = StateText::Strict(state, frames.as_slice());
-    tell_effect(instruction.as_ref(), View::Strict(state), out)?;
-    tell_state(subject.name, subject.setting, text, out)?;
+    let frames = subject.frames(point.0)?;
+    let legend = Legend::new(subject.alloc, &[]);
+    let known = Knowledge {
+        program: subject.name,
+        setting: subject.setting,
+        calls: Calls::Strict(frames.as_slice()),
+        view: View::Strict(state),
+        legend: &legend,
+    };
+    writeln!(out, "{known}")?;
     Ok(())
 }
 
-/// Returns the first context, from this one on, in which the program comes to a place, with the
-/// state there.
-fn next_context<'a>(
+/// Returns the first point of a place, in a context from this one on, to which the program comes,
+/// with the state there.
+fn next_point<'a>(
     subject: &ExploredProgram<'a>,
     place: Place,
     from: u32,
-) -> Option<(u32, &'a State)> {
+) -> Option<(PointKey, &'a State)> {
     for context in from..subject.certificate.contexts() {
-        if program_at(subject.name, subject.spot(context)) == place.program {
-            if let Some(state) = subject.certificate.state(context, place.offset) {
-                return Some((context, state));
+        let point = (context, place.offset);
+        if subject.place(point) == place {
+            if let Some(state) = subject.state(point) {
+                return Some((point, state));
             }
         }
     }
@@ -56,7 +65,6 @@ fn next_context<'a>(
 /// # Errors
 /// `Print` where the text wasn't printed; `Exhausted`. No other comes.
 pub(crate) fn tell_contexts<O: Sink>(
-    alloc: Global,
     subject: &ExploredProgram<'_>,
     place: Place,
     out: &mut O,
@@ -65,13 +73,15 @@ pub(crate) fn tell_contexts<O: Sink>(
 {
     let mut from = 0;
     for shown in 0..SHOWN_CONTEXTS {
-        let Some((context, state)) = next_context(subject, place, from) else {
+        let Some((point, state)) = next_point(subject, place, from) else {
             break;
         };
-        tell_context(alloc, subject, (context, place.offset), state, out)?;
-        from = context.saturating_add(1);
+        let scene = Scene::at(subject.setting, subject.site(point), View::Strict(state));
+        tell_effect(scene, out)?;
+        tell_known(subject, point, state, out)?;
+        from = point.0.saturating_add(1);
     }
-    let more = next_context(subject, place, from).is_some();
+    let more = next_point(subject, place, from).is_some();
     if from == 0 {
         writeln!(out, "No run that was followed comes to {place}.")?;
     } else if more {

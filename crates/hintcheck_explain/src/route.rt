@@ -1,7 +1,6 @@
 //! One route from a program's start to a point: ways that follow one another.
 
-use crate::arrivals::{Edge, START};
-use crate::explored_program::ExploredProgram;
+use crate::arrivals::{Edge, START, Ways};
 use std::alloc::{AllocError, Global};
 use std::collections::BTreeMap;
 use std::fmt;
@@ -10,15 +9,14 @@ use tt_family::PointKey;
 /// How many branches of a route are printed.
 const SHOWN_BRANCHES: usize = 12;
 
-/// Returns the index of the first way that leads from a point, or from one after it: the ways
-/// ascend by the points from which they lead.
+/// Returns the index of the first way that leads from a point, or from one after it.
 fn first_from(edges: &[Edge], point: PointKey) -> usize {
     edges.partition_point(|edge| edge.from < point)
 }
 
-/// Notes each new point to which a way leads from this one, with this one as the point before it.
+/// Notes each new point to which a way leads from this one, with that way.
 fn reach(
-    reached: &mut BTreeMap<PointKey, PointKey>,
+    reached: &mut BTreeMap<PointKey, Edge>,
     queue: &mut Vec<PointKey>,
     edges: &[Edge],
     point: PointKey,
@@ -29,98 +27,98 @@ fn reach(
             break;
         };
         if edge.from == point && edge.to != START && reached.get(&edge.to).is_none() {
-            reached.insert(edge.to, point)?;
+            reached.insert(edge.to, *edge)?;
             queue.push(edge.to)?;
         }
     }
     Ok(())
 }
 
-/// Returns the points that can be reached, each with the one before it on a shortest route.
-fn reached_points(
+/// Notes the points that can be reached, each with the last way of a shortest route.
+fn reach_all(
     alloc: Global,
+    reached: &mut BTreeMap<PointKey, Edge>,
     edges: &[Edge],
-) -> Result<BTreeMap<PointKey, PointKey>, AllocError> {
-    let mut reached = BTreeMap::new(alloc);
+) -> Result<(), AllocError> {
     let mut queue = Vec::new(alloc);
     queue.push(START)?;
     for index in 0..edges.len().saturating_add(1) {
-        let Some(point) = queue.get(index) else {
+        let Some(point) = queue.get(index).copied() else {
             break;
         };
-        let point = *point;
-        reach(&mut reached, &mut queue, edges, point)?;
+        reach(reached, &mut queue, edges, point)?;
     }
-    Ok(reached)
+    Ok(())
 }
 
-/// A step of a route, from one point to the next one.
-#[derive(Clone, Copy)]
-struct Branch {
-    from: PointKey,
-    to: PointKey,
-}
-
-/// Whether a step does more than go on to the next instruction, or might have led elsewhere.
-fn is_branch(subject: &ExploredProgram<'_>, edges: &[Edge], branch: Branch) -> bool {
-    let Some(instruction) = subject.instruction_at(branch.from) else {
+/// Whether a way does more than go on to the next instruction, or isn't the only one from its point.
+fn is_branch(ways: Ways<'_>, edge: &Edge) -> bool {
+    let Some(instruction) = ways.subject.instruction_at(edge.from) else {
         return true;
     };
-    let next = branch.from.1.saturating_add(instruction.len());
-    if branch.from.0 != branch.to.0 || branch.to.1 != next {
+    let next = edge.from.1.saturating_add(instruction.len());
+    if edge.to != (edge.from.0, next) {
         return true;
     }
-    let second = first_from(edges, branch.from).saturating_add(1);
-    match edges.get(second) {
-        Some(edge) => edge.from == branch.from,
+    let second = first_from(ways.edges, edge.from).saturating_add(1);
+    match ways.edges.get(second) {
+        Some(other) => other.from == edge.from,
         None => false,
     }
 }
 
-/// One route to a point, by its branches.
-#[derive(Drop)]
-pub(crate) struct Route<'a, 'b> {
-    subject: &'a ExploredProgram<'b>,
-    /// The branches, the first one first.
-    branches: Vec<Branch>,
-    point: PointKey,
-}
-
-/// Returns one route from the program's start to a point.
+/// Adds the branches of one route from the program's start to a point, the last one first.
 ///
 /// # Errors
 /// If memory runs out.
-pub(crate) fn route_to<'a, 'b>(
-    alloc: Global,
-    subject: &'a ExploredProgram<'b>,
-    edges: &[Edge],
+fn add_branches(
+    branches: &mut Vec<Edge>,
+    ways: Ways<'_>,
+    reached: &BTreeMap<PointKey, Edge>,
     point: PointKey,
-) -> Result<Route<'a, 'b>, AllocError> {
-    let reached = reached_points(alloc, edges)?;
-    let mut branches = Vec::new(alloc);
+) -> Result<(), AllocError> {
     let mut to = point;
-    for _ in 0..edges.len() {
-        let Some(from) = reached.get(&to) else {
+    for _ in 0..ways.edges.len() {
+        let Some(edge) = reached.get(&to) else {
             break;
         };
-        let branch = Branch { from: *from, to };
-        if is_branch(subject, edges, branch) {
-            branches.push(branch)?;
+        if is_branch(ways, edge) {
+            branches.push(*edge)?;
         }
-        to = *from;
+        to = edge.from;
     }
-    branches.reverse();
-    Ok(Route {
-        subject,
-        branches,
-        point,
-    })
+    Ok(())
 }
 
-impl fmt::Display for Route<'_, '_> {
+/// Adds the branches of one route from the program's start to a point, the last one first.
+///
+/// # Errors
+/// If memory runs out.
+pub(crate) fn add_route(
+    branches: &mut Vec<Edge>,
+    ways: Ways<'_>,
+    point: PointKey,
+) -> Result<(), AllocError> {
+    let alloc = ways.subject.alloc;
+    let mut reached = BTreeMap::new(alloc);
+    reach_all(alloc, &mut reached, ways.edges)?;
+    add_branches(branches, ways, &reached, point)
+}
+
+/// One route to a point, by its branches, of which the last one is first.
+#[derive(Clone, Copy)]
+pub(crate) struct Route<'a> {
+    pub ways: Ways<'a>,
+    pub point: PointKey,
+    pub branches: &'a [Edge],
+}
+
+impl fmt::Display for Route<'_> {
     fn fmt<W: fmt::Write>(&self, f: &mut fmt::Formatter<W>) -> fmt::Result {
-        let place = self.subject.place(self.point);
-        if self.branches.is_empty() {
+        let subject = self.ways.subject;
+        let place = subject.place(self.point);
+        let count = self.branches.len();
+        if count == 0 {
             return write!(
                 f,
                 "From its start the program goes on to {place} without a branch."
@@ -130,15 +128,13 @@ impl fmt::Display for Route<'_, '_> {
             f,
             "One way from the program's start to {place} branches so:"
         )?;
-        let before = self.branches.len().saturating_sub(SHOWN_BRANCHES);
+        let before = count.saturating_sub(SHOWN_BRANCHES);
         if before > 0 {
             write!(f, "\n    {before} branches before")?;
         }
-        for branch in self.branches.iter().skip(before) {
-            let from = self.subject.place(branch.from);
-            let name = self.subject.name_at(branch.from);
-            let to = self.subject.place(branch.to);
-            write!(f, "\n    {from} {name} leads to {to}")?;
+        for edge in self.branches.iter().rev().skip(before) {
+            let to = subject.place(edge.to);
+            write!(f, "\n    {} leads to {to}", subject.landmark(edge.from))?;
         }
         Ok(())
     }

@@ -1,48 +1,45 @@
 //! What an instruction makes of what is known at its place.
 
-ghost use Rattle.std.specs.Prelude.{IfOk, reverse};
-ghost use Rattle.tt_setting.specs.Settings.{setting_of};
-ghost use Rattle.hintcheck_explain.specs.Representation.Causes.{TellsRefused};
-
+use crate::explored_program::ExploredProgram;
 use std::alloc::AllocError;
 use tt_abs::{Moves, State, step_at};
-use tt_code::Frame;
-use tt_setting::{Failed, Point, Setting, StepFault};
+use tt_family::PointKey;
+use tt_setting::{Failed, Point, StepFault};
 
 /// What comes of the instruction at a point.
-#[derive(Drop)]
+#[derive(Clone, Copy)]
 pub(crate) enum StepOutcome {
     /// None is there: it is the main program's end.
     Ends,
-    /// The program goes on, and this is known then.
-    Goes { moves: Moves, state: State },
+    /// The program goes on.
+    Goes(Moves),
     /// The instruction is refused.
     Refused(Failed),
 }
 
-/// Returns what comes of the instruction at a point, carried out on a copy of the state there.
+/// Returns what comes of the instruction at a point. Where the program goes on, `next` is then what is
+/// known after it.
 ///
 /// # Errors
 /// If memory runs out.
 pub(crate) fn outcome_at(
-    setting: &Setting<'_>,
-    frames: &[Frame],
-    offset: u32,
+    subject: &ExploredProgram<'_>,
+    point: PointKey,
     state: &State,
-) -> Result<StepOutcome, AllocError>
-    ensures refused { IfOk result
-        (TellsRefused (setting_of setting.now) (reverse frames.now) offset state.now) }
-{
-    let point = Point { frames, offset };
-    if setting.is_end(&point, offset) {
+    next: &mut State,
+) -> Result<StepOutcome, AllocError> {
+    let (context, offset) = point;
+    next.copy_from(state)?;
+    let frames = subject.frames(context)?;
+    let here = Point {
+        frames: frames.as_slice(),
+        offset,
+    };
+    if subject.setting.is_end(&here, offset) {
         return Ok(StepOutcome::Ends);
     }
-    let mut next = state.copy()?;
-    match step_at(setting, &point, &mut next) {
-        Ok(step) => Ok(StepOutcome::Goes {
-            moves: step.moves,
-            state: next,
-        }),
+    match step_at(subject.setting, &here, next) {
+        Ok(step) => Ok(StepOutcome::Goes(step.moves)),
         Err(StepFault::Refused(failed)) => Ok(StepOutcome::Refused(failed)),
         Err(StepFault::OutOfMemory(error)) => Err(error),
     }

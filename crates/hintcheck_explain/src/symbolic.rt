@@ -4,20 +4,19 @@ ghost use Rattle.tt_stream.specs.Streams.{CountsPrintFailure};
 ghost use Rattle.hintcheck_explain.specs.Faults.{TellsFailure};
 
 use crate::accepted::count_instructions;
-use crate::asked::Asked;
+use crate::asked::{Asked, place_of};
 use crate::cause::{tell_cause, tell_cause_of_program};
 use crate::effect_text::tell_effect;
-use crate::excerpt::{Code, Excerpt};
-use crate::explored_program::{code_of, instruction_at};
-use crate::knowledge::{StateText, tell_state};
+use crate::element::Element;
+use crate::excerpt::Excerpt;
+use crate::knowledge::{Calls, Knowledge};
 use crate::legend::Legend;
 use crate::origin_text::SymbolOriginText;
-use crate::trouble::{Trouble, trouble_of};
-use crate::view::{View, symbolic_cell};
-use hintcheck_report::{AnswerFault, Place, Refused};
+use crate::scene::Scene;
+use crate::view::View;
+use hintcheck_report::{AnswerFault, Refused};
 use std::alloc::Global;
-use tt_code::Reason;
-use tt_setting::{Name, Setting, Spot};
+use tt_setting::{Failed, Name, Setting, Spot};
 use tt_stream::{PrintFailed, Sink};
 use tt_symbolic_check::{Insight, KnownState, RefusedState, Site};
 
@@ -25,30 +24,13 @@ use tt_symbolic_check::{Insight, KnownState, RefusedState, Site};
 /// it.
 #[derive(Clone, Copy)]
 struct Searched<'a> {
+    alloc: Global,
     name: Name,
     setting: &'a Setting<'a>,
     insight: Option<&'a Insight>,
 }
 
 impl<'a> Searched<'a> {
-    /// Returns the spot of the program of this name.
-    fn spot(&self, program: Name) -> Spot {
-        if program == self.name {
-            return Spot::Main;
-        }
-        match program {
-            Name::Font => Spot::Font,
-            Name::Cvt => Spot::Prep,
-            Name::Glyph(_) => Spot::Main,
-        }
-    }
-
-    /// Returns the instructions around a place.
-    fn listing(&self, place: Place) -> Excerpt<'a> {
-        let code = code_of(self.setting, self.spot(place.program));
-        Excerpt::around(Code::Cut(code), place)
-    }
-
     /// Returns the state that is refused, if the search tells it.
     fn refused(&self) -> Option<&'a RefusedState> {
         self.insight?.refused.as_ref()
@@ -79,9 +61,14 @@ fn tell_accepted<O: Sink>(searched: Searched<'_>, out: &mut O) -> Result<(), Pri
     )
 }
 
+/// Returns where a state of the search is, and what is known there.
+fn scene_of<'a>(searched: Searched<'a>, known: &'a KnownState) -> Scene<'a> {
+    let state = &known.state;
+    Scene::at(searched.setting, Site::of(state), View::Symbolic(state))
+}
+
 /// Prints the open calls of a state of the search, and what is known in it.
 fn tell_known<O: Sink>(
-    alloc: Global,
     searched: Searched<'_>,
     known: &KnownState,
     out: &mut O,
@@ -89,15 +76,21 @@ fn tell_known<O: Sink>(
     ensures failures { TellsFailure result (O.failures out.old) (O.failures out.new) }
 {
     let state = &known.state;
-    let legend = Legend::of(alloc, state)?;
-    let text = StateText::Symbolic(state, &legend);
-    tell_state(searched.name, searched.setting, text, out)?;
+    let mut legend = Legend::new(searched.alloc, state.ranges.as_slice());
+    legend.add(searched.alloc, state)?;
+    let text = Knowledge {
+        program: searched.name,
+        setting: searched.setting,
+        calls: Calls::Symbolic(state.calls.as_slice()),
+        view: View::Symbolic(state),
+        legend: &legend,
+    };
+    writeln!(out, "{text}")?;
     Ok(())
 }
 
-/// Prints what the first states know that came to the place that is asked for.
+/// Prints what the first states know that came to the site that is asked for.
 fn tell_states<O: Sink>(
-    alloc: Global,
     searched: Searched<'_>,
     seen: &[KnownState],
     out: &mut O,
@@ -105,30 +98,25 @@ fn tell_states<O: Sink>(
     ensures failures { TellsFailure result (O.failures out.old) (O.failures out.new) }
 {
     for known in seen {
-        let instruction = instruction_at(searched.setting, Site::of(&known.state));
-        tell_effect(instruction.as_ref(), View::Symbolic(&known.state), out)?;
-        tell_known(alloc, searched, known, out)?;
+        tell_effect(scene_of(searched, known), out)?;
+        tell_known(searched, known, out)?;
     }
     Ok(())
 }
 
-/// Prints what is known at a place, and the instructions around it.
-fn tell_place<O: Sink>(
-    alloc: Global,
-    searched: Searched<'_>,
-    place: Place,
-    out: &mut O,
-) -> Result<(), AnswerFault>
+/// Prints what is known at a site, and the instructions around it.
+fn tell_site<O: Sink>(searched: Searched<'_>, site: Site, out: &mut O) -> Result<(), AnswerFault>
     ensures failures { TellsFailure result (O.failures out.old) (O.failures out.new) }
 {
-    let listing = searched.listing(place);
+    let place = place_of(searched.name, site);
+    let listing = Excerpt::at(searched.name, searched.setting, site);
     writeln!(out, "What is known at {place}:")?;
     match searched.insight {
         Some(insight) if insight.seen.is_empty() => {
             writeln!(out, "No run that was followed comes to {place}.")?;
         }
         Some(insight) => {
-            tell_states(alloc, searched, insight.seen.as_slice(), out)?;
+            tell_states(searched, insight.seen.as_slice(), out)?;
             if insight.has_more {
                 writeln!(out, "More states come here.")?;
             }
@@ -139,23 +127,20 @@ fn tell_place<O: Sink>(
     Ok(())
 }
 
-/// Prints where a number comes from, if the program is refused because that number isn't known well
-/// enough.
+/// Prints where a number comes from that isn't known well enough, if that is why this test fails.
 fn tell_origin<O: Sink>(
     searched: Searched<'_>,
     known: &KnownState,
-    trouble: Trouble,
+    failed: Failed,
     out: &mut O,
 ) -> Result<(), PrintFailed>
     ensures failures { CountsPrintFailure result (O.failures out.old) (O.failures out.new) }
 {
-    let Some(element) = trouble.element(known.state.stack.len()) else {
+    let view = View::Symbolic(&known.state);
+    let Some(element) = Element::unknown(failed, view.depth()) else {
         return Ok(());
     };
-    let Some(cell) = symbolic_cell(&known.state, element) else {
-        return Ok(());
-    };
-    let Some(origin) = known.origin(cell) else {
+    let Some(origin) = known.origin(view.cell(element)) else {
         return Ok(());
     };
     let text = SymbolOriginText {
@@ -166,48 +151,54 @@ fn tell_origin<O: Sink>(
     writeln!(out, "Where the number comes from: {text}")
 }
 
-/// Prints why a program is refused in this state, and what is known there.
+/// Prints why a program is refused in this state, since this test fails, and what is known there.
 fn tell_case<O: Sink>(
-    alloc: Global,
     searched: Searched<'_>,
-    refused: &RefusedState,
-    reason: Reason,
+    known: &KnownState,
+    failed: Failed,
     out: &mut O,
 ) -> Result<(), AnswerFault>
     ensures failures { TellsFailure result (O.failures out.old) (O.failures out.new) }
 {
-    let known = &refused.known;
-    let state = &known.state;
-    let view = View::Symbolic(state);
-    let trouble = trouble_of(searched.setting, view, refused.failed, reason);
-    tell_cause(
-        searched.setting,
-        instruction_at(searched.setting, Site::of(state)),
-        state.offset,
-        view,
-        reason,
-        trouble,
-        out,
-    )?;
-    tell_origin(searched, known, trouble, out)?;
-    tell_known(alloc, searched, known, out)
+    tell_cause(scene_of(searched, known), failed, None, out)?;
+    tell_origin(searched, known, failed, out)?;
+    tell_known(searched, known, out)
+}
+
+/// Returns the site of a refusal of the program of this name.
+fn site_of(program: Name, refused: Refused) -> Site {
+    let place = refused.place;
+    let spot = match place.program {
+        called if called == program => Spot::Main,
+        Name::Font => Spot::Font,
+        Name::Cvt => Spot::Prep,
+        Name::Glyph(_) => Spot::Main,
+    };
+    Site {
+        spot,
+        offset: place.offset,
+    }
 }
 
 /// Prints why a program is refused; where the search tells the state that is refused, what is known
 /// there; and the instructions around the place.
 fn tell_refusal<O: Sink>(
-    alloc: Global,
     searched: Searched<'_>,
     refused: Refused,
     out: &mut O,
 ) -> Result<(), AnswerFault>
     ensures failures { TellsFailure result (O.failures out.old) (O.failures out.new) }
 {
+    let reason = refused.reason;
     match searched.refused() {
-        Some(state) => tell_case(alloc, searched, state, refused.reason, out)?,
-        None => tell_cause_of_program(searched.setting, refused.reason, out)?,
+        Some(state) if state.failed.reason() == reason => {
+            tell_case(searched, &state.known, state.failed, out)?;
+        }
+        Some(state) => tell_case(searched, &state.known, Failed::Only(reason), out)?,
+        None => tell_cause_of_program(searched.setting, reason, out)?,
     }
-    let listing = searched.listing(refused.place);
+    let site = site_of(searched.name, refused);
+    let listing = Excerpt::at(searched.name, searched.setting, site);
     writeln!(out, "{listing}")?;
     Ok(())
 }
@@ -229,6 +220,7 @@ pub fn explain_symbolic<O: Sink>(
     ensures failures { TellsFailure result (O.failures out.old) (O.failures out.new) }
 {
     let searched = Searched {
+        alloc,
         name: asked.program,
         setting,
         insight,
@@ -237,9 +229,9 @@ pub fn explain_symbolic<O: Sink>(
         Some(refused) => writeln!(out, "{refused}")?,
         None => tell_accepted(searched, out)?,
     }
-    match (asked.place(), refused) {
-        (Some(place), _) => tell_place(alloc, searched, place, out),
-        (None, Some(refused)) => tell_refusal(alloc, searched, refused, out),
+    match (asked.site, refused) {
+        (Some(site), _) => tell_site(searched, site, out),
+        (None, Some(refused)) => tell_refusal(searched, refused, out),
         (None, None) => Ok(()),
     }
 }

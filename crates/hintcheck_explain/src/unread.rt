@@ -9,8 +9,7 @@ ghost use Rattle.hintcheck_report.specs.Texts.{refused_text};
 use crate::asked::Asked;
 use crate::excerpt::{Code, Excerpt};
 use crate::instruction_text::{length_by_code, name_of};
-use crate::meaning::{advice_of, class_of, class_text};
-use crate::trouble::Trouble;
+use crate::meaning::{advice_of, class_text};
 use hintcheck_report::Refused;
 use std::fmt;
 use tt_code::Reason;
@@ -80,7 +79,7 @@ pub fn explain_unread<O: Sink>(
     let refused = Refused::at(asked.program, Spot::Main, offset, reason);
     let rest = bytes.get(offset as usize..).unwrap_or(&[]);
     let why = UnreadText { rest, reason };
-    let class = class_of(reason, Trouble::Other);
+    let class = reason.class();
     let kind = class_text(reason, class);
     let advice = advice_of(reason, class, "");
     let listing = Excerpt::around(Code::Uncut(bytes), refused.place);

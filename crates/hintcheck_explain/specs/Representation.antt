@@ -1,4 +1,0 @@
--- How the code keeps what the definitions speak of: private contracts cite these, and no public one
--- does.
-pub mod Causes
-pub mod Needs
