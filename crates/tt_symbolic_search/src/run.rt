@@ -39,7 +39,7 @@ const MOST_SEEN: usize = 16;
 const MOST_CELLS: usize = 8_000_000;
 
 /// How many states may wait.
-const MOST_WAITING: usize = 1 << 10;
+const MOST_WAITING: usize = 1 << 14;
 
 /// What a run may rely on.
 #[derive(Clone, Copy)]
