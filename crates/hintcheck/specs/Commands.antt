@@ -28,13 +28,18 @@ font_status other = 2
 abbrev pub status_of : CommandFault → ℕ
 status_of fault.OutOfMemory = 3
 status_of fault.Budget = 3
-status_of (fault.Font font container) = font_status font
+status_of (fault.Font numbered) = font_status numbered.0
 status_of other = 2
 
 -- the fault is no failed write
 abbrev pub IsNoWriteFault : CommandFault → Type 0
 IsNoWriteFault fault.Write = ⊥
 IsNoWriteFault other = Unit {0}
+
+-- what holds of the place that a fault of form names
+abbrev pub AtForm : CommandFault → (ℕ → Type 0) → Type 0
+AtForm (fault.Form place) At = At place
+AtForm other At = Unit {0}
 
 -- the fault of a text that isn't printed
 abbrev pub fault_of_print : PrintFailed → CommandFault
@@ -53,7 +58,7 @@ fault_of_end exhausted.Budget = fault.Budget
 
 -- the fault of a font on which there is no answer; what is written there is a file
 abbrev pub fault_of_answer : AnswerFault → CommandFault
-fault_of_answer (answer.Font font) = fault.Font font Other
+fault_of_answer (answer.Font font) = fault.Font (record { 0 = font; 1 = Other })
 fault_of_answer (answer.Form place) = fault.Form place
 fault_of_answer answer.Read = fault.Read
 fault_of_answer answer.Write = fault.File

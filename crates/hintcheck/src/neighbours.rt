@@ -1,6 +1,8 @@
 //! The instructions around an offset of a program at which none begins.
 
-ghost use Rattle.std.specs.Prelude.{◌<◌, ◌^◌, length};
+ghost use Rattle.std.specs.Prelude.{◌≡◌, ◌<◌, ◌^◌, length, MatchOption, slice_get, Some};
+ghost use Rattle.hintcheck.specs.Explanations.{BeginsInstruction};
+ghost use Rattle.hintcheck.specs.Neighbours.{AreAround, IsFirstAfter, IsInstructionOf, IsLastBefore, NoneAfter, NoneBefore, code_name};
 
 use crate::asked_site::begins_instruction;
 use std::fmt;
@@ -14,7 +16,9 @@ pub struct Neighbour {
 }
 
 /// Returns the name of the code, `?` where it has none.
-fn name_of(code: u8) -> &'static str {
+fn name_of(code: u8) -> &'static str
+    ensures { result.now ≡ code_name code }
+{
     match name(code) {
         Some(name) => name,
         None => "?",
@@ -22,6 +26,11 @@ fn name_of(code: u8) -> &'static str {
 }
 
 impl fmt::Display for Neighbour {
+    ghost use Rattle.std.specs.Prelude.{Some};
+    ghost use Rattle.hintcheck.specs.Neighbours.{neighbour_text};
+
+    ghost output = { λ neighbour. Some (neighbour_text neighbour) };
+
     fn fmt<W: fmt::Write>(&self, f: &mut fmt::Formatter<W>) -> fmt::Result {
         let offset = self.offset;
         let name = name_of(self.code);
@@ -42,6 +51,11 @@ pub enum Neighbours {
 }
 
 impl fmt::Display for Neighbours {
+    ghost use Rattle.std.specs.Prelude.{Some};
+    ghost use Rattle.hintcheck.specs.Neighbours.{neighbours_text};
+
+    ghost output = { λ neighbours. Some (neighbours_text neighbours) };
+
     fn fmt<W: fmt::Write>(&self, f: &mut fmt::Formatter<W>) -> fmt::Result {
         match self {
             Neighbours::Between(before, after) => write!(f, ": {before}, {after}"),
@@ -51,26 +65,27 @@ impl fmt::Display for Neighbours {
     }
 }
 
-/// Returns the instruction that begins at the offset, if one does.
-fn neighbour_at(program: &[u8], offset: u32) -> Option<Neighbour>
-    requires { length program.now < 2 ^ 31 }
+/// Returns the instruction that begins at the offset.
+fn neighbour_at(program: &[u8], offset: u32) -> Neighbour
+    requires { BeginsInstruction program.now offset }
+    ensures instruction { IsInstructionOf program.now result }
+    ensures offset { result.offset ≡ offset }
 {
-    if !begins_instruction(program, offset) {
-        return None;
-    }
-    let code = *program.get(offset as usize)?;
-    Some(Neighbour { offset, code })
+    let code = program[offset as usize];
+    Neighbour { offset, code }
 }
 
 /// Returns the last instruction that begins before the offset, if one does.
 fn last_before(program: &[u8], offset: u32) -> Option<Neighbour>
     requires { length program.now < 2 ^ 31 }
+    ensures { MatchOption result
+        (NoneBefore program.now offset) (IsLastBefore program.now offset) }
 {
     let mut at = offset.min(program.len() as u32);
     while at > 0 {
         at -= 1;
-        if let Some(found) = neighbour_at(program, at) {
-            return Some(found);
+        if begins_instruction(program, at) {
+            return Some(neighbour_at(program, at));
         }
     }
     None
@@ -79,12 +94,14 @@ fn last_before(program: &[u8], offset: u32) -> Option<Neighbour>
 /// Returns the first instruction that begins after the offset, if one does.
 fn first_after(program: &[u8], offset: u32) -> Option<Neighbour>
     requires { length program.now < 2 ^ 31 }
+    ensures { MatchOption result
+        (NoneAfter program.now offset) (IsFirstAfter program.now offset) }
 {
     let mut at = offset;
     while (at as usize) < program.len() {
         at += 1;
-        if let Some(found) = neighbour_at(program, at) {
-            return Some(found);
+        if begins_instruction(program, at) {
+            return Some(neighbour_at(program, at));
         }
     }
     None
@@ -93,7 +110,9 @@ fn first_after(program: &[u8], offset: u32) -> Option<Neighbour>
 /// Returns what is around the offset, at which no instruction of the program begins. An instruction
 /// has at most 512 bytes, so that few offsets are looked at.
 pub(crate) fn neighbours_of(program: &[u8], offset: u32) -> Neighbours
-    requires { length program.now < 2 ^ 31 }
+    requires few { length program.now < 2 ^ 31 }
+    requires none { BeginsInstruction program.now offset → ⊥ }
+    ensures { AreAround program.now offset result }
 {
     let Some(before) = last_before(program, offset) else {
         return Neighbours::Nowhere;

@@ -1,4 +1,7 @@
 pub mod Building
+pub mod Faultless
+pub mod Line
 pub mod Meanings
-pub mod Names
+pub mod Rows
 pub mod Values
+pub mod Walks

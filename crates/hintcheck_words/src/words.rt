@@ -1,9 +1,9 @@
 //! What the words of a command line ask for.
 
-ghost use Rattle.std.specs.Prelude.{◌≡◌, ◌∷◌, [], IfErr, IfOk, Some, codes, is_some, false, map, option_map, string_bytes, true};
+ghost use Rattle.std.specs.Prelude.{◌≡◌, ◌∷◌, [], IfErr, IfOk, Some, codes, is_some, false, map, option_map, string_bytes};
 ghost use Rattle.clap.specs.Words.{app_of, new_app, rule_of, subcommand_rows_of};
 ghost use Rattle.hintcheck_words.specs.CommandLine.{bare, causes as causes_rule, expect as expect_rule, explain, fail_on as fail_on_rule, files_from as files_from_rule, flag, hintcheck, json as json_rule, list, needed as needed_rule, needs as needs_rule, needed_number as number_rule, numbers as numbers_rule, of_texts, of_texts_and_points, optional as optional_rule, points as points_rule, scan, symbolic as symbolic_rule, verdict};
-ghost use Rattle.hintcheck_words.specs.Requests.{IsMemoryIfTaken, MeetsSubcommand, asked, bare_request, check_request, detail_in, explain_request, fail_on_in, fail_on_named, find_request, flag_in, font_words_in, format_in, json_request, list_request, meaning, met, number_in, optional_in, optional_number_in, profile_in, request_of, rows_in, scan_format_in, scan_request, text_in, texts_in, texts_of, verdict_request};
+ghost use Rattle.hintcheck_words.specs.Requests.{HasFlag, HasLongNumberIfAny, HasNumber, HasPoints, IsMemoryIfTaken, IsReadable, IsReadableBare, IsReadableExplain, IsReadableScan, IsReadableVerdict, MeetsSubcommand, TellsFault, asked, bare_request, check_request, detail_in, explain_request, fail_on_in, fail_on_named, faults_in, find_request, flag_in, font_words_in, format_in, json_request, list_request, meaning, met, number_in, optional_in, optional_number_in, points_of, profile_in, request_of, rows_in, scan_format_in, scan_request, text_in, texts_in, texts_of, verdict_request};
 
 use clap::error::ErrorKind;
 use clap::{Arg, ArgAction, ArgMatches, Command, value_parser};
@@ -27,7 +27,9 @@ pub enum Profile {
 
 impl Profile {
     /// Returns how many points may be made, where that is limited: only the strict profile makes any.
-    pub fn points(self) -> Option<u64> {
+    pub fn points(self) -> Option<u64>
+        ensures { result ≡ points_of self }
+    {
         match self {
             Profile::Strict { points } => points,
             Profile::Symbolic { .. } => None,
@@ -42,6 +44,8 @@ pub enum FailOn {
     Refused,
     /// For those whose reason is a possible fault.
     Possible,
+    /// The word names no class of reasons, so that there is no scan.
+    Unknown,
 }
 
 /// The form in which answers are printed.
@@ -82,9 +86,8 @@ pub enum FontWords {
 pub struct ScanOptions {
     /// By which profile each font is checked.
     pub profile: Profile,
-    /// For which refused programs the scan fails; None where the word for them names no class of
-    /// reasons, so that there is no scan.
-    pub fail_on: Option<FailOn>,
+    /// For which refused programs the scan fails.
+    pub fail_on: FailOn,
     /// The form in which the answers are printed.
     pub format: Format,
     /// What the words of its fonts are.
@@ -645,15 +648,17 @@ fn all_texts(alloc: Global, values: &ArgMatches<'_>, id: &str) -> Result<Vec<Str
     Ok(texts)
 }
 
-/// Returns the number that the words give the argument, 0 where they give none.
+/// Returns the number that the words give the argument.
 fn number(values: &ArgMatches<'_>, id: &str) -> u16
+    requires { HasNumber 65535 (rows_in values.now) id.now }
     ensures { result ≡ number_in (rows_in values.now) id.now }
 {
-    values.get_one::<u16>(id).unwrap_or(0)
+    values.get_one::<u16>(id).unwrap()
 }
 
 /// Returns the limit of the points that the words give the option, if they give one.
 fn points(values: &ArgMatches<'_>, id: &str) -> Option<u64>
+    requires { HasLongNumberIfAny (rows_in values.now) id.now }
     ensures { result ≡ optional_number_in (rows_in values.now) id.now }
 {
     values.get_one::<u64>(id)
@@ -661,13 +666,16 @@ fn points(values: &ArgMatches<'_>, id: &str) -> Option<u64>
 
 /// Whether the words give the option, which takes no value.
 fn is_given(values: &ArgMatches<'_>, id: &str) -> bool
+    requires { HasFlag (rows_in values.now) id.now }
     ensures { result ≡ flag_in (rows_in values.now) id.now }
 {
-    values.get_one::<bool>(id).unwrap_or(false)
+    values.get_flag(id)
 }
 
 /// Returns the profile that the words ask for, with the limit that they give the option of this id.
 fn asked_profile(values: &ArgMatches<'_>, limit: &str) -> Profile
+    requires symbolic { HasFlag (rows_in values.now) (codes "SYMBOLIC") }
+    requires limit { HasLongNumberIfAny (rows_in values.now) limit.now }
     ensures { result ≡ profile_in (rows_in values.now) limit.now }
 {
     let limit = points(values, limit);
@@ -680,6 +688,7 @@ fn asked_profile(values: &ArgMatches<'_>, limit: &str) -> Profile
 
 /// Returns the form in which the words ask for an explanation.
 fn asked_format(values: &ArgMatches<'_>) -> Format
+    requires { HasFlag (rows_in values.now) (codes "JSON") }
     ensures { result ≡ format_in (rows_in values.now) }
 {
     if is_given(values, "JSON") {
@@ -691,6 +700,9 @@ fn asked_format(values: &ArgMatches<'_>) -> Format
 
 /// Returns the form in which the words ask for the answers of a scan.
 fn asked_scan_format(values: &ArgMatches<'_>) -> Format
+    requires json { HasFlag (rows_in values.now) (codes "JSON") }
+    requires causes { HasFlag (rows_in values.now) (codes "CAUSES") }
+    requires needs { HasFlag (rows_in values.now) (codes "NEEDS") }
     ensures { result ≡ scan_format_in (rows_in values.now) }
 {
     if is_given(values, "JSON") {
@@ -706,6 +718,7 @@ fn asked_scan_format(values: &ArgMatches<'_>) -> Format
 
 /// Returns what the words of a scan's fonts are.
 fn asked_words(values: &ArgMatches<'_>) -> FontWords
+    requires { HasFlag (rows_in values.now) (codes "LISTS") }
     ensures { result ≡ font_words_in (rows_in values.now) }
 {
     if is_given(values, "LISTS") {
@@ -717,6 +730,7 @@ fn asked_words(values: &ArgMatches<'_>) -> FontWords
 
 /// Returns what the words ask to be listed of an instruction.
 fn asked_detail(values: &ArgMatches<'_>) -> Detail
+    requires { HasFlag (rows_in values.now) (codes "NUMBERS") }
     ensures { result ≡ detail_in (rows_in values.now) }
 {
     if is_given(values, "NUMBERS") {
@@ -726,21 +740,24 @@ fn asked_detail(values: &ArgMatches<'_>) -> Detail
     }
 }
 
-/// Returns for which refused programs a scan fails, by the word that names their class of reasons,
-/// if it names one.
-fn class_named(word: &str) -> Option<FailOn>
+/// Returns for which refused programs a scan fails, by the word that names their class.
+fn class_named(word: &str) -> FailOn
     ensures { result ≡ fail_on_named word.now }
 {
-    (word == "possible").then_some(FailOn::Possible)
+    if word == "possible" {
+        FailOn::Possible
+    } else {
+        FailOn::Unknown
+    }
 }
 
 /// Returns for which refused programs the scan that the words ask for is to fail.
-fn asked_class(values: &ArgMatches<'_>) -> Option<FailOn>
+fn asked_class(values: &ArgMatches<'_>) -> FailOn
     ensures { result ≡ fail_on_in (rows_in values.now) }
 {
     match values.get_str("CLASS") {
         Some(word) => class_named(word),
-        None => Some(FailOn::Refused),
+        None => FailOn::Refused,
     }
 }
 
@@ -749,6 +766,7 @@ fn asked_class(values: &ArgMatches<'_>) -> Option<FailOn>
 /// # Errors
 /// If memory runs out.
 fn bare_task(alloc: Global, values: &ArgMatches<'_>) -> Result<Task, AllocError>
+    requires { IsReadableBare (rows_in values.now) }
     ensures { IfOk result (λ t. asked t ≡ bare_request (rows_in values.now)) }
 {
     Ok(Task::Bare {
@@ -778,6 +796,7 @@ fn one_text(alloc: Global, text: String) -> Result<Vec<String>, AllocError>
 /// # Errors
 /// If memory runs out.
 fn json_task(alloc: Global, values: &ArgMatches<'_>) -> Result<Task, AllocError>
+    requires { IsReadableVerdict (rows_in values.now) }
     ensures { IfOk result (λ t. asked t ≡ json_request (rows_in values.now)) }
 {
     let font = text(alloc, values, "FONT")?;
@@ -785,7 +804,7 @@ fn json_task(alloc: Global, values: &ArgMatches<'_>) -> Result<Task, AllocError>
         fonts: one_text(alloc, font)?,
         options: ScanOptions {
             profile: asked_profile(values, "POINTS"),
-            fail_on: Some(FailOn::Refused),
+            fail_on: FailOn::Refused,
             format: Format::Json,
             words: FontWords::Fonts,
         },
@@ -806,6 +825,7 @@ fn names_program(values: &ArgMatches<'_>) -> bool
 /// # Errors
 /// If memory runs out.
 fn explain_task(alloc: Global, values: &ArgMatches<'_>) -> Result<Task, AllocError>
+    requires { IsReadableExplain (rows_in values.now) }
     ensures { IfOk result (λ t. asked t ≡ explain_request (rows_in values.now)) }
 {
     if is_given(values, "JSON") && !names_program(values) {
@@ -827,6 +847,7 @@ fn explain_task(alloc: Global, values: &ArgMatches<'_>) -> Result<Task, AllocErr
 /// # Errors
 /// If memory runs out.
 fn verdict_task(alloc: Global, values: &ArgMatches<'_>) -> Result<Task, AllocError>
+    requires { IsReadableVerdict (rows_in values.now) }
     ensures { IfOk result (λ t. asked t ≡ verdict_request (rows_in values.now)) }
 {
     if is_given(values, "JSON") {
@@ -843,6 +864,7 @@ fn verdict_task(alloc: Global, values: &ArgMatches<'_>) -> Result<Task, AllocErr
 /// # Errors
 /// If memory runs out.
 fn scan_task(alloc: Global, values: &ArgMatches<'_>) -> Result<Task, AllocError>
+    requires { IsReadableScan (rows_in values.now) }
     ensures { IfOk result (λ t. asked t ≡ scan_request (rows_in values.now)) }
 {
     Ok(Task::Scan {
@@ -862,6 +884,7 @@ fn scan_task(alloc: Global, values: &ArgMatches<'_>) -> Result<Task, AllocError>
 /// # Errors
 /// If memory runs out.
 fn find_task(alloc: Global, values: &ArgMatches<'_>) -> Result<Task, AllocError>
+    requires { HasPoints (rows_in values.now) }
     ensures { IfOk result (λ t. asked t ≡ find_request (rows_in values.now)) }
 {
     Ok(Task::Find {
@@ -876,6 +899,7 @@ fn find_task(alloc: Global, values: &ArgMatches<'_>) -> Result<Task, AllocError>
 /// # Errors
 /// If memory runs out.
 fn check_task(alloc: Global, values: &ArgMatches<'_>) -> Result<Task, AllocError>
+    requires { HasPoints (rows_in values.now) }
     ensures { IfOk result (λ t. asked t ≡ check_request (rows_in values.now)) }
 {
     Ok(Task::Check {
@@ -890,6 +914,7 @@ fn check_task(alloc: Global, values: &ArgMatches<'_>) -> Result<Task, AllocError
 /// # Errors
 /// If memory runs out.
 fn list_task(alloc: Global, values: &ArgMatches<'_>) -> Result<Task, AllocError>
+    requires { HasFlag (rows_in values.now) (codes "NUMBERS") }
     ensures { IfOk result (λ t. asked t ≡ list_request (rows_in values.now)) }
 {
     Ok(Task::List {
@@ -904,7 +929,7 @@ fn list_task(alloc: Global, values: &ArgMatches<'_>) -> Result<Task, AllocError>
 /// # Errors
 /// If memory runs out.
 fn task_of(alloc: Global, name: &str, values: &ArgMatches<'_>) -> Result<Task, AllocError>
-    requires { is_some (request_of (name.now, rows_in values.now)) ≡ true }
+    requires { IsReadable (name.now, rows_in values.now) }
     ensures { IfOk result (λ t. request_of (name.now, rows_in values.now) ≡ Some (asked t)) }
 {
     match name {
@@ -932,6 +957,7 @@ fn matches_of<'a>(alloc: Global, words: &'a [&'a str]) -> Result<ArgMatches<'a>,
     ensures met { IfOk result (λ m. subcommand_rows_of m ≡ met (texts_of words.entry.now)) }
     ensures meets { IfOk result (λ m. MeetsSubcommand (subcommand_rows_of m)) }
     ensures refused { IfErr result (IsMemoryIfTaken (texts_of words.entry.now)) }
+    ensures faults { TellsFault (faults_in (texts_of words.entry.now)) result }
 {
     let command = command_line(alloc)?;
     match command.try_get_matches_from(words) {
@@ -953,6 +979,9 @@ pub fn read_words<'a>(alloc: Global, words: &'a [&'a str]) -> Result<Task, TaskF
     ensures asked { IfOk result (λ t. meaning (texts_of words.entry.now) ≡ Some (asked t)) }
     // Words that the command line takes are refused only when memory runs out.
     ensures refused { IfErr result (IsMemoryIfTaken (texts_of words.entry.now)) }
+    // A task comes only where clap finds no fault in the words; otherwise the fault is one that
+    // clap finds, or out of memory.
+    ensures faults { TellsFault (faults_in (texts_of words.entry.now)) result }
 {
     let matches = matches_of(alloc, words)?;
     match matches.subcommand() {

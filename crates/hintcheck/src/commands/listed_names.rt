@@ -1,7 +1,7 @@
 //! The names of font files that other files list, a line for each.
 
 ghost use Rattle.std.specs.Prelude.{IfErr};
-ghost use Rattle.hintcheck.specs.Commands.{IsNoWriteFault};
+ghost use Rattle.hintcheck.specs.CommandFaults.{IsFaultOfReading};
 
 use super::faults::CommandFault;
 use super::files::file_bytes;
@@ -70,13 +70,15 @@ pub(super) fn listed_names<R: Files + AllocGlobal>(
     rt: &R,
     lists: &[String],
 ) -> Result<Vec<String>, CommandFault>
-    ensures { IfErr result IsNoWriteFault }
+    ensures faults { IfErr result IsFaultOfReading }
 {
     let alloc = rt.alloc();
     let mut names = Vec::new(alloc);
     for list in lists {
         let bytes = file_bytes(rt, list_called(list))?;
-        add_names(alloc, &mut names, &bytes)?;
+        let Ok(()) = add_names(alloc, &mut names, &bytes) else {
+            return Err(CommandFault::OutOfMemory);
+        };
     }
     Ok(names)
 }

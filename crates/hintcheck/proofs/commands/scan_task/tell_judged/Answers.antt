@@ -1,34 +1,49 @@
-use Rattle.std.proofs.Common.{ℕ, refl, subst}
-use Rattle.std.proofs.lemmas.Result.{on_ok_weaker}
-use Rattle.hintcheck_explain.specs.Texts.{WritesFirst}
-use Rattle.hintcheck.specs.JsonObjects.{beginning}
-use Rattle.hintcheck.specs.Scans.{judged}
-use Rattle.hintcheck.proofs.ScannedLines.{only_nothing, tells_line, tells_object}
+use Rattle.std.proofs.Common.{subst}
+use Rattle.std.specs.Io.KnownBytes.{Appends}
+use Rattle.std.proofs.lemmas.Result.{IfErr-weaker, on_ok_weaker}
+use Rattle.hintcheck.proofs.TellingFaults.{causes_told, needs_told, object_told}
+use Rattle.hintcheck.proofs.ToldCauses.{tells_causes, tells_line, tells_needs, tells_object}
+use Rattle.hintcheck.specs.Scans.{TellsFont, judged, object_of}
 use Rattle.hintcheck.proofs.commands.scan_task.tell_judged.Goals as goal
 
 pub returns-in_ok-print_line-in-Lines-clause-written : goal.returns-in_ok-print_line-in-Lines-clause-written
 returns-in_ok-print_line-in-Lines-clause-written g c =
     let contents = g.O.Sink.contents in
-    let new = contents c.print_line.new.out in
-    tells_line c.args.options c.args.name.now c.args.font.now.verdict (contents c.args.out.now) new new (λ json. let lines = c.in-Lines.is in cc) (λ lines. refl) c.in_ok-print_line-in-Lines.ensures.written (only_nothing new)
+    tells_line c.args.options c.args.name.now (judged c.args.font.now.bytes.items c.args.font.now.verdict) (contents c.args.out.now) (contents c.print_line.new.out) c.in-Lines.is c.in_ok-print_line-in-Lines.ensures.written
 
-pub returns-in_ok-write-in-Causes-clause-written : goal.returns-in_ok-write-in-Causes-clause-written
-returns-in_ok-write-in-Causes-clause-written g c =
+pub returns-in-Causes-clause-written : goal.returns-in-Causes-clause-written
+returns-in-Causes-clause-written g c =
     let contents = g.O.Sink.contents in
-    tells_line c.args.options c.args.name.now c.args.font.now.verdict (contents c.args.out.now) (contents c.print_line-in-Causes.new.out) (contents c.write.new.self) (λ json. let causes = c.in-Causes.is in cc) (λ lines. let causes = c.in-Causes.is in absurd cc)
-    c.in_ok-print_line-in-Causes.ensures.written c.write.ensures.kept
+    on_ok_weaker c.print_with_causes.result (λ tells. subst (λ bytes. TellsFont c.args.options c.args.name.now (judged bytes c.args.font.now.verdict) (contents c.args.out.now) (contents c.print_with_causes.new.out)) c.as_slice-bytes.ensures.value
+    (tells_causes c.args.options c.args.name.now c.as_slice-bytes.result.now c.args.font.now.verdict (contents c.args.out.now) (contents c.print_with_causes.new.out) c.in-Causes.is tells)) c.print_with_causes.ensures.written
 
-pub returns-in_ok-write-in-Needs-clause-written : goal.returns-in_ok-write-in-Needs-clause-written
-returns-in_ok-write-in-Needs-clause-written g c =
-    let contents = g.O.Sink.contents in
-    tells_line c.args.options c.args.name.now c.args.font.now.verdict (contents c.args.out.now) (contents c.print_line-in-Needs.new.out) (contents c.write-in-Needs.new.self) (λ json. let needs = c.in-Needs.is in cc) (λ lines. let needs = c.in-Needs.is in absurd cc)
-    c.in_ok-print_line-in-Needs.ensures.written c.write-in-Needs.ensures.kept
+pub returns-in-Causes-clause-faults : goal.returns-in-Causes-clause-faults
+returns-in-Causes-clause-faults g c =
+    IfErr-weaker c.print_with_causes.result _ _ (λ told is. causes_told c.args.options told c.in-Causes.is is) c.print_with_causes.ensures.faults
 
 pub returns-in-Json-clause-written : goal.returns-in-Json-clause-written
 returns-in-Json-clause-written g c =
     let contents = g.O.Sink.contents in
     let old = contents c.args.out.now in
     let new = contents c.print_verdict_object.new.out in
+    let verdict = c.args.font.now.verdict in
     on_ok_weaker c.print_verdict_object.result
-    (λ first. tells_object c.args.options c.args.name.now (judged c.args.font.now.verdict) old new c.in-Json.is (subst (λ (status : ℕ). WritesFirst (beginning c.args.name.now c.args.options.profile status) old new) c.verdict_status-status.ensures first))
+    (λ written. tells_object c.args.options c.args.name.now (judged c.args.font.now.bytes.items verdict) old new c.in-Json.is
+    (subst (λ bytes. Appends old new (object_of c.args.options c.args.name.now (judged bytes verdict))) c.as_slice-bytes.ensures.value (rw (← c.requires) written)))
     c.print_verdict_object.ensures.written
+
+pub returns-in-Json-clause-faults : goal.returns-in-Json-clause-faults
+returns-in-Json-clause-faults g c =
+    IfErr-weaker c.print_verdict_object.result _ _ (λ told is. object_told c.args.options told c.in-Json.is is) c.print_verdict_object.ensures.faults
+
+pub returns-in-Needs-clause-written : goal.returns-in-Needs-clause-written
+returns-in-Needs-clause-written g c =
+    let contents = g.O.Sink.contents in
+    on_ok_weaker c.print_with_needs.result
+    (λ tells. subst (λ bytes. TellsFont c.args.options c.args.name.now (judged bytes c.args.font.now.verdict) (contents c.args.out.now) (contents c.print_with_needs.new.out)) c.as_slice-bytes.ensures.value
+    (tells_needs c.args.options c.args.name.now c.as_slice-bytes.result.now c.args.font.now.verdict (contents c.args.out.now) (contents c.print_with_needs.new.out) c.in-Needs.is tells))
+    c.print_with_needs.ensures.written
+
+pub returns-in-Needs-clause-faults : goal.returns-in-Needs-clause-faults
+returns-in-Needs-clause-faults g c =
+    IfErr-weaker c.print_with_needs.result _ _ (λ told is. needs_told c.args.options told c.in-Needs.is is) c.print_with_needs.ensures.faults
