@@ -10,6 +10,7 @@ exit status is then 1. It takes some ten seconds.
 
 from __future__ import annotations
 
+import functools
 import os
 import pathlib
 import shutil
@@ -75,7 +76,10 @@ class Trial:
         (self.room / "log").write_text("")
         environment = os.environ | {"PATH": f"{self.room}:{os.environ['PATH']}", "TMPDIR": str(self.room / "rooms")}
         streams = {"stdin": subprocess.DEVNULL, "stdout": subprocess.PIPE, "stderr": subprocess.STDOUT, "text": True}
-        return subprocess.Popen([sys.executable, self.top / "bench/build.py", "--lanes", "2", *words], env=environment, **streams)
+        # A shell's job in the background ignores interrupts, and hands that on.
+        heard = functools.partial(signal.signal, signal.SIGINT, signal.SIG_DFL)
+        command = [sys.executable, self.top / "bench/build.py", "--lanes", "2", *words]
+        return subprocess.Popen(command, env=environment, preexec_fn=heard, **streams)
 
     def build(self, *words: str) -> tuple[int, list[str]]:
         """Builds, and returns the status and what the stand-in noted."""
