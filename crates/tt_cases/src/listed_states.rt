@@ -1,10 +1,13 @@
 //! A guide of walks that goes by listed states.
 
+ghost use Rattle.std.specs.Prelude.{IfOk, IfSome};
+ghost use Rattle.tt_symbolic_check.specs.Moves.{IsFair};
+
 use std::alloc::{AllocError, Global};
 use tt_abs::Setting;
 use tt_setting::StepFault;
 use tt_symbolic::step::code_at;
-use tt_symbolic_check::{Guide, Move, Pool, START, Walk, covers_by, wanted};
+use tt_symbolic_check::{Guide, Move, Pool, Walk, covers_by, wanted};
 use tt_symbolic_state::State;
 
 /// Guides a walk: a state which a listed one covers is widened to that, which becomes a head; later
@@ -23,6 +26,24 @@ pub(crate) struct Listed<'a> {
     widened: Option<usize>,
     /// How many waited when a state was to stop: as many where it couldn't.
     stopping: Option<usize>,
+}
+
+/// Lets a state stop at the head of this number, if that covers it.
+fn stop_at(
+    walk: &Walk,
+    state: &State,
+    number: usize,
+    pool: &mut Pool,
+) -> Result<Option<Move>, AllocError>
+    ensures fair { IfOk result (λ chosen. IfSome chosen (IsFair walk.now state.now)) }
+{
+    let Some(head) = walk.heads.get(number) else {
+        return Ok(None);
+    };
+    if covers_by(&mut pool.assigned, state, head)? {
+        return Ok(Some(Move::Stop(number)));
+    }
+    Ok(None)
 }
 
 impl<'a> Listed<'a> {
@@ -47,20 +68,27 @@ impl<'a> Listed<'a> {
     /// Lets a state stop at a listed state that covers it, or be widened to that.
     fn meet(
         &mut self,
+        walk: &Walk,
+        state: &State,
         place: usize,
         pool: &mut Pool,
-        waiting: usize,
-    ) -> Result<Option<Move>, AllocError> {
+    ) -> Result<Option<Move>, AllocError>
+        ensures fair { IfOk result (λ chosen. IfSome chosen (IsFair walk.now state.now)) }
+    {
         let Some(there) = self.listed.get(place) else {
             return Ok(None);
         };
         self.next = place.saturating_add(1);
         if let Some(number) = self.heads.iter().position(|head| *head == place) {
-            self.stopping = Some(waiting);
-            return Ok(Some(Move::Stop(number)));
+            self.stopping = Some(walk.pending.len());
+            return stop_at(walk, state, number, pool);
+        }
+        let wider = pool.copied(there)?;
+        if !covers_by(&mut pool.assigned, state, &wider)? {
+            return Ok(None);
         }
         self.widened = Some(place);
-        Ok(Some(Move::Widen(pool.copied(there)?, usize::MAX)))
+        Ok(Some(Move::Widen(wider, usize::MAX)))
     }
 
     /// Returns the next listed state that covers a state.
@@ -74,23 +102,20 @@ impl<'a> Listed<'a> {
     }
 
     /// Chooses what becomes of a state.
-    fn chosen(
-        &mut self,
-        state: &State,
-        pool: &mut Pool,
-        waiting: usize,
-    ) -> Result<Move, AllocError> {
+    fn chosen(&mut self, walk: &Walk, state: &State, pool: &mut Pool) -> Result<Move, AllocError>
+        ensures fair { IfOk result (IsFair walk.now state.now) }
+    {
         if let Some(place) = self.widened.take() {
             self.heads.push(place)?;
             return Ok(Move::Head);
         }
         if let Some(before) = self.stopping.take() {
-            if waiting != before {
+            if walk.pending.len() != before {
                 self.next = 0;
             }
         }
         let place = self.covering(state, pool)?;
-        if let Some(chosen) = self.meet(place, pool, waiting)? {
+        if let Some(chosen) = self.meet(walk, state, place, pool)? {
             return Ok(chosen);
         }
         let code = code_at(self.setting, state);
@@ -105,11 +130,8 @@ impl<'a> Listed<'a> {
 }
 
 impl Guide for Listed<'_> {
-    fn choose(&mut self, walk: &Walk, state: &State, pool: &mut Pool) -> Move {
-        match self.chosen(state, pool, walk.pending.len()) {
-            Ok(chosen) => chosen,
-            Err(error) => Move::GiveUp(START, StepFault::from(error)),
-        }
+    fn choose(&mut self, walk: &Walk, state: &State, pool: &mut Pool) -> Result<Move, StepFault> {
+        Ok(self.chosen(walk, state, pool)?)
     }
 
     fn stepped(&mut self, state: &State) -> Result<(), AllocError> {

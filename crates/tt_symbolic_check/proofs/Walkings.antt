@@ -309,11 +309,12 @@ module _ (setting : Setting) (kept : Kept) where
       (λ final w. let (one, two) = from_both final b other.may_stop joined.value w in (widens other.may_stop other.state.value joined.value k two, widens b a joined.value h one))
       (put_reaches joined (b && other.may_stop) middle new p)
 
-  -- what was taken is put back, and the state waits
-  pub rejoin_reaches : (a : Box State Global) (b : Bool) (other : Pending) (old middle back new : Walk) → TakesPending old middle other → PutsPending other.state other.may_stop middle back → PutsPending a b back new → ReachesFrom setting kept old new b a.value
-  rejoin_reaches a b other old middle back new t p q =
-      take_then (λ final. Walks setting kept final other.may_stop other.state.value × Walks setting kept final b a.value) (λ final. Walks setting kept final b a.value) old middle new other t (λ final w. w)
-      (reaches_then middle back new (λ final. Walks setting kept final other.may_stop other.state.value) (λ final. Walks setting kept final b a.value) (λ final. Walks setting kept final other.may_stop other.state.value × Walks setting kept final b a.value) (λ final one two. (one, two)) (put_reaches other.state other.may_stop middle back p) (put_reaches a b back new q))
+  -- what waits covers the state, and is put back
+  pub meet_reaches : (a : State) (b : Bool) (other : Pending) (old middle new : Walk) → TakesPending old middle other → Covers a other.state.value → PutsPending other.state (b && other.may_stop) middle new → ReachesFrom setting kept old new b a
+  meet_reaches a b other old middle new t h p =
+      take_then (λ final. Walks setting kept final (b && other.may_stop) other.state.value) (λ final. Walks setting kept final b a) old middle new other t
+      (λ final w. let (one, two) = from_both final b other.may_stop other.state.value w in (two, widens b a other.state.value h one))
+      (put_reaches other.state (b && other.may_stop) middle new p)
 
   -- Runs.
 

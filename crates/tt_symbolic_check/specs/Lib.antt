@@ -5,3 +5,4 @@ pub mod Walking
 pub mod Answers
 pub mod Checked
 pub mod Laws
+pub mod Moves

@@ -78,6 +78,10 @@ abbrev pub ReachesFrom : Setting → Kept → Walk → Walk → Bool → State �
 ReachesFrom setting kept old new b a =
     Reaches setting kept old new (λ final. Walks setting kept final b a)
 
+-- the same of any setting, and whatever is kept
+abbrev pub LeadsFrom : Walk → Walk → Bool → State → Type 0
+LeadsFrom old new b a = (setting : Setting) (kept : Kept) → ReachesFrom setting kept old new b a
+
 -- the state waits too
 pub record PutsPending (state : Box State Global) (may_stop : Bool) (old new : Walk)
     : Type 0 where

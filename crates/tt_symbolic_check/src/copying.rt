@@ -78,13 +78,9 @@ pub fn copy_into(alloc: Global, state: &State, copy: &mut State) -> Result<(), A
 fn lower_range(range: Range, last: i32) -> Range
     ensures { (z : ℤ) → IsWithin range z → z ≤ℤ last → IsWithin result z }
 {
-    if last < range.high {
-        Range {
-            low: range.low,
-            high: last,
-        }
-    } else {
-        range
+    Range {
+        low: range.low,
+        high: last.min(range.high),
     }
 }
 
@@ -93,16 +89,10 @@ fn upper_range(range: Range, last: i32) -> Range
     ensures { (z : ℤ) → IsWithin range z → last <ℤ z → IsWithin result z }
 {
     match last.checked_add(1) {
-        Some(low) => {
-            if range.low < low {
-                Range {
-                    low,
-                    high: range.high,
-                }
-            } else {
-                range
-            }
-        }
+        Some(low) => Range {
+            low: low.max(range.low),
+            high: range.high,
+        },
         None => range,
     }
 }

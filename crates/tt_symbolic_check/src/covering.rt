@@ -129,13 +129,9 @@ fn agree_call(
     ensures extends { Extends assigned.old assigned.new }
     ensures agrees { result ≡ true → AgreeCall assigned.new ranges.now mine theirs }
 {
-    if mine.body != theirs.body {
-        return false;
-    }
-    if mine.call != theirs.call {
-        return false;
-    }
-    agree(assigned, ranges, mine.left, theirs.left)
+    mine.body == theirs.body
+        && mine.call == theirs.call
+        && agree(assigned, ranges, mine.left, theirs.left)
 }
 
 /// Whether the open calls agree.
@@ -206,34 +202,41 @@ fn agree_entries(
 {
     for i in 0..theirs.len() {
         let entry = theirs[i];
-        match listed_near(mine, i, entry.0) {
-            Some(cell) => {
-                if !agree(assigned, ranges, cell, entry.1) {
-                    return false;
-                }
-            }
-            None => return false,
+        let Some(cell) = listed_near(mine, i, entry.0) else {
+            return false;
+        };
+        if !agree(assigned, ranges, cell, entry.1) {
+            return false;
         }
     }
     true
 }
 
-/// Whether the functions of the covering state are those of the other, which may have more.
-pub fn has_functions(mine: &SortedMap<u32>, theirs: &[(u16, u32)]) -> bool
+/// Whether a map has each of these functions.
+fn has_each(mine: &SortedMap<u32>, theirs: &[(u16, u32)]) -> bool
     ensures { result ≡ true → CoversFunctions theirs.now mine.now }
 {
     for i in 0..theirs.len() {
         let entry = theirs[i];
-        match listed_near(mine, i, entry.0) {
-            Some(body) => {
-                if body != entry.1 {
-                    return false;
-                }
-            }
-            None => return false,
+        let Some(body) = listed_near(mine, i, entry.0) else {
+            return false;
+        };
+        if body != entry.1 {
+            return false;
         }
     }
     true
+}
+
+/// Whether the functions of the covering state are those of the other, which may have more. Mostly
+/// both have the same.
+pub fn has_functions(mine: &SortedMap<u32>, theirs: &SortedMap<u32>) -> bool
+    ensures { result ≡ true → CoversFunctions theirs.now mine.now }
+{
+    if mine.is_same(theirs) {
+        return true;
+    }
+    has_each(mine, theirs.as_slice())
 }
 
 /// Whether both are the same zone.
@@ -256,25 +259,13 @@ fn agree_graphics(
     ensures extends { Extends assigned.old assigned.new }
     ensures agrees { result ≡ true → AgreeGraphics assigned.new ranges.now mine.now theirs.now }
 {
-    if !is_same_zone(mine.zp0, theirs.zp0) {
-        return false;
-    }
-    if !is_same_zone(mine.zp1, theirs.zp1) {
-        return false;
-    }
-    if !is_same_zone(mine.zp2, theirs.zp2) {
-        return false;
-    }
-    if !agree(assigned, ranges, mine.rp0, theirs.rp0) {
-        return false;
-    }
-    if !agree(assigned, ranges, mine.rp1, theirs.rp1) {
-        return false;
-    }
-    if !agree(assigned, ranges, mine.rp2, theirs.rp2) {
-        return false;
-    }
-    agree(assigned, ranges, mine.loop_number, theirs.loop_number)
+    is_same_zone(mine.zp0, theirs.zp0)
+        && is_same_zone(mine.zp1, theirs.zp1)
+        && is_same_zone(mine.zp2, theirs.zp2)
+        && agree(assigned, ranges, mine.rp0, theirs.rp0)
+        && agree(assigned, ranges, mine.rp1, theirs.rp1)
+        && agree(assigned, ranges, mine.rp2, theirs.rp2)
+        && agree(assigned, ranges, mine.loop_number, theirs.loop_number)
 }
 
 /// Whether the cell that is assigned to a symbol is always in the symbol's range; where none is,
@@ -284,15 +275,7 @@ fn is_image_within(given: Option<Cell>, ranges: &[Range], range: Range) -> bool
 {
     match given {
         Some(cell) => match bounds(cell, ranges) {
-            Some((low, high)) => {
-                if low < i64::from(range.low) {
-                    return false;
-                }
-                if high > i64::from(range.high) {
-                    return false;
-                }
-                true
-            }
+            Some((low, high)) => low >= i64::from(range.low) && high <= i64::from(range.high),
             None => false,
         },
         None => range.low <= range.high,
@@ -323,35 +306,14 @@ fn agree_states(
 ) -> bool
     ensures { result ≡ true → AgreeStates assigned.new ranges.now mine.now theirs.now }
 {
-    if mine.offset != theirs.offset {
-        return false;
-    }
-    if !has_functions(&mine.functions, theirs.functions.as_slice()) {
-        return false;
-    }
-    if !agree_graphics(assigned, ranges, &mine.graphics, &theirs.graphics) {
-        return false;
-    }
-    if !agree_calls(
-        assigned,
-        ranges,
-        mine.calls.as_slice(),
-        theirs.calls.as_slice(),
-    ) {
-        return false;
-    }
-    if !agree_all(
-        assigned,
-        ranges,
-        mine.stack.as_slice(),
-        theirs.stack.as_slice(),
-    ) {
-        return false;
-    }
-    if !agree_entries(assigned, ranges, &mine.storage, theirs.storage.as_slice()) {
-        return false;
-    }
-    agree_entries(assigned, ranges, &mine.controls, theirs.controls.as_slice())
+    let (calls, stack) = (mine.calls.as_slice(), mine.stack.as_slice());
+    mine.offset == theirs.offset
+        && has_functions(&mine.functions, &theirs.functions)
+        && agree_graphics(assigned, ranges, &mine.graphics, &theirs.graphics)
+        && agree_calls(assigned, ranges, calls, theirs.calls.as_slice())
+        && agree_all(assigned, ranges, stack, theirs.stack.as_slice())
+        && agree_entries(assigned, ranges, &mine.storage, theirs.storage.as_slice())
+        && agree_entries(assigned, ranges, &mine.controls, theirs.controls.as_slice())
 }
 
 /// Whether the second state shows each machine that the first shows. The cells that are assigned to
@@ -400,9 +362,5 @@ pub fn covers_both(
     ensures { IfOk result (λ b. b ≡ true
         → Covers one.now joined.now × Covers other.now joined.now) }
 {
-    let covers = covers_by(assigned, one, joined)?;
-    if !covers {
-        return Ok(false);
-    }
-    covers_by(assigned, other, joined)
+    Ok(covers_by(assigned, one, joined)? && covers_by(assigned, other, joined)?)
 }

@@ -12,43 +12,13 @@ use tt_symbolic_state::state::State;
 const MOST_KEPT: usize = 32;
 
 /// Memory of a walk that is used again.
+#[derive(Drop)]
 pub struct Pool {
     alloc: Global,
     /// States that are done with.
     states: Vec<Box<State>>,
     /// What was assigned when states were compared last.
     pub assigned: Vec<Option<Cell>>,
-}
-
-// Written out, so that who holds a pool proves in one step that its memory is given back.
-impl Drop for Pool {
-    fn drop(self) {
-        let Pool {
-            alloc,
-            states,
-            assigned,
-        } = self;
-        drop(alloc);
-        drop(states);
-        drop(assigned);
-    }
-}
-
-/// Makes a copy of a state in new memory.
-fn new_copy(alloc: Global, state: &State) -> Result<Box<State>, AllocError>
-    ensures { IfOk result (λ b. IsCopy state.now b.value) }
-{
-    let copy = copied(alloc, state)?;
-    Ok(Box::new(alloc, copy)?)
-}
-
-/// Makes a state in a box a copy of another one.
-fn copy_in_box(alloc: Global, state: &State, used: Box<State>) -> Result<Box<State>, AllocError>
-    ensures { IfOk result (λ b. IsCopy state.now b.value) }
-{
-    let mut copy = used;
-    copy_into(alloc, state, &mut copy)?;
-    Ok(copy)
 }
 
 impl Pool {
@@ -69,8 +39,12 @@ impl Pool {
         ensures { IfOk result (λ b. IsCopy state.now b.value) }
     {
         match self.states.pop() {
-            Some(used) => copy_in_box(self.alloc, state, used),
-            None => new_copy(self.alloc, state),
+            Some(used) => {
+                let mut copy = used;
+                copy_into(self.alloc, state, &mut copy)?;
+                Ok(copy)
+            }
+            None => Ok(Box::new(self.alloc, self.exact_copy(state)?)?),
         }
     }
 

@@ -28,43 +28,20 @@ pub enum Decision {
     WhetherAgain,
 }
 
-/// Returns what a comparison decides.
-fn decision_of_computing(operation: Arithmetic) -> Option<Decision> {
-    match operation {
-        Arithmetic::Lt | Arithmetic::GtEq => Some(Decision::IsLess),
-        Arithmetic::LtEq | Arithmetic::Gt => Some(Decision::IsAtMost),
-        Arithmetic::Eq | Arithmetic::Neq => Some(Decision::AreEqual),
-        Arithmetic::Add
-        | Arithmetic::Sub
-        | Arithmetic::Abs
-        | Arithmetic::Neg
-        | Arithmetic::And
-        | Arithmetic::Or
-        | Arithmetic::Not => None,
-    }
-}
-
-/// Returns what a control instruction decides.
-fn decision_of_control(control: Control) -> Option<Decision> {
-    match control {
-        Control::If | Control::JumpIfTrue | Control::JumpIfFalse => Some(Decision::IsZero),
-        Control::Call => Some(Decision::WhichFunction),
-        Control::LoopCall => Some(Decision::WhetherRepeated),
-        Control::EndFunction => Some(Decision::WhetherAgain),
-        Control::Else
-        | Control::Jump
-        | Control::FunctionDefinition
-        | Control::InstructionDefinition => None,
-    }
-}
-
 /// Returns what the instructions of a code decide, if it is by numbers that a split can tell apart.
 pub fn decision_of(code: u8) -> Option<Decision> {
-    match entry(code) {
-        Effect::Arithmetic(operation) => decision_of_computing(*operation),
-        Effect::Control(control) => decision_of_control(*control),
-        Effect::NoEntry | Effect::Plain(_) | Effect::Push(_) | Effect::Stack(_) => None,
-    }
+    let decision = match entry(code) {
+        Effect::Arithmetic(Arithmetic::Lt | Arithmetic::GtEq) => Decision::IsLess,
+        Effect::Arithmetic(Arithmetic::LtEq | Arithmetic::Gt) => Decision::IsAtMost,
+        Effect::Arithmetic(Arithmetic::Eq | Arithmetic::Neq) => Decision::AreEqual,
+        Effect::Control(Control::If | Control::JumpIfTrue | Control::JumpIfFalse) =>
+            Decision::IsZero,
+        Effect::Control(Control::Call) => Decision::WhichFunction,
+        Effect::Control(Control::LoopCall) => Decision::WhetherRepeated,
+        Effect::Control(Control::EndFunction) => Decision::WhetherAgain,
+        _ => return None,
+    };
+    Some(decision)
 }
 
 /// Returns the range of the cell's symbol, if it has one.
@@ -144,22 +121,10 @@ fn compared(state: &State, widest: i64) -> Option<Cell> {
 /// Returns the split that LOOPCALL wants: of the function number, or of the count at 1.
 fn at_loop_call(state: &State) -> Option<Split> {
     let ranges = state.ranges.as_slice();
-    let top = state.stack.under(0)?;
-    match at_least(top, ranges) {
-        Some(split) => Some(split),
-        None => {
-            let count = state.stack.under(1)?;
-            at_bound(count, 1, ranges)
-        }
+    if let Some(split) = at_least(state.stack.under(0)?, ranges) {
+        return Some(split);
     }
-}
-
-/// Returns the split that ENDF wants: of what is left of the innermost call, at 1.
-fn at_end_of_body(state: &State) -> Option<Split> {
-    match state.calls.as_slice() {
-        [] => None,
-        [.., call] => at_bound(call.left, 1, state.ranges.as_slice()),
-    }
+    at_bound(state.stack.under(1)?, 1, ranges)
 }
 
 /// Returns the split that an instruction of this code wants in the state, if it wants one. A
@@ -173,6 +138,6 @@ pub fn wanted(code: u8, state: &State, widest: i64) -> Option<Split> {
         Decision::IsZero => at_zero(state.stack.under(0)?, ranges),
         Decision::WhichFunction => at_least(state.stack.under(0)?, ranges),
         Decision::WhetherRepeated => at_loop_call(state),
-        Decision::WhetherAgain => at_end_of_body(state),
+        Decision::WhetherAgain => at_bound(state.calls.last()?.left, 1, ranges),
     }
 }

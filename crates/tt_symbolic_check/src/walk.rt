@@ -1,15 +1,15 @@
 //! The walk: what waits is carried on, a state at a time, as a guide chooses, until nothing waits.
 
-ghost use Rattle.std.specs.Prelude.{◌≡◌, [], ℕ, IfErr, IfOk, IfSome, OnOk, None, false, length, true, ◌&&◌};
+ghost use Rattle.std.specs.Prelude.{◌≡◌, [], ℕ, IfErr, IfOk, IfSome, OnOk, None, Some, false, length, slice_get, ◌&&◌};
 ghost use Rattle.tt_setting.specs.Refusals.{IsOfNoBudget};
 ghost use Rattle.tt_symbolic_check.specs.Covering.{Covers};
-ghost use Rattle.tt_symbolic_check.specs.Walking.{Begins, EndsAs, Finishes, IsMet, NothingPending, PutsEnd, PutsHead, PutsPending, ReachesFrom, TakesPending};
+ghost use Rattle.tt_symbolic_check.specs.Moves.{CoversAt, IsCoveredAt, IsCoveredByHead, IsFair};
+ghost use Rattle.tt_symbolic_check.specs.Walking.{Begins, EndsAs, Finishes, IsMet, LeadsFrom, NothingPending, PutsEnd, PutsHead, PutsPending, ReachesFrom, TakesPending};
 
 use crate::copying::{Split, lower, raise};
-use crate::covering::{covers_both, covers_by};
 use crate::guide::{Guide, Move};
 use crate::pool::Pool;
-use crate::site::{Site, too_many_steps};
+use crate::site::{START, Site, too_many_steps};
 use crate::start::{Start, start_state};
 use std::alloc::{AllocError, Global};
 use tt_setting::{Point, Refusal, Setting, StepFault};
@@ -39,13 +39,6 @@ pub struct Walk {
     pub ends: Vec<State>,
 }
 
-/// Puts a state into a box.
-fn boxed(alloc: Global, state: State) -> Result<Box<State>, AllocError>
-    ensures { IfOk result (λ b. b.value ≡ state) }
-{
-    Ok(Box::new(alloc, state)?)
-}
-
 /// Lets a state wait at a place, or behind all that waits.
 fn put_pending(
     walk: &mut Walk,
@@ -63,6 +56,7 @@ fn put_pending(
 /// Takes what waits at a place.
 fn take_pending(walk: &mut Walk, place: usize) -> Option<Pending>
     ensures some { IfSome result (TakesPending walk.old walk.new) }
+    ensures found { IfSome result (λ p. slice_get walk.old.pending.items place ≡ Some p) }
     ensures none { result ≡ None → walk.new ≡ walk.old }
 {
     if place >= walk.pending.len() {
@@ -114,15 +108,12 @@ pub fn is_at_end(setting: &Setting<'_>, state: &State) -> bool
 /// Carries on the lower part of a state, and lets the upper one wait at a place.
 fn split_up(
     pool: &mut Pool,
-    setting: &Setting<'_>,
-    kept: &Kept<'_>,
     walk: &mut Walk,
     entry: Pending,
     split: Split,
     place: usize,
 ) -> Result<(), AllocError>
-    ensures { OnOk result
-        (ReachesFrom setting.now kept.now walk.old walk.new entry.may_stop entry.state.value) }
+    ensures { OnOk result (LeadsFrom walk.old walk.new entry.may_stop entry.state.value) }
 {
     let Pending { state, may_stop } = entry;
     let mut low = pool.copied(&state)?;
@@ -163,28 +154,19 @@ fn carry_on<G: Guide>(
     }
 }
 
-/// Lets a wider state wait at a place instead of the one that was taken, if it covers that.
+/// Lets a wider state wait at a place instead of the one that was taken, which it covers.
 fn widen(
     pool: &mut Pool,
-    setting: &Setting<'_>,
-    kept: &Kept<'_>,
     walk: &mut Walk,
     entry: Pending,
     wider: Box<State>,
     place: usize,
 ) -> Result<(), AllocError>
-    ensures { OnOk result
-        (ReachesFrom setting.now kept.now walk.old walk.new entry.may_stop entry.state.value) }
+    requires { Covers entry.state.value wider.value }
+    ensures { OnOk result (LeadsFrom walk.old walk.new entry.may_stop entry.state.value) }
 {
-    let Pending { state, may_stop } = entry;
-    let covers = covers_by(&mut pool.assigned, &state, &wider)?;
-    if covers {
-        pool.keep(state)?;
-        put_pending(walk, place, wider, may_stop)?;
-        return Ok(());
-    }
-    pool.keep(wider)?;
-    put_pending(walk, NEXT, state, may_stop)
+    pool.keep(entry.state)?;
+    put_pending(walk, place, wider, entry.may_stop)
 }
 
 /// Whether both are so.
@@ -194,46 +176,47 @@ fn both(one: bool, other: bool) -> bool
     one && other
 }
 
+/// Lets a state go no further, since the one that waits at a place covers it.
+fn meet(pool: &mut Pool, walk: &mut Walk, entry: Pending, place: usize) -> Result<(), AllocError>
+    requires { IsCoveredAt walk.old.pending.items place entry.state.value }
+    ensures { OnOk result (LeadsFrom walk.old walk.new entry.may_stop entry.state.value) }
+{
+    let Some(other) = take_pending(walk, place) else {
+        return put_pending(walk, NEXT, entry.state, entry.may_stop);
+    };
+    pool.keep(entry.state)?;
+    put_pending(
+        walk,
+        place,
+        other.state,
+        both(entry.may_stop, other.may_stop),
+    )
+}
+
 /// Lets a joined state wait instead of two, the one that was taken and the one that waits at a
-/// place, if it covers both.
+/// place: it covers both.
 fn join(
     pool: &mut Pool,
-    setting: &Setting<'_>,
-    kept: &Kept<'_>,
     walk: &mut Walk,
     entry: Pending,
     place: usize,
     joined: Box<State>,
 ) -> Result<(), AllocError>
-    ensures { OnOk result
-        (ReachesFrom setting.now kept.now walk.old walk.new entry.may_stop entry.state.value) }
+    requires one { Covers entry.state.value joined.value }
+    requires other { CoversAt walk.old.pending.items place joined.value }
+    ensures { OnOk result (LeadsFrom walk.old walk.new entry.may_stop entry.state.value) }
 {
     let Some(other) = take_pending(walk, place) else {
         return put_pending(walk, NEXT, entry.state, entry.may_stop);
     };
-    let covers = covers_both(&mut pool.assigned, &entry.state, &other.state, &joined)?;
-    if covers {
-        pool.keep(entry.state)?;
-        pool.keep(other.state)?;
-        put_pending(walk, place, joined, both(entry.may_stop, other.may_stop))?;
-        return Ok(());
-    }
-    pool.keep(joined)?;
-    put_pending(walk, place, other.state, other.may_stop)?;
-    put_pending(walk, NEXT, entry.state, entry.may_stop)?;
-    Ok(())
+    pool.keep(entry.state)?;
+    pool.keep(other.state)?;
+    put_pending(walk, place, joined, both(entry.may_stop, other.may_stop))
 }
 
 /// Makes a head of a copy of a state, which is carried on: it stops at no head before its next step.
-fn begin_head(
-    pool: &mut Pool,
-    setting: &Setting<'_>,
-    kept: &Kept<'_>,
-    walk: &mut Walk,
-    entry: Pending,
-) -> Result<(), AllocError>
-    ensures { OnOk result
-        (ReachesFrom setting.now kept.now walk.old walk.new entry.may_stop entry.state.value) }
+fn begin_head(pool: &mut Pool, walk: &mut Walk, entry: Pending) -> Result<(), AllocError>
+    ensures { OnOk result (LeadsFrom walk.old walk.new entry.may_stop entry.state.value) }
 {
     let head = pool.exact_copy(&entry.state)?;
     put_head(walk, head)?;
@@ -241,43 +224,18 @@ fn begin_head(
     Ok(())
 }
 
-/// Whether the head of this number covers a state that may stop.
-fn may_stop_at(
-    pool: &mut Pool,
-    walk: &Walk,
-    entry: &Pending,
-    place: usize,
-) -> Result<bool, AllocError>
-    ensures { IfOk result (λ b. b ≡ true
-        → (entry.now.may_stop ≡ true) × IsMet walk.now entry.now.state.value) }
+/// Lets a state go no further, if it may stop, since the head of this number covers it.
+fn stop(pool: &mut Pool, walk: &mut Walk, entry: Pending, place: usize) -> Result<(), AllocError>
+    requires { IsCoveredByHead walk.old.heads.items place entry.state.value }
+    ensures { OnOk result (LeadsFrom walk.old walk.new entry.may_stop entry.state.value) }
 {
     match walk.heads.get(place) {
-        Some(head) if entry.may_stop => {
-            let covers = covers_by(&mut pool.assigned, &entry.state, head)?;
-            Ok(covers)
+        Some(_) if entry.may_stop => {
+            pool.keep(entry.state)?;
+            Ok(())
         }
-        _ => Ok(false),
+        _ => put_pending(walk, NEXT, entry.state, entry.may_stop),
     }
-}
-
-/// Lets a state go no further, if the head of this number covers it.
-fn stop(
-    pool: &mut Pool,
-    setting: &Setting<'_>,
-    kept: &Kept<'_>,
-    walk: &mut Walk,
-    entry: Pending,
-    place: usize,
-) -> Result<(), AllocError>
-    ensures { OnOk result
-        (ReachesFrom setting.now kept.now walk.old walk.new entry.may_stop entry.state.value) }
-{
-    let stops = may_stop_at(pool, walk, &entry, place)?;
-    if stops {
-        pool.keep(entry.state)?;
-        return Ok(());
-    }
-    put_pending(walk, NEXT, entry.state, entry.may_stop)
 }
 
 /// Does with a state what was chosen.
@@ -290,47 +248,19 @@ fn go_on<G: Guide>(
     chosen: Move,
     guide: &mut G,
 ) -> Result<(), StepFault>
+    requires { IsFair walk.old entry.state.value chosen }
     ensures { OnOk result
         (ReachesFrom setting.now kept.now walk.old walk.new entry.may_stop entry.state.value) }
 {
     match chosen {
-        Move::Go => {
-            carry_on(setting, kept, walk, entry.state, guide)?;
-            Ok(())
-        }
-        Move::Split(split, place) => {
-            split_up(pool, setting, kept, walk, entry, split, place)?;
-            Ok(())
-        }
-        Move::Wait(place) => {
-            put_pending(walk, place, entry.state, entry.may_stop)?;
-            Ok(())
-        }
-        Move::Widen(wider, place) => {
-            widen(pool, setting, kept, walk, entry, wider, place)?;
-            Ok(())
-        }
-        Move::Join(place, joined) => {
-            join(pool, setting, kept, walk, entry, place, joined)?;
-            Ok(())
-        }
-        Move::Head => {
-            begin_head(pool, setting, kept, walk, entry)?;
-            Ok(())
-        }
-        Move::Stop(place) => {
-            stop(pool, setting, kept, walk, entry, place)?;
-            Ok(())
-        }
-        Move::GiveUp(_, fault) => Err(fault),
-    }
-}
-
-/// Returns where a move is refused that was chosen for a state.
-fn site_of(state: &State, chosen: &Move) -> Site {
-    match chosen {
-        Move::GiveUp(site, _) => *site,
-        _ => Site::of(state),
+        Move::Go => carry_on(setting, kept, walk, entry.state, guide),
+        Move::Split(split, place) => Ok(split_up(pool, walk, entry, split, place)?),
+        Move::Wait(place) => Ok(put_pending(walk, place, entry.state, entry.may_stop)?),
+        Move::Widen(wider, place) => Ok(widen(pool, walk, entry, wider, place)?),
+        Move::Meet(place) => Ok(meet(pool, walk, entry, place)?),
+        Move::Join(place, joined) => Ok(join(pool, walk, entry, place, joined)?),
+        Move::Head => Ok(begin_head(pool, walk, entry)?),
+        Move::Stop(place) => Ok(stop(pool, walk, entry, place)?),
     }
 }
 
@@ -360,7 +290,7 @@ pub fn begin(
     let mut walk = fresh_walk(alloc, setting, kept, starts);
     for i in 0..starts.len() {
         let start = start_state(alloc, &starts[i])?;
-        let state = boxed(alloc, start)?;
+        let state = Box::new(alloc, start)?;
         put_pending(&mut walk, NEXT, state, true)?;
     }
     Ok(walk)
@@ -370,7 +300,8 @@ pub fn begin(
 ///
 /// # Errors
 /// `TooManySteps`, at the program's start, where something waits after so many moves; otherwise
-/// where an instruction is refused and why, where the guide gives up, or that memory ran out.
+/// where an instruction is refused and why, why the guide gives up, at the program's start, or that
+/// memory ran out.
 pub fn walk_on<G: Guide>(
     pool: &mut Pool,
     setting: &Setting<'_>,
@@ -386,8 +317,11 @@ pub fn walk_on<G: Guide>(
         let Some(entry) = take_next(walk) else {
             return Ok(());
         };
-        let chosen = guide.choose(walk, &entry.state, pool);
-        let site = site_of(&entry.state, &chosen);
+        let site = Site::of(&entry.state);
+        let chosen = match guide.choose(walk, &entry.state, pool) {
+            Ok(chosen) => chosen,
+            Err(fault) => return Err(START.refused(fault)),
+        };
         if let Err(fault) = go_on(pool, setting, kept, walk, entry, chosen, guide) {
             return Err(site.refused(fault));
         }

@@ -1,17 +1,21 @@
 //! Where states of a run are put down: where others may meet them, and at the heads of loops.
 
+ghost use Rattle.std.specs.Prelude.{IfOk};
+ghost use Rattle.tt_symbolic_check.specs.Moves.{IsFair};
+
 use crate::blending::{Manner, blend};
 use crate::boxes::{Sharing, rename};
-use crate::run::{Head, Run, Way};
+use crate::run::{Chosen, Head, Here, Run, Way};
 use crate::signature::signature;
 use crate::stepping::Led;
 use crate::track::{Seen, Track, weight};
 use crate::waiting::Purpose;
 use std::alloc::AllocError;
+use tt_setting::Kind;
 use tt_symbolic_check::{Move, Pool, Site, Walk, covers_both, covers_by, is_at_end};
 use tt_symbolic_state::State;
 
-/// How many steps a state makes beside another one before it is put down.
+/// How many steps a state makes, since it was last seen alone, before others are looked for.
 const MOST_CROWDED: u32 = 40;
 
 /// After how many turns of a known number a state is put down.
@@ -32,14 +36,19 @@ fn at_head(rises: u32) -> Manner {
 }
 
 impl Run<'_, '_> {
-    /// Returns the hash of what states have in common that are joined.
+    /// Returns the hash of what states have in common that are joined. All states of a glyph program
+    /// have the same functions.
     fn signature(&self, state: &State, way: &Way) -> u64 {
-        signature(way.seen(state), self.task.functions, self.task.apart)
+        let functions = match self.task.setting.kind {
+            Kind::Glyph { .. } => &[],
+            Kind::Font | Kind::Cvt => state.functions.as_slice(),
+        };
+        signature(way.seen(state), functions, self.task.apart)
     }
 
     /// Whether the state must be put down where it is, since a loop is there that may not end.
-    fn must_arrive(&self, state: &State, way: &Way) -> bool {
-        if way.led != Led::Back {
+    fn must_arrive(&self, state: &State, way: &Way, led: Led) -> bool {
+        if led != Led::Back {
             return false;
         }
         if !self.waiting.is_empty() {
@@ -50,109 +59,94 @@ impl Run<'_, '_> {
             || state.calls.iter().any(|call| call.left.factor != 0)
     }
 
-    /// Whether the state may meet others where it is: one waits there, or at a place before.
-    fn may_meet(&self, state: &State, way: &Way, is_marked: bool) -> bool {
-        way.crowded > 0
-            && (is_marked
-                || way.led != Led::On
-                || way.crowded > MOST_CROWDED
-                || is_at_end(self.task.setting, state))
+    /// Whether the state may meet others where it is: one waits there, or at a place before. It is
+    /// looked for only where states are put down, since most steps lead on.
+    fn may_meet(&self, here: Here<'_>, way: &mut Way, led: Led, is_marked: bool) -> bool {
+        let is_looked_for = is_marked
+            || led != Led::On
+            || way.crowded > MOST_CROWDED
+            || is_at_end(self.task.setting, here.state);
+        if !is_looked_for {
+            return false;
+        }
+        let may_meet = self.waiting.has_behind(here.walk, way.seen(here.state));
+        if !may_meet {
+            way.crowded = 0;
+        }
+        may_meet
     }
 
-    /// Decides whether a state is put down that has just made a step.
-    pub(crate) fn arrive(
-        &mut self,
-        walk: &Walk,
-        state: &State,
-        pool: &mut Pool,
-        way: Way,
-    ) -> Result<Move, AllocError> {
+    /// Decides whether a state is put down that has just made a step, which has led there.
+    pub(crate) fn arrive(&mut self, here: Here<'_>, pool: &mut Pool, way: Way, led: Led) -> Chosen
+        ensures fair { IfOk result (IsFair here.entry.walk.now here.entry.state.now) }
+    {
         let mut way = way;
-        self.count_crowded(walk, state, &mut way);
-        let must = self.must_arrive(state, &way);
-        if !must && way.crowded == 0 && self.heads.is_empty() {
-            return self.go_on(walk, state, pool, way);
+        way.crowded = way.crowded.saturating_add(1);
+        let must = self.must_arrive(here.state, &way, led);
+        let is_marked = self.marks.at(Site::of(here.state));
+        let may_meet = self.may_meet(here, &mut way, led, is_marked);
+        let may_stop = must || is_marked && !self.heads.is_empty();
+        if may_meet || may_stop {
+            way.signature = self.signature(here.state, &way);
         }
-        let is_marked = self.marks.at(Site::of(state));
-        if must || is_marked && !self.heads.is_empty() {
-            let signature = self.signature(state, &way);
-            if let Some(number) = self.heads.get(&signature).map(|head| head.number) {
-                return self.stop(walk, state, pool, way, signature, number);
+        if may_stop {
+            if let Some(number) = self.heads.get(&way.signature).map(|head| head.number) {
+                return self.stop(here, pool, way, number);
             }
-            if must && self.came_back.contains(&signature) {
-                return self.rise(walk, state, pool, way, signature);
+            if must && self.came_back.contains(&way.signature) {
+                return self.rise(here, pool, way);
             }
             if must {
-                self.came_back.insert(signature)?;
+                let inserted = self.came_back.insert(way.signature);
+                inserted.map_err(|_| AllocError)?;
             }
         }
-        if self.may_meet(state, &way, is_marked) {
-            return self.meet(walk, state, pool, way);
+        if may_meet {
+            return self.meet(here, pool, way);
         }
-        self.go_on(walk, state, pool, way)
+        self.go_on(here, pool, way)
     }
 
-    /// Counts the steps that a state makes while another one waits behind it.
-    fn count_crowded(&self, walk: &Walk, state: &State, way: &mut Way) {
-        way.crowded = if self.waiting.has_behind(walk, way.seen(state)) {
-            way.crowded.saturating_add(1)
-        } else {
-            0
-        };
-    }
-
-    /// Lets a state wait where it is.
-    fn put_down(
-        &mut self,
-        walk: &Walk,
-        state: &State,
-        way: Way,
-        purpose: Purpose,
-    ) -> Result<Move, AllocError> {
+    /// Lets a state wait where it is, to be joined with others.
+    fn put_down(&mut self, here: Here<'_>, way: Way) -> Chosen
+        ensures fair { IfOk result (IsFair here.entry.walk.now here.entry.state.now) }
+    {
+        let Here { walk, state } = here;
         self.marks.set(Site::of(state));
+        let purpose = Purpose::Meeting(way.signature);
         let index = self.waiting.put(walk, state, purpose, way.history)?;
         Ok(Move::Wait(index))
     }
 
     /// Lets a state wait where others may meet it, or joins it with one that waits there.
-    fn meet(
-        &mut self,
-        walk: &Walk,
-        state: &State,
-        pool: &mut Pool,
-        way: Way,
-    ) -> Result<Move, AllocError> {
-        let signature = self.signature(state, &way);
-        match self.waiting.meeting(walk, way.seen(state), signature) {
-            Some(index) => self.join(walk, state, pool, way, signature, index),
-            None => self.put_down(walk, state, way, Purpose::Meeting(signature)),
+    fn meet(&mut self, here: Here<'_>, pool: &mut Pool, way: Way) -> Chosen
+        ensures fair { IfOk result (IsFair here.entry.walk.now here.entry.state.now) }
+    {
+        let Here { walk, state } = here;
+        match self.waiting.meeting(walk, way.seen(state), way.signature) {
+            Some(index) => self.join(here, pool, way, index),
+            None => self.put_down(here, way),
         }
     }
 
     /// Joins a state with the one that waits at an index of the list, if one state can cover both.
-    fn join(
-        &mut self,
-        walk: &Walk,
-        state: &State,
-        pool: &mut Pool,
-        way: Way,
-        signature: u64,
-        index: usize,
-    ) -> Result<Move, AllocError> {
-        let Some(other) = walk.pending.get(index) else {
-            return self.put_down(walk, state, way, Purpose::Meeting(signature));
+    fn join(&mut self, here: Here<'_>, pool: &mut Pool, way: Way, index: usize) -> Chosen
+        ensures fair { IfOk result (IsFair here.entry.walk.now here.entry.state.now) }
+    {
+        let Some(other) = here.walk.pending.get(index) else {
+            return self.put_down(here, way);
         };
-        if covers_by(&mut pool.assigned, state, &other.state)? {
+        if covers_by(&mut pool.assigned, here.state, &other.state)? {
             self.waiting.spare(way.history)?;
-            return Ok(Move::Join(index, pool.copied(&other.state)?));
+            return Ok(Move::Meet(index));
         }
-        let mut joined = self.copied(pool, way.seen(state))?;
+        let mut joined = self.copied(pool, way.seen(here.state))?;
         self.blend_with(&other.state, index, &mut joined)?;
-        if !covers_both(&mut pool.assigned, state, &other.state, &joined.state)? {
-            pool.keep(joined.state)?;
-            return self.put_down(walk, state, way, Purpose::Meeting(signature));
-        }
         let Track { state, history } = joined;
+        if !covers_both(&mut pool.assigned, here.state, &other.state, &state)? {
+            pool.keep(state)?;
+            return self.put_down(here, way);
+        }
         self.waiting.exchange(index, history)?;
         self.waiting.spare(way.history)?;
         Ok(Move::Join(index, state))
@@ -180,48 +174,38 @@ impl Run<'_, '_> {
     }
 
     /// Lets a state go no further, if the head of this number covers it, and otherwise rise.
-    fn stop(
-        &mut self,
-        walk: &Walk,
-        state: &State,
-        pool: &mut Pool,
-        way: Way,
-        signature: u64,
-        number: usize,
-    ) -> Result<Move, AllocError> {
-        if let Some(head) = walk.heads.get(number) {
-            if covers_by(&mut pool.assigned, state, head)? {
+    fn stop(&mut self, here: Here<'_>, pool: &mut Pool, way: Way, number: usize) -> Chosen
+        ensures fair { IfOk result (IsFair here.entry.walk.now here.entry.state.now) }
+    {
+        if let Some(head) = here.walk.heads.get(number) {
+            if covers_by(&mut pool.assigned, here.state, head)? {
                 self.waiting.spare(way.history)?;
                 return Ok(Move::Stop(number));
             }
         }
-        self.rise(walk, state, pool, way, signature)
+        self.rise(here, pool, way)
     }
 
     /// Lets a state that no head covers wait to become one, widened, or joins it with one that waits
     /// so.
-    fn rise(
-        &mut self,
-        walk: &Walk,
-        state: &State,
-        pool: &mut Pool,
-        way: Way,
-        signature: u64,
-    ) -> Result<Move, AllocError> {
-        if let Some(index) = self.waiting.head(signature) {
-            return self.join(walk, state, pool, way, signature, index);
+    fn rise(&mut self, here: Here<'_>, pool: &mut Pool, way: Way) -> Chosen
+        ensures fair { IfOk result (IsFair here.entry.walk.now here.entry.state.now) }
+    {
+        if let Some(index) = self.waiting.head(way.signature) {
+            return self.join(here, pool, way, index);
         }
-        let mut wider = self.copied(pool, way.seen(state))?;
-        let rises = self.widen(walk, &mut wider, signature)?;
-        if !covers_by(&mut pool.assigned, state, &wider.state)? {
-            pool.keep(wider.state)?;
-            return self.put_down(walk, state, way, Purpose::Meeting(signature));
-        }
-        self.waiting.spare(way.history)?;
+        let walk = here.walk;
+        let mut wider = self.copied(pool, way.seen(here.state))?;
+        let rises = self.widen(walk, &mut wider, way.signature)?;
         let Track { state, history } = wider;
+        if !covers_by(&mut pool.assigned, here.state, &state)? {
+            pool.keep(state)?;
+            return self.put_down(here, way);
+        }
         self.marks.set(Site::of(&state));
-        let purpose = Purpose::Head(signature, rises);
+        let purpose = Purpose::Head(way.signature, rises);
         let index = self.waiting.put(walk, &state, purpose, history)?;
+        self.waiting.spare(way.history)?;
         Ok(Move::Widen(state, index))
     }
 
@@ -244,21 +228,17 @@ impl Run<'_, '_> {
     }
 
     /// Makes a head of a state that waited for it.
-    pub(crate) fn become_head(
-        &mut self,
-        walk: &Walk,
-        state: &State,
-        way: Way,
-        signature: u64,
-        rises: u32,
-    ) -> Result<Move, AllocError> {
-        self.kept_cells = self.kept_cells.saturating_add(weight(state));
+    pub(crate) fn become_head(&mut self, here: Here<'_>, way: Way, rises: u32) -> Chosen
+        ensures fair { IfOk result (IsFair here.entry.walk.now here.entry.state.now) }
+    {
+        self.kept_cells = self.kept_cells.saturating_add(weight(here.state));
         let head = Head {
-            number: walk.heads.len(),
+            number: here.walk.heads.len(),
             rises,
             history: self.waiting.copied(&way.history)?,
         };
-        self.heads.insert(signature, head)?;
+        let inserted = self.heads.insert(way.signature, head);
+        inserted.map_err(|_| AllocError)?;
         self.way = Some(way);
         Ok(Move::Head)
     }

@@ -1,11 +1,11 @@
 //! Which merges are to blame for a refusal.
 
 use crate::cell_names::CellName;
-use crate::origins::{NOWHERE, Origins, Wanted};
+use crate::origins::{OriginNumber, Origins, Wanted};
 use crate::stepping::Before;
 use crate::track::Seen;
 use std::alloc::{AllocError, Global};
-use tt_code::kinds::{Control, Operand, Reference, Row, StackOp};
+use tt_code::kinds::{Control, Operand, Row, StackOp};
 use tt_code::{Effect, Reason};
 use tt_symbolic_state::cell::{Cell, number};
 
@@ -25,15 +25,6 @@ fn is_counted(line: &Row) -> bool {
     )
 }
 
-/// Returns a reference point.
-fn reference(before: &Before, which: Reference) -> Cell {
-    match which {
-        Reference::Rp0 => before.graphics.rp0,
-        Reference::Rp1 => before.graphics.rp1,
-        Reference::Rp2 => before.graphics.rp2,
-    }
-}
-
 /// Lists what a line looks at.
 fn push_operands(list: &mut Vec<Cell>, before: &Before, line: &Row) -> Result<(), AllocError> {
     if is_counted(line) {
@@ -43,22 +34,9 @@ fn push_operands(list: &mut Vec<Cell>, before: &Before, line: &Row) -> Result<()
         push_taken(list, before, line.operands.len().max(2))?;
     }
     for used in line.uses {
-        list.push(reference(before, used.reference))?;
+        list.push(before.graphics.reference(used.reference))?;
     }
     Ok(())
-}
-
-/// Lists what a control instruction looks at.
-fn push_control(list: &mut Vec<Cell>, before: &Before, control: Control) -> Result<(), AllocError> {
-    match control {
-        Control::EndFunction => {
-            if let Some(left) = before.left {
-                list.push(left)?;
-            }
-            Ok(())
-        }
-        _ => push_taken(list, before, 2),
-    }
 }
 
 /// Lists the cells that the instruction looked at, the first ones first.
@@ -66,8 +44,14 @@ fn looked_at(alloc: Global, before: &Before) -> Result<Vec<Cell>, AllocError> {
     let mut list = Vec::new(alloc);
     match before.effect {
         Effect::Plain(line) => push_operands(&mut list, before, line)?,
-        Effect::Control(control) => push_control(&mut list, before, *control)?,
-        Effect::Stack(_) | Effect::Arithmetic(_) => push_taken(&mut list, before, 2)?,
+        Effect::Control(Control::EndFunction) => {
+            if let Some(left) = before.left {
+                list.push(left)?;
+            }
+        }
+        Effect::Control(_) | Effect::Stack(_) | Effect::Arithmetic(_) => push_taken(
+            &mut list, before, 2,
+        )?,
         Effect::Push(_) | Effect::NoEntry => {}
     }
     Ok(list)
@@ -86,41 +70,40 @@ fn is_direct(before: &Before, reason: Reason) -> bool {
     }
 }
 
-/// Returns the nearest merges from which one of the cells comes that isn't known.
-fn of_cells(
+/// Lists where what a refusal may come from comes from: the unknown cells that the instruction looked
+/// at, the first ones first, and then the symbols that were split, the latest first.
+fn suspects(
     alloc: Global,
-    origins: &Origins,
     track: Seen<'_>,
-    cells: &[Cell],
-    wanted: Wanted,
-    apart: &[CellName],
-) -> Result<Vec<CellName>, AllocError> {
-    for cell in cells {
-        if number(*cell, track.state.ranges.as_slice()).is_none() {
-            let origin = track.origin(*cell);
-            let found = origins.nearest(alloc, origin, wanted, apart)?;
-            if !found.is_empty() {
-                return Ok(found);
+    before: &Before,
+    reason: Reason,
+) -> Result<Vec<OriginNumber>, AllocError> {
+    let mut list = Vec::new(alloc);
+    if is_direct(before, reason) {
+        for cell in looked_at(alloc, before)? {
+            if number(cell, track.state.ranges.as_slice()).is_none() {
+                list.push(track.origin(cell))?;
             }
         }
     }
-    Ok(Vec::new(alloc))
+    for origin in track.history.splits.as_slice().iter().rev() {
+        list.push(*origin)?;
+    }
+    Ok(list)
 }
 
-/// Returns the nearest merges from which one of the latest splits comes.
-fn of_splits(
+/// Returns the nearest cells from whose merges one of the suspects comes.
+fn nearest_of(
     alloc: Global,
     origins: &Origins,
-    track: Seen<'_>,
+    suspects: &[OriginNumber],
     wanted: Wanted,
     apart: &[CellName],
 ) -> Result<Vec<CellName>, AllocError> {
-    for origin in track.history.splits.as_slice().iter().rev() {
-        if *origin != NOWHERE {
-            let found = origins.nearest(alloc, *origin, wanted, apart)?;
-            if !found.is_empty() {
-                return Ok(found);
-            }
+    for origin in suspects {
+        let found = origins.nearest(alloc, *origin, wanted, apart)?;
+        if !found.is_empty() {
+            return Ok(found);
         }
     }
     Ok(Vec::new(alloc))
@@ -136,20 +119,16 @@ pub(crate) fn culprits(
     reason: Reason,
     apart: &[CellName],
 ) -> Result<Vec<CellName>, AllocError> {
-    let cells = if is_direct(before, reason) {
-        looked_at(alloc, before)?
-    } else {
-        Vec::new(alloc)
-    };
-    for wanted in [Wanted::LostNumbers, Wanted::Any] {
-        let direct = of_cells(alloc, origins, track, cells.as_slice(), wanted, apart)?;
-        if !direct.is_empty() {
-            return Ok(direct);
-        }
-        let others = of_splits(alloc, origins, track, wanted, apart)?;
-        if !others.is_empty() {
-            return Ok(others);
-        }
+    let suspects = suspects(alloc, track, before, reason)?;
+    let lost = nearest_of(
+        alloc,
+        origins,
+        suspects.as_slice(),
+        Wanted::LostNumbers,
+        apart,
+    )?;
+    if !lost.is_empty() {
+        return Ok(lost);
     }
-    Ok(Vec::new(alloc))
+    nearest_of(alloc, origins, suspects.as_slice(), Wanted::Any, apart)
 }

@@ -4,11 +4,12 @@ use crate::boxes::{Area, Sharing, Symbols, is_wide, rename};
 use crate::cell_names::{CellName, Part};
 use crate::origin_notes::{Meeting, Point};
 use crate::origins::{NOWHERE, OriginNumber, Origins};
-use crate::thresholds::{End, GREATEST, LEAST, widened};
+use crate::thresholds::{GREATEST, LEAST, widened_high, widened_low};
 use crate::track::{History, Level, Seen, Track, cell_count, copy_list};
 use std::alloc::{AllocError, Global};
 use std::collections::HashMap;
 use std::mem;
+use tt_code::Graphics;
 use tt_setting::SortedMap;
 use tt_symbolic_check::listed_near;
 use tt_symbolic_state::cell::{Cell, Range, bounds, known, number};
@@ -17,14 +18,15 @@ use tt_symbolic_state::stack::Stack;
 /// Strides are below this.
 const MOST_STRIDE: u64 = 1 << 20;
 
-/// How many symbols a merged state may have besides two for each cell, until those that no cell has
+/// How many symbols a merged state may have besides one for each cell, until those that no cell has
 /// are left out.
-const MOST_SPARE_SYMBOLS: usize = 64;
+const MOST_SPARE_SYMBOLS: usize = 16;
 
 /// How many divisions find a common divisor at most.
 const MOST_DIVISIONS: u32 = 100;
 
 /// What the merges of a run know of one another.
+#[derive(Drop)]
 pub(crate) struct Merges {
     /// The origins of symbols.
     pub origins: Origins,
@@ -32,20 +34,6 @@ pub(crate) struct Merges {
     pub dropped: HashMap<Part, OriginNumber>,
     /// The thresholds of widening.
     pub thresholds: Vec<i64>,
-}
-
-// Written out, so that who holds merges proves in one step that its memory is given back.
-impl Drop for Merges {
-    fn drop(self) {
-        let Merges {
-            origins,
-            dropped,
-            thresholds,
-        } = self;
-        drop(origins);
-        drop(dropped);
-        drop(thresholds);
-    }
 }
 
 impl Merges {
@@ -59,12 +47,15 @@ impl Merges {
         let before = self.dropped_origin(name.part);
         let origin = self.origins.merged(name, true, before, NOWHERE)?;
         self.dropped.insert(name.part, origin)?;
-        let meeting = Meeting {
-            at,
-            first: Some(cell.offset),
-            second: None,
-        };
-        self.origins.note_meeting(origin, meeting)
+        if let Some(notes) = &mut self.origins.notes {
+            let meeting = Meeting {
+                at,
+                first: Some(cell.offset),
+                second: None,
+            };
+            notes.note_meeting(origin, meeting)?;
+        }
+        Ok(())
     }
 }
 
@@ -167,9 +158,19 @@ pub(crate) struct Manner {
     pub rises: u32,
 }
 
+/// Which entry of a memory area it is.
+pub(crate) fn part_of(area: Area, number: u16) -> Part {
+    match area {
+        Area::Storage => Part::Storage(number),
+        Area::Controls => Part::Control(number),
+    }
+}
+
 /// A merge: a track is made to show what an old one shows too.
 #[derive(Drop)]
 struct Blending<'a> {
+    alloc: Global,
+    merges: &'a mut Merges,
     old: Seen<'a>,
     /// The symbols that the track had.
     mine: Symbols,
@@ -192,10 +193,9 @@ impl Blending<'_> {
     }
 
     /// Lets a cell that is the same in both states have each value of both.
-    fn share(&mut self, merges: &mut Merges, cell: Cell) -> Result<(), AllocError> {
+    fn share(&mut self, cell: Cell) -> Result<(), AllocError> {
         let place = cell.symbol as usize;
-        let old = self.old;
-        let theirs = old.state.ranges.get(place).copied();
+        let theirs = self.old.state.ranges.get(place).copied();
         let own = self.mine.ranges.get(place).copied();
         let (Some(theirs), Some(own)) = (theirs, own) else {
             return Ok(());
@@ -207,23 +207,16 @@ impl Blending<'_> {
             low: theirs.low.min(own.low),
             high: theirs.high.max(own.high),
         };
-        let first = old.origin(cell);
-        let second = self.mine.origin(cell);
-        let origin = merges.origins.computed(first, second)?;
+        let (first, second) = (self.old.origin(cell), self.mine.origin(cell));
+        let origin = self.merges.origins.computed(first, second)?;
         self.new.set(place, range, origin);
         Ok(())
     }
 
     /// Returns a cell that can be each value of both cells.
-    fn cell(
-        &mut self,
-        merges: &mut Merges,
-        old: Cell,
-        mine: Cell,
-        name: CellName,
-    ) -> Result<Cell, AllocError> {
+    fn cell(&mut self, old: Cell, mine: Cell, name: CellName) -> Result<Cell, AllocError> {
         if self.is_shared(old, mine) {
-            self.share(merges, mine)?;
+            self.share(mine)?;
             return Ok(mine);
         }
         if let Some(number) = self.common_number(old, mine) {
@@ -233,104 +226,114 @@ impl Blending<'_> {
         let theirs = steps.of_cell(old, self.old.state.ranges.as_slice());
         let own = steps.of_cell(mine, self.mine.ranges.as_slice());
         let is_changed = old.factor == 0 || mine.factor == 0 || theirs != own;
-        let origin = self.origin(merges, old, mine, name, is_changed)?;
-        let range = self.hull(merges.thresholds.as_slice(), steps, theirs, own);
+        let origin = self.origin(old, mine, name, is_changed)?;
+        let range = self.hull(steps, theirs, own);
         let symbol = self.new.add(range, origin)?;
         Ok(steps.cell(symbol))
     }
 
     /// Returns the range of the steps of both cells, widened where it has risen often.
-    fn hull(&self, thresholds: &[i64], steps: Steps, old: (i64, i64), mine: (i64, i64)) -> Range {
-        let low = if mine.0 < old.0 {
-            widened(thresholds, End::Low, old.0, mine.0, self.manner.rises)
-        } else {
-            old.0
-        };
-        let high = if mine.1 > old.1 {
-            widened(thresholds, End::High, old.1, mine.1, self.manner.rises)
-        } else {
-            old.1
-        };
+    fn hull(&self, steps: Steps, old: (i64, i64), mine: (i64, i64)) -> Range {
+        let thresholds = self.merges.thresholds.as_slice();
+        let rises = self.manner.rises;
+        let low = widened_low(thresholds, old.0, mine.0, rises);
+        let high = widened_high(thresholds, old.1, mine.1, rises);
         steps.range(low, high)
     }
 
     /// Returns the origin of the symbol of a merged cell.
     fn origin(
-        &self,
-        merges: &mut Merges,
+        &mut self,
         old: Cell,
         mine: Cell,
         name: CellName,
         is_changed: bool,
     ) -> Result<OriginNumber, AllocError> {
-        let theirs = self.old.origin(old);
-        let own = self.mine.origin(mine);
+        let (theirs, own) = (self.old.origin(old), self.mine.origin(mine));
+        let origins = &mut self.merges.origins;
         if !is_changed {
-            return merges.origins.computed(theirs, own);
+            return origins.computed(theirs, own);
         }
         let lost_number = old.factor == 0 && mine.factor == 0;
-        let origin = merges.origins.merged(name, lost_number, theirs, own)?;
-        if merges.origins.has_notes() {
+        let origin = origins.merged(name, lost_number, theirs, own)?;
+        if let Some(notes) = &mut origins.notes {
             let meeting = Meeting {
                 at: Point::of(self.old.state),
                 first: number(old, self.old.state.ranges.as_slice()),
                 second: number(mine, self.mine.ranges.as_slice()),
             };
-            merges.origins.note_meeting(origin, meeting)?;
+            notes.note_meeting(origin, meeting)?;
         }
         Ok(origin)
     }
 
     /// Merges what is left of the calls.
-    fn calls(&mut self, merges: &mut Merges, track: &mut Track) -> Result<(), AllocError> {
-        let old = self.old;
-        let theirs = old.state.calls.as_slice().iter();
+    fn calls(&mut self, track: &mut Track) -> Result<(), AllocError> {
+        let theirs = self.old.state.calls.as_slice().iter();
         for (call, other) in track.state.calls.iter_mut().zip(theirs) {
             let name = CellName {
                 body: Some(call.body),
                 part: Part::Left,
             };
-            call.left = self.cell(merges, other.left, call.left, name)?;
+            call.left = self.cell(other.left, call.left, name)?;
         }
         Ok(())
     }
 
     /// Merges the graphics states.
-    fn graphics(&mut self, merges: &mut Merges, track: &mut Track) -> Result<(), AllocError> {
+    fn graphics(&mut self, track: &mut Track) -> Result<(), AllocError> {
         let old = self.old.state.graphics;
         let mine = track.state.graphics;
-        let rp0 = self.cell(merges, old.rp0, mine.rp0, track.seen().name(Part::Rp0))?;
-        let rp1 = self.cell(merges, old.rp1, mine.rp1, track.seen().name(Part::Rp1))?;
-        let rp2 = self.cell(merges, old.rp2, mine.rp2, track.seen().name(Part::Rp2))?;
+        let rp0 = self.cell(old.rp0, mine.rp0, track.seen().name(Part::Rp0))?;
+        let rp1 = self.cell(old.rp1, mine.rp1, track.seen().name(Part::Rp1))?;
+        let rp2 = self.cell(old.rp2, mine.rp2, track.seen().name(Part::Rp2))?;
         let name = track.seen().name(Part::Loop);
-        let loop_number = self.cell(merges, old.loop_number, mine.loop_number, name)?;
-        let graphics = &mut track.state.graphics;
-        graphics.rp0 = rp0;
-        graphics.rp1 = rp1;
-        graphics.rp2 = rp2;
-        graphics.loop_number = loop_number;
+        let loop_number = self.cell(old.loop_number, mine.loop_number, name)?;
+        track.state.graphics = Graphics {
+            rp0,
+            rp1,
+            rp2,
+            loop_number,
+            ..mine
+        };
         Ok(())
     }
 
     /// Merges the stacks.
-    fn stack(
-        &mut self,
-        alloc: Global,
-        merges: &mut Merges,
-        track: &mut Track,
-    ) -> Result<(), AllocError> {
-        let mut cells = mem::replace(&mut track.state.stack, Stack::new(alloc)).into_cells();
-        let old = self.old;
-        let theirs = old.state.stack.as_slice().iter();
+    fn stack(&mut self, track: &mut Track) -> Result<(), AllocError> {
+        let empty = Stack::new(self.alloc);
+        let mut cells = mem::replace(&mut track.state.stack, empty).into_cells();
+        let theirs = self.old.state.stack.as_slice().iter();
         for (height, (cell, other)) in cells.iter_mut().zip(theirs).enumerate() {
             if self.is_shared(*other, *cell) {
-                self.share(merges, *cell)?;
+                self.share(*cell)?;
             } else {
                 let name = track.seen().element_name(height);
-                *cell = self.cell(merges, *other, *cell, name)?;
+                *cell = self.cell(*other, *cell, name)?;
             }
         }
         track.state.stack = Stack::from_cells(cells);
+        Ok(())
+    }
+
+    /// Notes that an entry is dropped which only one of the states lists.
+    fn drop_entry(&mut self, name: CellName, cell: Cell) -> Result<(), AllocError> {
+        if cell.factor == 0 {
+            let at = Point::of(self.old.state);
+            self.merges.note_dropped(name, cell, at)?;
+        }
+        Ok(())
+    }
+
+    /// Notes which entries of the old state are dropped, since the track doesn't list them.
+    fn drop_old_entries(&mut self, track: &Track, area: Area) -> Result<(), AllocError> {
+        let (mine, theirs) = (area.of(&track.state), area.of(self.old.state));
+        for (place, entry) in theirs.as_slice().iter().enumerate() {
+            if listed_near(mine, place, entry.0).is_none() {
+                let name = track.seen().name(part_of(area, entry.0));
+                self.drop_entry(name, entry.1)?;
+            }
+        }
         Ok(())
     }
 
@@ -338,125 +341,55 @@ impl Blending<'_> {
     /// listed.
     fn entry(
         &mut self,
-        merges: &mut Merges,
         area: Area,
         old: Option<Cell>,
         mine: Cell,
         name: CellName,
     ) -> Result<Option<Cell>, AllocError> {
         let Some(old) = old else {
-            drop_entry(merges, name, mine, Point::of(self.old.state))?;
+            self.drop_entry(name, mine)?;
             return Ok(None);
         };
-        let cell = self.cell(merges, old, mine, name)?;
+        let cell = self.cell(old, mine, name)?;
         let is_dropped = self.manner.sharing == Sharing::Dropped
-            && cell.factor != 0
             && is_wide(self.new.range(cell), area.width());
         Ok(if is_dropped { None } else { Some(cell) })
     }
-}
 
-/// Which entry of a memory area it is.
-pub(crate) fn part_of(area: Area, number: u16) -> Part {
-    match area {
-        Area::Storage => Part::Storage(number),
-        Area::Controls => Part::Control(number),
-    }
-}
-
-/// What becomes of an entry by a merge.
-#[derive(Clone, Copy)]
-struct Change {
-    number: u16,
-    /// Its cell; none where it is no longer listed.
-    cell: Option<Cell>,
-}
-
-/// Notes that an entry is dropped at a point which only one of the states lists.
-fn drop_entry(
-    merges: &mut Merges,
-    name: CellName,
-    cell: Cell,
-    at: Point,
-) -> Result<(), AllocError> {
-    if cell.factor == 0 {
-        merges.note_dropped(name, cell, at)?;
-    }
-    Ok(())
-}
-
-/// Notes which entries of the old state are dropped, since the other doesn't list them.
-fn drop_old_entries(
-    merges: &mut Merges,
-    track: &Track,
-    area: Area,
-    mine: &SortedMap<Cell>,
-    theirs: &SortedMap<Cell>,
-) -> Result<(), AllocError> {
-    for (place, entry) in theirs.as_slice().iter().enumerate() {
-        if listed_near(mine, place, entry.0).is_none() {
-            let name = track.seen().name(part_of(area, entry.0));
-            drop_entry(merges, name, entry.1, Point::of(&track.state))?;
+    /// Finds out which entries of a memory area that the track lists get another cell, or none, where
+    /// they are no longer listed.
+    fn changes(
+        &mut self,
+        track: &Track,
+        area: Area,
+    ) -> Result<Vec<(u16, Option<Cell>)>, AllocError> {
+        let (mine, theirs) = (area.of(&track.state), area.of(self.old.state));
+        let mut changes = Vec::new(self.alloc);
+        for (place, entry) in mine.as_slice().iter().enumerate() {
+            let (number, cell) = *entry;
+            let other = listed_near(theirs, place, number);
+            if other.is_some_and(|other| self.is_shared(other, cell)) {
+                self.share(cell)?;
+                continue;
+            }
+            let name = track.seen().name(part_of(area, number));
+            changes.push((number, self.entry(area, other, cell, name)?))?;
         }
+        Ok(changes)
     }
-    Ok(())
-}
 
-/// Finds out what becomes of the entries of a memory area, which the track lists.
-fn entry_changes(
-    alloc: Global,
-    blending: &mut Blending<'_>,
-    merges: &mut Merges,
-    track: &Track,
-    area: Area,
-    mine: &SortedMap<Cell>,
-    theirs: &SortedMap<Cell>,
-) -> Result<Vec<Change>, AllocError> {
-    let mut changes = Vec::new(alloc);
-    for (place, entry) in mine.as_slice().iter().enumerate() {
-        let (number, cell) = *entry;
-        let other = listed_near(theirs, place, number);
-        if other.is_some_and(|other| blending.is_shared(other, cell)) {
-            blending.share(merges, cell)?;
-            continue;
+    /// Merges the entries of a memory area.
+    fn entries(&mut self, track: &mut Track, area: Area) -> Result<(), AllocError> {
+        self.drop_old_entries(track, area)?;
+        let changes = self.changes(track, area)?;
+        let entries = area.of_mut(&mut track.state);
+        for (number, cell) in changes {
+            match cell {
+                Some(cell) => entries.put(number, cell)?,
+                None => entries.remove(number),
+            }
         }
-        let name = track.seen().name(part_of(area, number));
-        let merged = blending.entry(merges, area, other, cell, name)?;
-        changes.push(Change {
-            number,
-            cell: merged,
-        })?;
-    }
-    Ok(changes)
-}
-
-/// Changes the entries of a memory area.
-fn change_entries(entries: &mut SortedMap<Cell>, changes: &[Change]) -> Result<(), AllocError> {
-    for change in changes {
-        match change.cell {
-            Some(cell) => entries.put(change.number, cell)?,
-            None => entries.remove(change.number),
-        }
-    }
-    Ok(())
-}
-
-/// Merges the entries of a memory area.
-fn blend_entries(
-    alloc: Global,
-    blending: &mut Blending<'_>,
-    merges: &mut Merges,
-    track: &mut Track,
-    area: Area,
-) -> Result<(), AllocError> {
-    let old = blending.old;
-    let (mine, theirs) = (area.of(&track.state), area.of(old.state));
-    drop_old_entries(merges, track, area, mine, theirs)?;
-    let changes = entry_changes(alloc, blending, merges, track, area, mine, theirs)?;
-    let state = &mut track.state;
-    match area {
-        Area::Storage => change_entries(&mut state.storage, changes.as_slice()),
-        Area::Controls => change_entries(&mut state.controls, changes.as_slice()),
+        Ok(())
     }
 }
 
@@ -484,7 +417,7 @@ fn blend_histories(old: &History, own: &mut History) -> Result<(), AllocError> {
 /// Leaves out the symbols that no cell has, where these may be many.
 fn tidy(alloc: Global, track: &mut Track) -> Result<(), AllocError> {
     let cells = cell_count(&track.state);
-    if track.state.ranges.len() > cells.saturating_mul(2).saturating_add(MOST_SPARE_SYMBOLS) {
+    if track.state.ranges.len() > cells.saturating_add(MOST_SPARE_SYMBOLS) {
         rename(alloc, track, Sharing::Kept)?;
     }
     Ok(())
@@ -504,16 +437,18 @@ pub(crate) fn blend(
         Sharing::Dropped => Symbols::new(alloc),
     };
     let mut blending = Blending {
+        alloc,
+        merges,
         old,
         mine,
         new,
         manner,
     };
-    blending.calls(merges, track)?;
-    blending.graphics(merges, track)?;
-    blending.stack(alloc, merges, track)?;
-    blend_entries(alloc, &mut blending, merges, track, Area::Storage)?;
-    blend_entries(alloc, &mut blending, merges, track, Area::Controls)?;
+    blending.calls(track)?;
+    blending.graphics(track)?;
+    blending.stack(track)?;
+    blending.entries(track, Area::Storage)?;
+    blending.entries(track, Area::Controls)?;
     blend_histories(old.history, &mut track.history)?;
     let Blending { new, .. } = blending;
     new.put(track);

@@ -7,7 +7,7 @@ use std::alloc::{AllocError, Global};
 use std::mem;
 use tt_setting::SortedMap;
 use tt_symbolic_state::State;
-use tt_symbolic_state::cell::{Cell, Range, known, number};
+use tt_symbolic_state::cell::{Cell, Range, simplified};
 use tt_symbolic_state::stack::Stack;
 
 /// How many numbers the range of a storage cell has of which nothing is known, less 1.
@@ -15,9 +15,6 @@ const STORAGE_WIDTH: i64 = (1 << 32) - 1;
 
 /// How many numbers the range of a control value may have that isn't worth to be listed.
 const CONTROL_WIDTH: i64 = 1 << 24;
-
-/// In place of a new number: there is none.
-const NONE: u32 = u32::MAX;
 
 /// The symbols of a state.
 #[derive(Drop)]
@@ -83,8 +80,11 @@ impl Symbols {
         origin_in(self.origins.as_slice(), cell)
     }
 
-    /// Returns the range of a cell's symbol.
+    /// Returns the range of a cell's symbol, if it has one.
     pub(crate) fn range(&self, cell: Cell) -> Option<Range> {
+        if cell.factor == 0 {
+            return None;
+        }
         self.ranges.get(cell.symbol as usize).copied()
     }
 }
@@ -101,43 +101,31 @@ pub(crate) enum Sharing {
 /// New symbols in place of old ones.
 #[derive(Drop)]
 struct Renaming {
+    alloc: Global,
     old: Symbols,
     new: Symbols,
     sharing: Sharing,
-    /// The new number of each old symbol, where sharing is kept.
-    numbers: Vec<u32>,
+    /// The new number of each old symbol that has one, where sharing is kept.
+    numbers: Vec<Option<u32>>,
 }
 
 impl Renaming {
-    /// Returns the new number of an old symbol that has one, where sharing is kept.
-    fn renamed(&self, symbol: u32) -> Option<u32> {
-        match self.numbers.get(symbol as usize) {
-            Some(number) if *number != NONE => Some(*number),
-            _ => None,
-        }
-    }
-
     /// Returns the cell with a new symbol.
     fn cell(&mut self, cell: Cell) -> Result<Cell, AllocError> {
-        if cell.factor == 0 {
-            return Ok(cell);
-        }
+        let cell = simplified(cell, self.old.ranges.as_slice());
         let Some(range) = self.old.range(cell) else {
             return Ok(cell);
         };
-        if range.low == range.high {
-            if let Some(number) = number(cell, self.old.ranges.as_slice()) {
-                return Ok(known(number));
-            }
-        }
-        if let Some(symbol) = self.renamed(cell.symbol) {
-            return Ok(Cell { symbol, ..cell });
+        let place = cell.symbol as usize;
+        if let Some(Some(symbol)) = self.numbers.get(place) {
+            return Ok(Cell {
+                symbol: *symbol,
+                ..cell
+            });
         }
         let symbol = self.new.add(range, self.old.origin(cell))?;
-        if self.sharing == Sharing::Kept {
-            if let Some(place) = self.numbers.get_mut(cell.symbol as usize) {
-                *place = symbol;
-            }
+        if let Some(number) = self.numbers.get_mut(place) {
+            *number = Some(symbol);
         }
         Ok(Cell { symbol, ..cell })
     }
@@ -155,47 +143,32 @@ impl Renaming {
         Ok(())
     }
 
-    /// Renames the symbols of a stack.
-    fn stack(&mut self, alloc: Global, stack: &mut Stack) -> Result<(), AllocError> {
-        let mut cells = mem::replace(stack, Stack::new(alloc)).into_cells();
+    /// Renames the symbols of the stack.
+    fn stack(&mut self, track: &mut Track) -> Result<(), AllocError> {
+        let empty = Stack::new(self.alloc);
+        let mut cells = mem::replace(&mut track.state.stack, empty).into_cells();
         for cell in cells.iter_mut() {
             *cell = self.cell(*cell)?;
         }
-        *stack = Stack::from_cells(cells);
+        track.state.stack = Stack::from_cells(cells);
         Ok(())
     }
 
-    /// Renames the symbols of memory entries. Entries of which nothing is known any more are no
-    /// longer listed, where sharing is dropped.
-    fn entries(
-        &mut self,
-        alloc: Global,
-        entries: &mut SortedMap<Cell>,
-        width: i64,
-    ) -> Result<(), AllocError> {
-        for (number, cell) in symbolic_entries(alloc, entries)?.as_slice() {
-            if self.sharing == Sharing::Dropped && is_wide(self.old.range(*cell), width) {
-                entries.remove(*number);
+    /// Renames the symbols of the entries of a memory area. Entries of which nothing is known any
+    /// more are no longer listed, where sharing is dropped.
+    fn entries(&mut self, track: &mut Track, area: Area) -> Result<(), AllocError> {
+        let entries = area.of_mut(&mut track.state);
+        let mut symbolic = Vec::from_slice(self.alloc, entries.as_slice())?;
+        symbolic.retain(|entry| entry.1.factor != 0);
+        for (number, cell) in symbolic {
+            if self.sharing == Sharing::Dropped && is_wide(self.old.range(cell), area.width()) {
+                entries.remove(number);
             } else {
-                entries.put(*number, self.cell(*cell)?)?;
+                entries.put(number, self.cell(cell)?)?;
             }
         }
         Ok(())
     }
-}
-
-/// Returns the entries whose cells have symbols.
-fn symbolic_entries(
-    alloc: Global,
-    entries: &SortedMap<Cell>,
-) -> Result<Vec<(u16, Cell)>, AllocError> {
-    let mut list = Vec::new(alloc);
-    for entry in entries.as_slice() {
-        if entry.1.factor != 0 {
-            list.push(*entry)?;
-        }
-    }
-    Ok(list)
 }
 
 /// Whether a range has more numbers than a width.
@@ -231,31 +204,35 @@ impl Area {
             Area::Controls => &state.controls,
         }
     }
+
+    /// Returns them, to be changed.
+    pub(crate) fn of_mut(self, state: &mut State) -> &mut SortedMap<Cell> {
+        match self {
+            Area::Storage => &mut state.storage,
+            Area::Controls => &mut state.controls,
+        }
+    }
 }
 
 /// Gives the cells of a track's state new symbols, and leaves out those that no cell has.
 pub(crate) fn rename(alloc: Global, track: &mut Track, sharing: Sharing) -> Result<(), AllocError> {
     let old = Symbols::take(alloc, track);
     let numbers = match sharing {
-        Sharing::Kept => vec![in alloc; NONE; old.ranges.len()]?,
+        Sharing::Kept => vec![in alloc; None; old.ranges.len()]?,
         Sharing::Dropped => Vec::new(alloc),
     };
     let mut renaming = Renaming {
+        alloc,
         old,
         new: Symbols::new(alloc),
         sharing,
         numbers,
     };
     renaming.registers(track)?;
-    renaming.stack(alloc, &mut track.state.stack)?;
-    renaming.entries(alloc, &mut track.state.storage, Area::Storage.width())?;
-    renaming.entries(alloc, &mut track.state.controls, Area::Controls.width())?;
-    let Renaming {
-        old: _,
-        new,
-        sharing: _,
-        numbers: _,
-    } = renaming;
+    renaming.stack(track)?;
+    renaming.entries(track, Area::Storage)?;
+    renaming.entries(track, Area::Controls)?;
+    let Renaming { new, .. } = renaming;
     new.put(track);
     Ok(())
 }

@@ -33,9 +33,6 @@ pub(crate) struct CellName {
 impl CellName {
     /// Whether the states of the main program always keep this cell's numbers apart.
     pub(crate) fn is_main_element(self) -> bool {
-        match self.part {
-            Part::Stack(_) => self.body.is_none(),
-            _ => false,
-        }
+        self.body.is_none() && matches!(self.part, Part::Stack(_))
     }
 }

@@ -21,7 +21,6 @@ mod blame;
 mod blending;
 mod boxes;
 mod cell_names;
-mod known_states;
 mod marks;
 mod origin_notes;
 mod origins;

@@ -4,9 +4,10 @@
 
 use crate::cell_names::CellName;
 use crate::origin_notes::{FIRST_MAKER, Meeting, Notes, Point};
+use crate::track::Track;
 use std::alloc::{AllocError, Global};
 use std::collections::HashMap;
-use tt_symbolic_check::SymbolOrigin;
+use tt_symbolic_check::{KnownState, SymbolOrigin};
 use tt_symbolic_state::cell::Cell;
 
 /// The number of an origin; `NOWHERE` is that of symbols that no merge made. Those from
@@ -53,27 +54,14 @@ struct Origin {
 }
 
 /// All origins of the symbols of a run.
+#[derive(Drop)]
 pub(crate) struct Origins {
     /// The origins, by their numbers.
     list: Vec<Origin>,
     /// Their numbers.
     numbers: HashMap<Origin, OriginNumber>,
     /// What is noted to explain a refusal; nothing where none is to be explained.
-    notes: Option<Notes>,
-}
-
-// Written out, so that who holds origins proves in one step that its memory is given back.
-impl Drop for Origins {
-    fn drop(self) {
-        let Origins {
-            list,
-            numbers,
-            notes,
-        } = self;
-        drop(list);
-        drop(numbers);
-        drop(notes);
-    }
+    pub notes: Option<Notes>,
 }
 
 /// Which merges are looked for.
@@ -112,11 +100,6 @@ impl Origins {
         self.list.clear();
         self.numbers.clear();
         self.notes = None;
-    }
-
-    /// Notes from now on what explains a refusal.
-    pub(crate) fn take_notes(&mut self, alloc: Global) {
-        self.notes = Some(Notes::new(alloc));
     }
 
     /// Returns an origin.
@@ -186,23 +169,6 @@ impl Origins {
         })
     }
 
-    /// Whether notes are taken.
-    pub(crate) fn has_notes(&self) -> bool {
-        self.notes.is_some()
-    }
-
-    /// Notes the merge that an origin names, if notes are taken.
-    pub(crate) fn note_meeting(
-        &mut self,
-        origin: OriginNumber,
-        meeting: Meeting,
-    ) -> Result<(), AllocError> {
-        match &mut self.notes {
-            Some(notes) => notes.note_meeting(origin, meeting),
-            None => Ok(()),
-        }
-    }
-
     /// Returns the origin of a symbol that the instruction at a point made: that of what it was
     /// computed from, if there is one, and otherwise the instruction, if notes are taken.
     pub(crate) fn made(
@@ -225,8 +191,7 @@ impl Origins {
         from: OriginNumber,
         wanted: Wanted,
     ) -> Result<Option<Meeting>, AllocError> {
-        let mut queue = Vec::new(alloc);
-        queue.push(from)?;
+        let mut queue = vec![in alloc; from]?;
         for index in 0..MOST_LOOKS {
             let Some(number) = queue.get(index).copied() else {
                 break;
@@ -238,21 +203,13 @@ impl Origins {
             if meeting.is_some() && (wanted == Wanted::Any || origin.lost_number) {
                 return Ok(meeting);
             }
-            queue.push(origin.first)?;
-            queue.push(origin.second)?;
+            queue.extend_from_slice(&[origin.first, origin.second])?;
         }
         Ok(None)
     }
 
     /// Returns where a symbol of this origin comes from, as far as it was noted.
-    ///
-    /// # Errors
-    /// If memory runs out.
-    pub(crate) fn symbol_origin(
-        &self,
-        alloc: Global,
-        from: OriginNumber,
-    ) -> Result<SymbolOrigin, AllocError> {
+    fn symbol_origin(&self, alloc: Global, from: OriginNumber) -> Result<SymbolOrigin, AllocError> {
         if from == NOWHERE {
             return Ok(SymbolOrigin::Start);
         }
@@ -274,6 +231,23 @@ impl Origins {
         Ok(SymbolOrigin::Lost)
     }
 
+    /// Returns the state of a track, with where the number of each of its symbols comes from.
+    pub(crate) fn known_state(
+        &self,
+        alloc: Global,
+        track: Track,
+    ) -> Result<KnownState, AllocError> {
+        let Track { state, history } = track;
+        let mut origins = Vec::new(alloc);
+        for number in history.origins.as_slice() {
+            origins.push(self.symbol_origin(alloc, *number)?)?;
+        }
+        Ok(KnownState {
+            state: Box::into_inner(state),
+            origins,
+        })
+    }
+
     /// Returns the cell that an origin names, if its merge is one that is looked for and the cell
     /// isn't kept apart already.
     fn culprit(origin: Origin, wanted: Wanted, apart: &[CellName]) -> Option<CellName> {
@@ -287,37 +261,9 @@ impl Origins {
         Some(name)
     }
 
-    /// Looks at the origins of one level: puts the cells that are found in a list, and the origins
-    /// behind the others in the next level.
-    fn look_at_level(
-        &self,
-        level: &[OriginNumber],
-        wanted: Wanted,
-        apart: &[CellName],
-        seen: &mut [bool],
-        next: &mut Vec<OriginNumber>,
-        found: &mut Vec<CellName>,
-    ) -> Result<(), AllocError> {
-        for number in level {
-            let Some(origin) = self.get(*number) else {
-                continue;
-            };
-            if !see(seen, *number) {
-                continue;
-            }
-            match Origins::culprit(origin, wanted, apart) {
-                Some(name) => found.push(name)?,
-                None => {
-                    next.push(origin.first)?;
-                    next.push(origin.second)?;
-                }
-            }
-        }
-        Ok(())
-    }
-
     /// Returns the nearest cells from whose merges a symbol of this origin comes, and that aren't
-    /// kept apart yet.
+    /// kept apart yet. The origins are looked at in the order of their distance: those behind all of
+    /// one distance only where none of these names such a cell.
     pub(crate) fn nearest(
         &self,
         alloc: Global,
@@ -327,23 +273,28 @@ impl Origins {
     ) -> Result<Vec<CellName>, AllocError> {
         let mut found = Vec::new(alloc);
         let mut seen = vec![in alloc; false; self.list.len().saturating_add(1)]?;
-        let mut level = Vec::new(alloc);
-        level.push(from)?;
-        for _ in 0..=self.list.len() {
-            let mut next = Vec::new(alloc);
-            let seen_now = seen.as_mut_slice();
-            self.look_at_level(
-                level.as_slice(),
-                wanted,
-                apart,
-                seen_now,
-                &mut next,
-                &mut found,
-            )?;
-            if !found.is_empty() || next.is_empty() {
-                return Ok(found);
+        let mut queue = vec![in alloc; from]?;
+        let mut end = queue.len();
+        for index in 0..=self.list.len().saturating_mul(2) {
+            if index == end {
+                if !found.is_empty() {
+                    break;
+                }
+                end = queue.len();
             }
-            level = next;
+            let Some(number) = queue.get(index).copied() else {
+                break;
+            };
+            let Some(origin) = self.get(number) else {
+                continue;
+            };
+            if !see(seen.as_mut_slice(), number) {
+                continue;
+            }
+            match Origins::culprit(origin, wanted, apart) {
+                Some(name) => found.push(name)?,
+                None => queue.extend_from_slice(&[origin.first, origin.second])?,
+            }
         }
         Ok(found)
     }

@@ -1,14 +1,15 @@
 //! A run of the search: the guide of one walk, from the starts of a program on.
 
+ghost use Rattle.std.specs.Prelude.{IfOk};
+ghost use Rattle.tt_symbolic_check.specs.Moves.{IsFair};
+
 use crate::blame::culprits;
 use crate::blending::Merges;
 use crate::boxes::{Sharing, rename};
 use crate::cell_names::CellName;
-use crate::known_states::known_state;
 use crate::marks::Marks;
 use crate::origins::{NOWHERE, of_merges};
-use crate::signature::Functions;
-use crate::stepping::{Before, Led, Stepping, after_step, before_step};
+use crate::stepping::{Before, Led};
 use crate::track::{History, Seen, Track, weight};
 use crate::waiting::{Purpose, Waiting};
 use crate::writes::Writes;
@@ -16,11 +17,11 @@ use std::alloc::{AllocError, Global};
 use std::collections::{HashMap, HashSet};
 use std::mem;
 use tt_code::Reason;
-use tt_setting::{Failed, Kind, Setting, StepFault};
+use tt_setting::{Failed, Setting, StepFault};
 use tt_symbolic::kept::Kept;
 use tt_symbolic::step::code_at;
 use tt_symbolic_check::{
-    Guide, Insight, Move, Pool, Question, RefusedState, START, Site, Split, Start, Walk,
+    Guide, Insight, Move, Pool, Question, RefusedState, Site, Split, Start, Walk, covers_by,
     decision_of, is_at_end, wanted,
 };
 use tt_symbolic_state::State;
@@ -39,7 +40,7 @@ const MOST_SEEN: usize = 16;
 const MOST_CELLS: usize = 8_000_000;
 
 /// How many states may wait.
-const MOST_WAITING: usize = 1 << 14;
+const MOST_WAITING: usize = 1 << 12;
 
 /// What a run may rely on.
 #[derive(Clone, Copy)]
@@ -52,22 +53,29 @@ pub(crate) struct Task<'t, 'm> {
     pub widest_compared: i64,
     /// How many steps it may make.
     pub most_steps: u64,
-    /// Whether the functions of states are told apart.
-    pub functions: Functions,
     /// What is asked, if the answer is to be explained.
     pub question: Option<Question>,
 }
+
+/// The state that is carried on, and its walk.
+#[derive(Clone, Copy)]
+pub(crate) struct Here<'a> {
+    pub walk: &'a Walk,
+    pub state: &'a State,
+}
+
+/// What is chosen for that state, or why the search gives up.
+pub(crate) type Chosen = Result<Move, StepFault>;
 
 /// What is known beside the state that is carried on.
 #[derive(Drop)]
 pub(crate) struct Way {
     pub history: Box<History>,
-    /// Whether it has just made a step.
-    is_fresh: bool,
-    /// Where its last step has led.
-    pub led: Led,
-    /// How many steps it has made one after the other while another state waited behind it: 0 where
-    /// none does.
+    /// Where its last step has led, until that is looked at.
+    led: Option<Led>,
+    /// What it has in common with those that it is joined with, where it may be put down.
+    pub signature: u64,
+    /// How many steps it has made since no state was seen to wait behind it.
     pub crowded: u32,
     /// How often it was split where it is.
     splits: u32,
@@ -76,12 +84,12 @@ pub(crate) struct Way {
 }
 
 impl Way {
-    /// Makes the way of a state with this history that waited until now.
-    fn of(history: Box<History>) -> Way {
+    /// Makes the way of a state with this history that waited until now, of a signature.
+    fn of(history: Box<History>, signature: u64) -> Way {
         Way {
             history,
-            is_fresh: false,
-            led: Led::On,
+            led: None,
+            signature,
             crowded: 0,
             splits: 0,
             is_tidied: false,
@@ -123,7 +131,7 @@ pub(crate) struct Run<'t, 'm> {
     pub merges: &'m mut Merges,
     writes: &'m mut Writes,
     pub way: Option<Way>,
-    pub waiting: Waiting,
+    pub waiting: Waiting<'m>,
     /// The latest head of each signature.
     pub heads: HashMap<u64, Head>,
     /// The signatures of states that came back once, which no head has yet: most of them, those of
@@ -133,7 +141,6 @@ pub(crate) struct Run<'t, 'm> {
     /// How many cells the heads and the ends have.
     pub kept_cells: usize,
     before: Before,
-    stepping: Option<Stepping>,
     /// How many steps were made: never more than it may make.
     pub steps: u64,
     /// Whether one more would be needed.
@@ -150,24 +157,6 @@ pub(crate) struct Run<'t, 'm> {
     has_more: bool,
 }
 
-/// Whether all starts have the same functions.
-fn have_same_functions(starts: &[Start]) -> bool {
-    match starts {
-        [first, rest @ ..] => rest
-            .iter()
-            .all(|start| start.functions.is_same(&first.functions)),
-        [] => true,
-    }
-}
-
-/// Returns whether the functions of states are told apart: where they aren't always the same.
-pub(crate) fn told_functions(setting: &Setting<'_>, starts: &[Start]) -> Functions {
-    match setting.kind {
-        Kind::Glyph { .. } if have_same_functions(starts) => Functions::Untold,
-        _ => Functions::Told,
-    }
-}
-
 /// Whether a state has many symbols that no cell has.
 fn is_untidy(state: &State) -> bool {
     let most = state.stack.len().saturating_mul(2);
@@ -176,19 +165,18 @@ fn is_untidy(state: &State) -> bool {
 
 impl<'t, 'm> Run<'t, 'm> {
     /// Makes the run of a walk in which these starts wait, and which uses the memory of these
-    /// histories.
+    /// histories again.
     pub(crate) fn new(
         task: Task<'t, 'm>,
         merges: &'m mut Merges,
         writes: &'m mut Writes,
         starts: &[Start],
-        spare: Vec<Box<History>>,
+        spare: &'m mut Vec<Box<History>>,
     ) -> Result<Run<'t, 'm>, AllocError> {
         let alloc = task.alloc;
         let mut waiting = Waiting::new(alloc, spare);
         for start in starts {
-            let history = Box::new(alloc, History::start(alloc, start.ranges.len())?)?;
-            waiting.put_start(history)?;
+            waiting.put_start(start.ranges.len())?;
         }
         Ok(Run {
             task,
@@ -201,7 +189,6 @@ impl<'t, 'm> Run<'t, 'm> {
             marks: Marks::new(alloc, task.setting)?,
             kept_cells: 0,
             before: Before::new(alloc),
-            stepping: None,
             steps: 0,
             is_spent: false,
             stop: None,
@@ -212,11 +199,6 @@ impl<'t, 'm> Run<'t, 'm> {
         })
     }
 
-    /// Takes the histories whose memory may be used again.
-    pub(crate) fn take_spare(&mut self) -> Vec<Box<History>> {
-        mem::replace(&mut self.waiting.histories, Vec::new(self.task.alloc))
-    }
-
     /// Makes a copy of a state with its history.
     pub(crate) fn copied(&mut self, pool: &mut Pool, track: Seen<'_>) -> Result<Track, AllocError> {
         Ok(Track {
@@ -225,126 +207,94 @@ impl<'t, 'm> Run<'t, 'm> {
         })
     }
 
-    /// Chooses what becomes of the state that is carried on.
-    ///
-    /// # Errors
-    /// `TooManySteps`, where more steps would be needed than may be made, or too much memory.
-    fn chosen(&mut self, walk: &Walk, state: &State, pool: &mut Pool) -> Result<Move, StepFault> {
-        let cells = self.kept_cells.saturating_add(self.waiting.cells);
-        if self.is_spent || cells > MOST_CELLS || self.waiting.len() > MOST_WAITING {
-            return Err(StepFault::from(Reason::TooManySteps));
-        }
-        let chosen = match self.way.take() {
-            Some(way) => {
-                if way.is_fresh {
-                    self.arrive(walk, state, pool, way)
-                } else {
-                    self.go_on(walk, state, pool, way)
-                }
-            }
-            None => self.take_up(walk, state, pool),
-        };
-        Ok(chosen?)
-    }
-
     /// Carries on a state that waited until now.
-    fn take_up(&mut self, walk: &Walk, state: &State, pool: &mut Pool) -> Result<Move, AllocError> {
+    fn take_up(&mut self, here: Here<'_>, pool: &mut Pool) -> Chosen
+        ensures fair { IfOk result (IsFair here.entry.walk.now here.entry.state.now) }
+    {
         let Some((purpose, history)) = self.waiting.take() else {
-            let history = History::start(self.task.alloc, state.ranges.len())?;
-            let way = Way::of(Box::new(self.task.alloc, history)?);
-            return self.go_on(walk, state, pool, way);
+            return Err(StepFault::from(Reason::TooManySteps));
         };
-        let way = Way::of(history);
+        let way = Way::of(history, purpose.key());
         match purpose {
-            Purpose::Head(signature, rises) => self.become_head(walk, state, way, signature, rises),
-            Purpose::Part | Purpose::Meeting(_) => self.go_on(walk, state, pool, way),
+            Purpose::Head(_, rises) => self.become_head(here, way, rises),
+            Purpose::Part | Purpose::Meeting(_) => self.go_on(here, pool, way),
         }
     }
 
     /// Carries the state on where it is: splits it, leaves out what isn't needed, or makes a step.
-    pub(crate) fn go_on(
-        &mut self,
-        walk: &Walk,
-        state: &State,
-        pool: &mut Pool,
-        way: Way,
-    ) -> Result<Move, AllocError> {
-        let Some(code) = code_at(self.task.setting, state) else {
-            return self.go_out(state, way);
+    pub(crate) fn go_on(&mut self, here: Here<'_>, pool: &mut Pool, way: Way) -> Chosen
+        ensures fair { IfOk result (IsFair here.entry.walk.now here.entry.state.now) }
+    {
+        let Some(code) = code_at(self.task.setting, here.state) else {
+            return self.go_out(here, way);
         };
         if decision_of(code).is_none() {
-            return self.step(state, pool, way, code);
+            return self.step(here, pool, way, code);
         }
-        match wanted(code, state, self.task.widest_compared) {
-            Some(split) if way.splits < MOST_SPLITS => self.split(walk, state, way, split),
-            _ if is_untidy(state) && !way.is_tidied => self.tidy(state, pool, way),
-            _ => self.step(state, pool, way, code),
+        match wanted(code, here.state, self.task.widest_compared) {
+            Some(split) if way.splits < MOST_SPLITS => self.split(here, way, split),
+            _ if is_untidy(here.state) && !way.is_tidied => self.tidy(here, pool, way),
+            _ => self.step(here, pool, way, code),
         }
     }
 
     /// Carries a state on that is at no instruction: to the ends, or to its refusal.
-    fn go_out(&mut self, state: &State, way: Way) -> Result<Move, AllocError> {
-        self.stepping = None;
-        if is_at_end(self.task.setting, state) {
-            self.kept_cells = self.kept_cells.saturating_add(weight(state));
-            self.waiting.spare(way.history)?;
-        } else {
-            self.way = Some(way);
+    fn go_out(&mut self, here: Here<'_>, way: Way) -> Chosen
+        ensures fair { IfOk result (IsFair here.entry.walk.now here.entry.state.now) }
+    {
+        if is_at_end(self.task.setting, here.state) {
+            self.kept_cells = self.kept_cells.saturating_add(weight(here.state));
         }
+        self.waiting.spare(way.history)?;
         Ok(Move::Go)
     }
 
     /// Splits the state: its upper part waits.
-    fn split(
-        &mut self,
-        walk: &Walk,
-        state: &State,
-        way: Way,
-        split: Split,
-    ) -> Result<Move, AllocError> {
+    fn split(&mut self, here: Here<'_>, way: Way, split: Split) -> Chosen
+        ensures fair { IfOk result (IsFair here.entry.walk.now here.entry.state.now) }
+    {
         let mut way = way;
         let origin = way.history.origins.get(split.symbol as usize).copied();
         way.history
             .note_split(of_merges(origin.unwrap_or(NOWHERE)))?;
         way.splits = way.splits.saturating_add(1);
-        way.is_fresh = false;
         let upper = self.waiting.copied(&way.history)?;
+        let Here { walk, state } = here;
         let index = self.waiting.put(walk, state, Purpose::Part, upper)?;
         self.way = Some(way);
         Ok(Move::Split(split, index))
     }
 
     /// Leaves out the symbols that no cell has.
-    fn tidy(&mut self, state: &State, pool: &mut Pool, way: Way) -> Result<Move, AllocError> {
-        let mut copy = self.copied(pool, way.seen(state))?;
+    fn tidy(&mut self, here: Here<'_>, pool: &mut Pool, way: Way) -> Chosen
+        ensures fair { IfOk result (IsFair here.entry.walk.now here.entry.state.now) }
+    {
+        let mut way = way;
+        way.is_tidied = true;
+        let mut copy = self.copied(pool, way.seen(here.state))?;
         rename(self.task.alloc, &mut copy, Sharing::Kept)?;
         let Track { state, history } = copy;
-        self.way = Some(Way {
-            history,
-            is_fresh: false,
-            is_tidied: true,
-            ..way
-        });
+        if !covers_by(&mut pool.assigned, here.state, &state)? {
+            pool.keep(state)?;
+            self.way = Some(way);
+            return Ok(Move::Wait(self.waiting.len()));
+        }
+        way.history = history;
+        self.way = Some(way);
         Ok(Move::Widen(state, self.waiting.len()))
     }
 
     /// Makes a step of the state, by the instruction of this code.
-    fn step(
-        &mut self,
-        state: &State,
-        pool: &mut Pool,
-        way: Way,
-        code: u8,
-    ) -> Result<Move, AllocError> {
-        let track = way.seen(state);
+    fn step(&mut self, here: Here<'_>, pool: &mut Pool, way: Way, code: u8) -> Chosen
+        ensures fair { IfOk result (IsFair here.entry.walk.now here.entry.state.now) }
+    {
+        let track = way.seen(here.state);
         self.keep(pool, track)?;
         if let Some(kept) = self.task.noted {
-            if Writes::are_wanted(self.task.setting, state, &kept, code) {
-                self.writes.note(self.task.setting, state, &kept)?;
-            }
+            let setting = self.task.setting;
+            self.writes.note(setting, here.state, &kept, code)?;
         }
-        let stepping = before_step(self.merges, track, code, &mut self.before)?;
-        self.stepping = Some(stepping);
+        self.before.note(self.merges, track, code)?;
         self.way = Some(way);
         Ok(Move::Go)
     }
@@ -370,18 +320,18 @@ impl<'t, 'm> Run<'t, 'm> {
     }
 
     /// Takes out what is told of the run to explain it: also of the last state, if that was refused
-    /// where this test failed.
-    pub(crate) fn insight(&mut self, failed: Option<Failed>) -> Result<Insight, AllocError> {
+    /// and no writes are noted.
+    pub(crate) fn insight(&mut self) -> Result<Insight, AllocError> {
         let alloc = self.task.alloc;
         let origins = &self.merges.origins;
         let mut seen = Vec::new(alloc);
         for track in mem::replace(&mut self.seen, Vec::new(alloc)) {
-            seen.push(known_state(alloc, origins, track)?)?;
+            seen.push(origins.known_state(alloc, track)?)?;
         }
-        let refused = match (self.last.take(), failed) {
-            (Some(track), Some(failed)) => Some(RefusedState {
-                known: known_state(alloc, origins, track)?,
-                failed,
+        let refused = match (self.last.take(), &self.stop) {
+            (Some(track), Some(stop)) if self.task.noted.is_none() => Some(RefusedState {
+                known: origins.known_state(alloc, track)?,
+                failed: stop.failed,
             }),
             _ => None,
         };
@@ -394,40 +344,38 @@ impl<'t, 'm> Run<'t, 'm> {
             has_more: self.has_more,
         })
     }
-
-    /// Follows a step of the state that is carried on.
-    fn follow(&mut self, state: &State) -> Result<(), AllocError> {
-        let (Some(way), Some(stepping)) = (&mut self.way, &self.stepping) else {
-            return Ok(());
-        };
-        way.led = after_step(
-            self.task.alloc,
-            self.task.setting,
-            self.merges,
-            state,
-            &mut way.history,
-            stepping,
-            &self.before,
-        )?;
-        way.is_fresh = true;
-        way.splits = 0;
-        way.is_tidied = false;
-        Ok(())
-    }
 }
 
 impl Guide for Run<'_, '_> {
-    fn choose(&mut self, walk: &Walk, state: &State, pool: &mut Pool) -> Move {
-        match self.chosen(walk, state, pool) {
-            Ok(chosen) => chosen,
-            Err(fault) => Move::GiveUp(START, fault),
+    /// It gives up with `TooManySteps`, where more steps would be needed than may be made, or too
+    /// much memory.
+    fn choose(&mut self, walk: &Walk, state: &State, pool: &mut Pool) -> Result<Move, StepFault> {
+        let here = Here { walk, state };
+        let cells = self.kept_cells.saturating_add(self.waiting.cells);
+        if self.is_spent || cells > MOST_CELLS || self.waiting.len() > MOST_WAITING {
+            return Err(StepFault::from(Reason::TooManySteps));
+        }
+        let Some(way) = self.way.take() else {
+            return self.take_up(here, pool);
+        };
+        let mut way = way;
+        match way.led.take() {
+            Some(led) => self.arrive(here, pool, way, led),
+            None => self.go_on(here, pool, way),
         }
     }
 
     /// After the last step that may be made, one more is only tried: where it is refused, that refusal
     /// is the one that is told.
     fn stepped(&mut self, state: &State) -> Result<(), AllocError> {
-        self.follow(state)?;
+        if let Some(way) = &mut self.way {
+            let Task { alloc, setting, .. } = self.task;
+            let before = &self.before;
+            let led = before.follow(alloc, setting, self.merges, state, &mut way.history)?;
+            way.led = Some(led);
+            way.splits = 0;
+            way.is_tidied = false;
+        }
         self.depth = self.depth.max(state.stack.len());
         if self.steps >= self.task.most_steps {
             self.is_spent = true;
@@ -441,8 +389,8 @@ impl Guide for Run<'_, '_> {
         let StepFault::Refused(failed) = fault else {
             return Ok(());
         };
-        let apart = match (&self.way, &self.stepping) {
-            (Some(way), Some(_)) => culprits(
+        let apart = match &self.way {
+            Some(way) => culprits(
                 self.task.alloc,
                 &self.merges.origins,
                 way.seen(state),
@@ -450,7 +398,7 @@ impl Guide for Run<'_, '_> {
                 failed.reason(),
                 self.task.apart,
             )?,
-            _ => Vec::new(self.task.alloc),
+            None => Vec::new(self.task.alloc),
         };
         self.stop = Some(Stop {
             failed: *failed,

@@ -8,19 +8,19 @@ ghost use Rattle.tt_symbolic_check.specs.Checked.{AreEnds, IsChecked, IsSafe, Ke
 
 use crate::blending::Merges;
 use crate::cell_names::CellName;
+use crate::origin_notes::Notes;
 use crate::origins::Origins;
-use crate::run::{Run, Stop, Task, told_functions};
+use crate::run::{Run, Stop, Task};
 use crate::starts;
 use crate::thresholds::thresholds;
 use crate::track::History;
 use crate::writes::Writes;
 use std::alloc::{AllocError, Global};
 use std::collections::HashMap;
-use std::mem;
 use tt_code::Reason;
-use tt_setting::{Failed, Refusal, Setting, StepFault};
+use tt_setting::{Refusal, Setting};
 use tt_symbolic::kept::{Kept, NOTHING_KEPT};
-use tt_symbolic_check::{Insight, Pool, Question, Site, Start, check, too_many_steps};
+use tt_symbolic_check::{Insight, Pool, Question, Start, check, too_many_steps};
 use tt_symbolic_state::State;
 
 /// How often a program is searched at most, each time with more that was learnt.
@@ -51,6 +51,7 @@ pub struct Effort {
 }
 
 /// The search of a font.
+#[derive(Drop)]
 pub struct Search {
     alloc: Global,
     /// What the merges know.
@@ -73,32 +74,6 @@ pub struct Search {
     spare: Vec<Box<History>>,
 }
 
-// Written out, so that who holds a search proves in one step that its memory is given back.
-impl Drop for Search {
-    fn drop(self) {
-        let Search {
-            alloc,
-            merges,
-            apart,
-            writes,
-            widest: _,
-            steps: _,
-            question,
-            insight,
-            pool,
-            spare,
-        } = self;
-        drop(alloc);
-        drop(merges);
-        drop(apart);
-        drop(writes);
-        drop(question);
-        drop(insight);
-        drop(pool);
-        drop(spare);
-    }
-}
-
 /// What becomes of a program's trials.
 #[derive(Drop)]
 struct Trial {
@@ -107,36 +82,6 @@ struct Trial {
     before: u64,
     /// What the last walk's refusal tells.
     stop: Option<Stop>,
-    /// The last refusal from which something was learnt.
-    refused: Option<(Site, Failed)>,
-}
-
-impl Trial {
-    /// Returns the last refusal from which something was learnt.
-    fn last_refusal(&self) -> Refusal
-        ensures { IsOfNoBudget result }
-    {
-        match self.refused {
-            Some((site, failed)) => site.refused(StepFault::Refused(failed)),
-            None => too_many_steps(),
-        }
-    }
-
-    /// Notes a refusal from which something is learnt.
-    fn note_refusal(&mut self, refusal: &Refusal) {
-        if let Refusal::Refused {
-            spot,
-            offset,
-            failed,
-        } = refusal
-        {
-            let site = Site {
-                spot: *spot,
-                offset: *offset,
-            };
-            self.refused = Some((site, *failed));
-        }
-    }
 }
 
 impl Search {
@@ -216,8 +161,34 @@ impl Search {
         self.merges.thresholds = thresholds(self.alloc, setting)?;
         self.apart.retain(|name| name.body.is_some());
         let learnt = self.apart.len();
-        let mut trial = self.begin_trials(effort);
-        for _ in 0..MOST_TRIALS {
+        let answer = self.walk_often(setting, kept, starts, effort);
+        if answer.is_err() {
+            self.apart.truncate(learnt);
+        }
+        answer
+    }
+
+    /// Walks a program as often as something is learnt from its refusal.
+    fn walk_often(
+        &mut self,
+        setting: &Setting<'_>,
+        kept: &Kept<'_>,
+        starts: &[Start],
+        effort: Effort,
+    ) -> Result<Vec<State>, Refusal>
+        ensures checked { IfOk result
+            (λ ends. IsChecked (setting_of setting.now) kept.now starts.now ends.items) }
+        ensures within { IfErr result IsOfNoBudget }
+    {
+        let mut trial = Trial {
+            effort: Effort {
+                widest_compared: effort.widest_compared.max(self.widest),
+                ..effort
+            },
+            before: self.steps,
+            stop: None,
+        };
+        for trials in 1..=MOST_TRIALS {
             let refusal = match self.walk(&*setting, kept, starts, &mut trial, None) {
                 Ok(ends) => {
                     self.widest = trial.effort.widest_compared;
@@ -225,26 +196,12 @@ impl Search {
                 }
                 Err(refusal) => refusal,
             };
-            if let Err(refusal) = self.learn(setting, kept, starts, &mut trial, refusal) {
-                self.apart.truncate(learnt);
+            let is_more_known = self.learn(setting, kept, starts, &mut trial, &refusal)?;
+            if trials == MOST_TRIALS || !is_more_known {
                 return Err(refusal);
             }
         }
-        self.apart.truncate(learnt);
-        Err(trial.last_refusal())
-    }
-
-    /// Begins the trials of a program.
-    fn begin_trials(&self, effort: Effort) -> Trial {
-        Trial {
-            effort: Effort {
-                widest_compared: effort.widest_compared.max(self.widest),
-                ..effort
-            },
-            before: self.steps,
-            stop: None,
-            refused: None,
-        }
+        Err(too_many_steps())
     }
 
     /// Forgets what the merges of another run know.
@@ -252,7 +209,7 @@ impl Search {
         self.merges.origins.clear();
         self.merges.dropped.clear();
         if self.question.is_some() {
-            self.merges.origins.take_notes(self.alloc);
+            self.merges.origins.notes = Some(Notes::new(self.alloc));
             self.insight = None;
         }
     }
@@ -292,7 +249,6 @@ impl Search {
         self.begin_run();
         let used = self.steps.saturating_sub(trial.before);
         let most_steps = trial.effort.steps.saturating_sub(used);
-        let spare = mem::replace(&mut self.spare, Vec::new(self.alloc));
         let task = Task {
             alloc: self.alloc,
             setting,
@@ -300,62 +256,55 @@ impl Search {
             apart: self.apart.as_slice(),
             widest_compared: trial.effort.widest_compared,
             most_steps,
-            functions: told_functions(setting, starts),
             question: self.question,
         };
-        let mut run = Run::new(task, &mut self.merges, &mut self.writes, starts, spare)?;
+        let (merges, writes) = (&mut self.merges, &mut self.writes);
+        let mut run = Run::new(task, merges, writes, starts, &mut self.spare)?;
         let moves = most_steps
             .saturating_mul(MOVES_PER_STEP)
             .saturating_add(MORE_MOVES);
         let pool = &mut self.pool;
         let answer = check(self.alloc, pool, setting, kept, starts, &mut run, moves);
         self.steps = self.steps.saturating_add(run.steps);
-        trial.stop = run.stop.take();
-        self.spare = run.take_spare();
-        if self.question.is_some() && !is_final(&answer) {
-            let failed = match (&noted, &trial.stop) {
-                (None, Some(stop)) => Some(stop.failed),
-                _ => None,
-            };
-            self.insight = Some(run.insight(failed)?);
+        let is_told = !matches!(&answer, Err(refusal) if is_beyond(refusal));
+        if self.question.is_some() && is_told {
+            self.insight = Some(run.insight()?);
         }
+        trial.stop = run.stop.take();
         answer
     }
 
     /// Learns from a refusal which cells are to be kept apart, that all comparisons are to be split, or
-    /// which kept entries are written.
+    /// which kept entries are written. Returns whether another walk is of use.
     ///
     /// # Errors
-    /// The refusal, where another walk is of no use; that of the walk that notes the writes.
+    /// That of the walk that notes the writes.
     fn learn(
         &mut self,
         setting: &Setting<'_>,
         kept: &Kept<'_>,
         starts: &[Start],
         trial: &mut Trial,
-        refusal: Refusal,
-    ) -> Result<(), Refusal>
-        requires { IsOfNoBudget refusal }
+        refusal: &Refusal,
+    ) -> Result<bool, Refusal>
         ensures { IfErr result IsOfNoBudget }
     {
-        let reason = reason_of(&refusal);
+        let reason = reason_of(refusal);
         if reason == Some(Reason::KeptEntry) {
             self.note_writes(setting, kept, starts, trial)?;
-            return Err(refusal);
+            return Ok(false);
         }
         if let Some(Stop { apart, .. }) = trial.stop.take() {
             if !apart.is_empty() {
                 self.apart.extend_from_slice(apart.as_slice())?;
-                trial.note_refusal(&refusal);
-                return Ok(());
+                return Ok(true);
             }
         }
         if reason != Some(Reason::UnknownOperand) || trial.effort.widest_compared >= WIDEST {
-            return Err(refusal);
+            return Ok(false);
         }
         trial.effort.widest_compared = WIDEST;
-        trial.note_refusal(&refusal);
-        Ok(())
+        Ok(true)
     }
 }
 
@@ -367,18 +316,10 @@ fn reason_of(refusal: &Refusal) -> Option<Reason> {
     }
 }
 
-/// Whether a walk was too long, or memory ran out.
+/// Whether a walk was too long, or memory ran out, so that nothing is told of it.
 fn is_beyond(refusal: &Refusal) -> bool {
     match reason_of(refusal) {
         Some(reason) => reason == Reason::TooManySteps,
         None => true,
-    }
-}
-
-/// Whether nothing is told of a walk that was answered so.
-fn is_final(answer: &Result<Vec<State>, Refusal>) -> bool {
-    match answer {
-        Ok(_) => false,
-        Err(refusal) => is_beyond(refusal),
     }
 }

@@ -60,10 +60,10 @@ fn mix_calls(hash: u64, state: &State) -> u64 {
     hash
 }
 
-/// Returns a hash of the known functions after others.
-fn mix_functions(hash: u64, state: &State) -> u64 {
+/// Returns a hash of functions after others.
+fn mix_functions(hash: u64, functions: &[(u16, u32)]) -> u64 {
     let mut hash = hash;
-    for (number, body) in state.functions.as_slice() {
+    for (number, body) in functions {
         hash = mix(mix(hash, i64::from(*number)), i64::from(*body));
     }
     hash
@@ -136,30 +136,14 @@ fn mix_apart(hash: u64, track: Seen<'_>, name: CellName) -> u64 {
     mix_cell(hash, state, cell)
 }
 
-/// Whether the functions of states are told apart.
-#[derive(Clone, Copy, Debug, PartialEq, Eq)]
-pub(crate) enum Functions {
-    /// They are, where programs define some.
-    Told,
-    /// They aren't, where all states have the same.
-    Untold,
-}
-
-/// Returns a hash of where a state is, so that only states of the same are merged.
-pub(crate) fn place_signature(track: Seen<'_>, functions: Functions) -> u64 {
+/// Returns a hash of where a state is, of functions that it knows, and of what is kept apart: only
+/// states of the same are merged.
+pub(crate) fn signature(track: Seen<'_>, functions: &[(u16, u32)], apart: &[CellName]) -> u64 {
     let state = track.state;
     let depth = i64::try_from(state.stack.len()).unwrap_or(0);
     let here = mix(mix(0, i64::from(state.offset)), depth);
-    let hash = mix_zones(mix_calls(here, state), state);
-    match functions {
-        Functions::Told => mix_functions(hash, state),
-        Functions::Untold => hash,
-    }
-}
-
-/// Returns a hash of where a state is, and of what is kept apart.
-pub(crate) fn signature(track: Seen<'_>, functions: Functions, apart: &[CellName]) -> u64 {
-    let mut hash = mix_main_elements(place_signature(track, functions), track);
+    let place = mix_functions(mix_zones(mix_calls(here, state), state), functions);
+    let mut hash = mix_main_elements(place, track);
     for name in apart {
         hash = mix_apart(hash, track, *name);
     }

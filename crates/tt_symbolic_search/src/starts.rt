@@ -4,7 +4,7 @@
 use crate::blending::{Manner, Merges, blend};
 use crate::boxes::{Sharing, rename};
 use crate::cell_names::CellName;
-use crate::signature::{Functions, signature};
+use crate::signature::signature;
 use crate::track::{History, Track};
 use crate::writes::Writes;
 use std::alloc::{AllocError, Global};
@@ -68,41 +68,21 @@ fn add(
     alloc: Global,
     merges: &mut Merges,
     starts: &mut Vec<Proposed>,
-    track: Track,
-    signature: u64,
+    start: Proposed,
 ) -> Result<(), AllocError> {
-    let mut track = track;
-    match like(starts.as_slice(), signature) {
-        Some(place) => {
-            if let Some(other) = starts.get_mut(place) {
-                blend(alloc, merges, other.track.seen(), &mut track, BOXES)?;
-                other.track = track;
-            }
+    let mut start = start;
+    let place = like(starts.as_slice(), start.signature);
+    match place.and_then(|place| starts.get_mut(place)) {
+        Some(other) => {
+            blend(alloc, merges, other.track.seen(), &mut start.track, BOXES)?;
+            other.track = start.track;
             Ok(())
         }
         None => {
-            rename(alloc, &mut track, Sharing::Dropped)?;
-            starts.push(Proposed { track, signature })?;
+            rename(alloc, &mut start.track, Sharing::Dropped)?;
+            starts.push(start)?;
             Ok(())
         }
-    }
-}
-
-/// Makes a start of what a state shows.
-fn start_of(track: Track) -> Start {
-    let Track { state, .. } = track;
-    let State {
-        storage,
-        controls,
-        functions,
-        ranges,
-        ..
-    } = Box::into_inner(state);
-    Start {
-        storage,
-        controls,
-        functions,
-        ranges,
     }
 }
 
@@ -122,14 +102,13 @@ pub(crate) fn starts_after(
         if !covered {
             let history = Box::new(alloc, History::start(alloc, state.ranges.len())?)?;
             let track = Track { state, history };
-            let signature = signature(track.seen(), Functions::Untold, apart);
-            add(alloc, merges, &mut starts, track, signature)?;
+            let signature = signature(track.seen(), &[], apart);
+            add(alloc, merges, &mut starts, Proposed { track, signature })?;
         }
     }
     let mut list = Vec::new(alloc);
-    for proposed in starts {
-        let Proposed { track, .. } = proposed;
-        list.push(start_of(track))?;
+    for start in starts {
+        list.push(Start::after(alloc, &start.track.state)?)?;
     }
     Ok(list)
 }

@@ -21,7 +21,9 @@ const MOST_TAKEN: usize = 6;
 /// How many points or pairs of an instruction are looked at at most.
 const MOST_COUNTED: i64 = 300;
 
-/// What a state was before a step, as far as a refusal is explained by it.
+/// What a state was before a step, as far as a refusal is explained by it, and what is known of the
+/// step before it is made.
+#[derive(Drop)]
 pub(crate) struct Before {
     /// The elements that the instruction may have taken, the top last.
     pub taken: Vec<Cell>,
@@ -31,21 +33,14 @@ pub(crate) struct Before {
     pub left: Option<Cell>,
     /// What the instruction does.
     pub effect: &'static Effect,
-}
-
-// Written out, so that who holds what was there before proves in one step that its memory is given back.
-impl Drop for Before {
-    fn drop(self) {
-        let Before {
-            taken,
-            graphics,
-            left,
-            effect: _,
-        } = self;
-        drop(taken);
-        drop(graphics);
-        drop(left);
-    }
+    /// Its code.
+    code: u8,
+    /// Where it is.
+    at: Point,
+    /// How many calls hadn't returned.
+    depth: usize,
+    /// The origin of the symbols that it makes.
+    origin: OriginNumber,
 }
 
 /// Returns a count that a cell is, if it isn't too great.
@@ -90,11 +85,25 @@ impl Before {
             },
             left: None,
             effect: entry(0),
+            code: 0,
+            at: Point {
+                body: None,
+                offset: 0,
+            },
+            depth: 0,
+            origin: NOWHERE,
         }
     }
 
-    /// Notes what a state is before a step.
-    fn note(&mut self, state: &State, effect: &'static Effect) -> Result<(), AllocError> {
+    /// Notes what a state is before a step by the instruction of this code.
+    pub(crate) fn note(
+        &mut self,
+        merges: &mut Merges,
+        track: Seen<'_>,
+        code: u8,
+    ) -> Result<(), AllocError> {
+        let state = track.state;
+        let effect = entry(code);
         let count = match effect {
             Effect::Plain(line) => taken_by(state, line),
             _ => MOST_TAKEN,
@@ -108,7 +117,68 @@ impl Before {
         self.graphics = state.graphics;
         self.left = state.calls.last().map(|call| call.left);
         self.effect = effect;
+        self.code = code;
+        self.at = Point::of(state);
+        self.depth = state.calls.len();
+        self.origin = origin_of_result(merges, track, code, effect)?;
         Ok(())
+    }
+
+    /// Follows the step that was made: where it has led.
+    pub(crate) fn follow(
+        &self,
+        alloc: Global,
+        setting: &Setting<'_>,
+        merges: &mut Merges,
+        state: &State,
+        history: &mut History,
+    ) -> Result<Led, AllocError> {
+        let symbols = state.ranges.len();
+        if symbols > history.origins.len() {
+            let made = merges.origins.made(self.origin, self.at)?;
+            history.origins.resize(symbols, made)?;
+        }
+        let put = self.put_count(state);
+        history.touch(state.stack.len().saturating_sub(put));
+        match self.effect {
+            Effect::Control(control) => self.follow_calls(alloc, setting, state, history, *control),
+            _ if keyword_of_code(self.code) == BlockKeyword::Eif => Ok(Led::ToMeeting),
+            _ => Ok(Led::On),
+        }
+    }
+
+    /// Returns how many elements from the top on the instruction has put there.
+    fn put_count(&self, state: &State) -> usize {
+        match self.effect {
+            Effect::Plain(line) => line.pushes.len(),
+            Effect::Arithmetic(_) => 1,
+            Effect::Stack(StackOp::Swap) => 2,
+            Effect::Stack(StackOp::Roll) => 3,
+            Effect::Stack(StackOp::MoveIndexed) => count_of(state, self.taken.last().copied()),
+            _ => 0,
+        }
+    }
+
+    /// Follows what a control instruction did to the calls: where it has led.
+    fn follow_calls(
+        &self,
+        alloc: Global,
+        setting: &Setting<'_>,
+        state: &State,
+        history: &mut History,
+        control: Control,
+    ) -> Result<Led, AllocError> {
+        match state.calls.len().cmp(&self.depth) {
+            Ordering::Greater => {
+                history.go_in(alloc, state.stack.as_slice())?;
+                Ok(Led::On)
+            }
+            Ordering::Less => {
+                history.come_back();
+                Ok(Led::ToMeeting)
+            }
+            Ordering::Equal => Ok(follow_here(setting, state, history, control, self.at.offset)),
+        }
     }
 }
 
@@ -136,10 +206,8 @@ fn read_origin(merges: &Merges, track: Seen<'_>, area: Area) -> OriginNumber {
 
 /// Returns the origin of an element from the top.
 fn element_origin(track: Seen<'_>, taken: usize) -> OriginNumber {
-    match track.state.stack.under(taken) {
-        Some(cell) => track.origin(cell),
-        None => NOWHERE,
-    }
+    let cell = track.state.stack.under(taken);
+    cell.map_or(NOWHERE, |cell| track.origin(cell))
 }
 
 /// Returns the origin of a number that is computed from the two upper elements.
@@ -180,18 +248,6 @@ fn origin_of_result(
     }
 }
 
-/// Returns how many elements from the top on the instruction has put there.
-fn put_count(state: &State, before: &Before) -> usize {
-    match before.effect {
-        Effect::Plain(line) => line.pushes.len(),
-        Effect::Arithmetic(_) => 1,
-        Effect::Stack(StackOp::Swap) => 2,
-        Effect::Stack(StackOp::Roll) => 3,
-        Effect::Stack(StackOp::MoveIndexed) => count_of(state, before.taken.last().copied()),
-        _ => 0,
-    }
-}
-
 /// Where a step has led.
 #[derive(Clone, Copy, Debug, PartialEq, Eq)]
 pub(crate) enum Led {
@@ -202,19 +258,6 @@ pub(crate) enum Led {
     ToMeeting,
     /// Back, to the next turn of an unknown number of turns, or by a jump.
     Back,
-}
-
-/// What is known of a step before it is made.
-#[derive(Clone, Copy)]
-pub(crate) struct Stepping {
-    /// The code of the instruction.
-    code: u8,
-    /// Where it is.
-    at: Point,
-    /// How many calls hadn't returned.
-    depth: usize,
-    /// The origin of the symbols that it makes.
-    origin: OriginNumber,
 }
 
 /// Returns the program that a spot names.
@@ -235,28 +278,6 @@ fn is_behind_end_of_if(setting: &Setting<'_>, state: &State) -> bool {
     match program_of(setting, site.spot).at(before) {
         Some(instr) => keyword_of_code(instr.code()) == BlockKeyword::Eif,
         None => false,
-    }
-}
-
-/// Follows what a control instruction did to the calls: where it has led.
-fn follow(
-    alloc: Global,
-    setting: &Setting<'_>,
-    state: &State,
-    history: &mut History,
-    control: Control,
-    stepping: &Stepping,
-) -> Result<Led, AllocError> {
-    match state.calls.len().cmp(&stepping.depth) {
-        Ordering::Greater => {
-            history.go_in(alloc, state.stack.as_slice())?;
-            Ok(Led::On)
-        }
-        Ordering::Less => {
-            history.come_back();
-            Ok(Led::ToMeeting)
-        }
-        Ordering::Equal => Ok(follow_here(setting, state, history, control, stepping.at.offset)),
     }
 }
 
@@ -285,46 +306,5 @@ fn follow_here(
         }
         Control::If | Control::Else if is_behind_end_of_if(setting, state) => Led::ToMeeting,
         _ => Led::On,
-    }
-}
-
-/// Notes what a state is before a step by the instruction of this code.
-pub(crate) fn before_step(
-    merges: &mut Merges,
-    track: Seen<'_>,
-    code: u8,
-    before: &mut Before,
-) -> Result<Stepping, AllocError> {
-    let effect = entry(code);
-    before.note(track.state, effect)?;
-    Ok(Stepping {
-        code,
-        at: Point::of(track.state),
-        depth: track.state.calls.len(),
-        origin: origin_of_result(merges, track, code, effect)?,
-    })
-}
-
-/// Follows a step that was made: where it has led.
-pub(crate) fn after_step(
-    alloc: Global,
-    setting: &Setting<'_>,
-    merges: &mut Merges,
-    state: &State,
-    history: &mut History,
-    stepping: &Stepping,
-    before: &Before,
-) -> Result<Led, AllocError> {
-    let symbols = state.ranges.len();
-    if symbols > history.origins.len() {
-        let made = merges.origins.made(stepping.origin, stepping.at)?;
-        history.origins.resize(symbols, made)?;
-    }
-    let put = put_count(state, before);
-    history.touch(state.stack.len().saturating_sub(put));
-    match before.effect {
-        Effect::Control(control) => follow(alloc, setting, state, history, *control, stepping),
-        _ if keyword_of_code(stepping.code) == BlockKeyword::Eif => Ok(Led::ToMeeting),
-        _ => Ok(Led::On),
     }
 }

@@ -22,18 +22,9 @@ const FIRST_WIDENED: u32 = 3;
 /// twelfth rise on, it is widened as far as it can be.
 const LAST_MEASURED: u32 = 10;
 
-/// Which end of a range it is.
-#[derive(Clone, Copy, Debug, PartialEq, Eq)]
-pub(crate) enum End {
-    Low,
-    High,
-}
-
 /// Puts a count and the number just below it in a list.
 fn push_count(list: &mut Vec<i64>, count: i64) -> Result<(), AllocError> {
-    list.push(count.saturating_sub(1))?;
-    list.push(count)?;
-    Ok(())
+    list.extend_from_slice(&[count.saturating_sub(1), count])
 }
 
 /// Makes the thresholds of a program.
@@ -53,39 +44,27 @@ pub(crate) fn thresholds(alloc: Global, setting: &Setting<'_>) -> Result<Vec<i64
     Ok(list)
 }
 
-/// Returns the end of a range that had an end and rises to another, after it has risen so
-/// many times before.
-pub(crate) fn widened(thresholds: &[i64], end: End, old: i64, new: i64, rises: u32) -> i64 {
-    if old == new || rises < FIRST_WIDENED {
-        return new;
+/// Returns the low end of the range of two that had this low end and has risen so many times before,
+/// where the other one begins at a number: widened, where that is lower.
+pub(crate) fn widened_low(thresholds: &[i64], old: i64, new: i64, rises: u32) -> i64 {
+    if new >= old || rises < FIRST_WIDENED {
+        return old.min(new);
     }
-    let last = rises > LAST_MEASURED;
-    match end {
-        End::Low if last => LEAST,
-        End::High if last => GREATEST,
-        End::Low => greatest_up_to(thresholds, new),
-        End::High => least_from(thresholds, new),
+    if rises > LAST_MEASURED {
+        return LEAST;
     }
+    let below = thresholds.iter().copied().filter(|number| *number <= new);
+    below.max().unwrap_or(LEAST)
 }
 
-/// Returns the greatest threshold that is at most a number.
-fn greatest_up_to(thresholds: &[i64], number: i64) -> i64 {
-    let mut greatest = LEAST;
-    for threshold in thresholds {
-        if *threshold <= number {
-            greatest = greatest.max(*threshold);
-        }
+/// Returns the high end likewise.
+pub(crate) fn widened_high(thresholds: &[i64], old: i64, new: i64, rises: u32) -> i64 {
+    if new <= old || rises < FIRST_WIDENED {
+        return old.max(new);
     }
-    greatest
-}
-
-/// Returns the least threshold that is at least a number.
-fn least_from(thresholds: &[i64], number: i64) -> i64 {
-    let mut least = GREATEST;
-    for threshold in thresholds {
-        if *threshold >= number {
-            least = least.min(*threshold);
-        }
+    if rises > LAST_MEASURED {
+        return GREATEST;
     }
-    least
+    let above = thresholds.iter().copied().filter(|number| *number >= new);
+    above.min().unwrap_or(GREATEST)
 }

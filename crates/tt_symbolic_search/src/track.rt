@@ -107,24 +107,17 @@ impl History {
         Ok(())
     }
 
-    /// Takes over the splits that another state remembers.
+    /// Takes over the splits that another state remembers, and forgets the earliest, where these are
+    /// too many.
     pub(crate) fn add_splits(&mut self, others: &[OriginNumber]) -> Result<(), AllocError> {
         for origin in others {
             if !self.splits.contains(origin) {
                 self.splits.push(*origin)?;
             }
         }
-        self.forget_splits();
+        let excess = self.splits.len().saturating_sub(MOST_REMEMBERED);
+        drop(self.splits.drain(..excess));
         Ok(())
-    }
-
-    /// Forgets the earliest splits, where it remembers too many.
-    fn forget_splits(&mut self) {
-        for _ in 0..self.splits.len() {
-            if self.splits.len() > MOST_REMEMBERED {
-                self.splits.remove(0);
-            }
-        }
     }
 
     /// Notes that the elements of the stack below a height are as they were.
@@ -216,13 +209,18 @@ pub(crate) fn cell_count(state: &State) -> usize {
 }
 
 impl Seen<'_> {
-    /// Returns where it is at a level: how many turns that has seen, and at which offset it is.
-    fn place_at(self, level: usize) -> (u32, u32) {
-        let turn = self.history.levels.get(level).map_or(0, |own| own.turn);
-        match self.state.calls.get(level) {
-            Some(call) => (turn, call.call),
-            None => (turn, self.state.offset),
-        }
+    /// Returns where it is at a level: in its upper half how many turns that has seen, in the lower
+    /// one at which offset it is.
+    fn place_at(self, level: usize) -> u64 {
+        let turn = match self.history.levels.get(level) {
+            Some(own) => own.turn,
+            None => 0,
+        };
+        let offset = match self.state.calls.get(level) {
+            Some(call) => call.call,
+            None => self.state.offset,
+        };
+        (u64::from(turn) << 32) | u64::from(offset)
     }
 
     /// Returns how its place is ordered to that of another track: level by level, from the main
@@ -230,9 +228,9 @@ impl Seen<'_> {
     pub(crate) fn order_to(self, other: Seen<'_>) -> Ordering {
         let (own, theirs) = (self.history.levels.len(), other.history.levels.len());
         for level in 0..own.min(theirs) {
-            let order = self.place_at(level).cmp(&other.place_at(level));
-            if order != Ordering::Equal {
-                return order;
+            let (own, theirs) = (self.place_at(level), other.place_at(level));
+            if own != theirs {
+                return own.cmp(&theirs);
             }
         }
         own.cmp(&theirs)

@@ -22,6 +22,17 @@ pub(crate) enum Purpose {
     Head(u64, u32),
 }
 
+impl Purpose {
+    /// Returns its signature, by which those are ordered that wait at one place: parts have none, and
+    /// are carried on first.
+    pub(crate) fn key(self) -> u64 {
+        match self {
+            Purpose::Part => 0,
+            Purpose::Meeting(signature) | Purpose::Head(signature, _) => signature,
+        }
+    }
+}
+
 /// What is known beside a state that waits.
 #[derive(Drop)]
 pub(crate) struct Waiter {
@@ -33,18 +44,18 @@ pub(crate) struct Waiter {
 
 /// What is known beside the states that wait, in the order of `walk.pending`.
 #[derive(Drop)]
-pub(crate) struct Waiting {
+pub(crate) struct Waiting<'m> {
     alloc: Global,
     list: Vec<Waiter>,
     /// How many cells the states have.
     pub cells: usize,
     /// Histories that are no longer needed, whose memory is used again.
-    pub histories: Vec<Box<History>>,
+    histories: &'m mut Vec<Box<History>>,
 }
 
-impl Waiting {
+impl<'m> Waiting<'m> {
     /// Makes the list of no states, which uses the memory of these histories.
-    pub(crate) fn new(alloc: Global, histories: Vec<Box<History>>) -> Waiting {
+    pub(crate) fn new(alloc: Global, histories: &'m mut Vec<Box<History>>) -> Waiting<'m> {
         Waiting {
             alloc,
             list: Vec::new(alloc),
@@ -101,14 +112,31 @@ impl Waiting {
         Ok(())
     }
 
-    /// Returns where in the list a track is to wait: it is carried on before those of its place.
-    fn index_of(&self, walk: &Walk, track: Seen<'_>) -> usize {
-        for index in (0..self.list.len()).rev() {
-            if self.order(walk, index, track) != Ordering::Greater {
-                return index.saturating_add(1);
+    /// Returns how a track that waits for this is ordered to what waits at an index of the list.
+    fn order_for(&self, walk: &Walk, index: usize, track: Seen<'_>, purpose: Purpose) -> Ordering {
+        let order = self.order(walk, index, track);
+        match self.list.get(index) {
+            Some(waiter) if order == Ordering::Equal => purpose.key().cmp(&waiter.purpose.key()),
+            _ => order,
+        }
+    }
+
+    /// Returns where in the list a track is to wait for this: it is carried on before its equals. The
+    /// list is halved until one place is left.
+    fn index_of(&self, walk: &Walk, track: Seen<'_>, purpose: Purpose) -> usize {
+        let (mut low, mut high) = (0, self.list.len());
+        for _ in 0..usize::BITS {
+            if low >= high {
+                break;
+            }
+            let middle = low.midpoint(high);
+            if self.order_for(walk, middle, track, purpose) == Ordering::Greater {
+                high = middle;
+            } else {
+                low = middle.saturating_add(1);
             }
         }
-        0
+        low
     }
 
     /// Lets a state with this history wait. Returns where in the list.
@@ -123,7 +151,7 @@ impl Waiting {
             state,
             history: &history,
         };
-        let index = self.index_of(walk, track).min(self.list.len());
+        let index = self.index_of(walk, track, purpose).min(self.list.len());
         let cells = weight(state);
         let waiter = Waiter {
             purpose,
@@ -135,12 +163,13 @@ impl Waiting {
         Ok(index)
     }
 
-    /// Lets a start wait that has this history.
-    pub(crate) fn put_start(&mut self, history: Box<History>) -> Result<(), AllocError> {
+    /// Lets a start wait that has so many symbols.
+    pub(crate) fn put_start(&mut self, symbols: usize) -> Result<(), AllocError> {
+        let history = History::start(self.alloc, symbols)?;
         self.list.push(Waiter {
             purpose: Purpose::Part,
             cells: 0,
-            history,
+            history: Box::new(self.alloc, history)?,
         })?;
         Ok(())
     }
@@ -156,24 +185,17 @@ impl Waiting {
         Some((purpose, history))
     }
 
-    /// Whether the state at an index of the list waits for this.
-    fn is_for(&self, index: usize, purpose: Purpose) -> bool {
-        match self.list.get(index) {
-            Some(waiter) => waiter.purpose == purpose,
-            None => false,
-        }
-    }
-
     /// Returns where in the list a state waits at the place of a track, to be joined with others of
     /// this signature.
     pub(crate) fn meeting(&self, walk: &Walk, track: Seen<'_>, signature: u64) -> Option<usize> {
-        for index in (0..self.list.len()).rev() {
-            match self.order(walk, index, track) {
-                Ordering::Less => return None,
-                Ordering::Equal if self.is_for(index, Purpose::Meeting(signature)) => {
-                    return Some(index);
-                }
-                _ => {}
+        let purpose = Purpose::Meeting(signature);
+        for index in (0..self.index_of(walk, track, purpose)).rev() {
+            if self.order_for(walk, index, track, purpose) != Ordering::Equal {
+                return None;
+            }
+            let waiter = self.list.get(index)?;
+            if waiter.purpose == purpose {
+                return Some(index);
             }
         }
         None

@@ -8,11 +8,10 @@ use Rattle.tt_symbolic_check.proofs.walk.put_pending.Goals as goal
 pub returns : goal.returns
 returns c =
     let old = c.args.walk.now.pending.items in
-    let at = c.min-place.result in
     let p : Pending = record { state = c.args.state; may_stop = c.args.may_stop } in
     record {
-      waits = subst (λ (l : List Pending). IsIn l p) (sym c.in_ok-insert.ensures.items) (insert_in old at p);
-      pending = λ q h. subst (λ (l : List Pending). IsIn l q) (sym c.in_ok-insert.ensures.items) (in_insert old at p q h);
+      waits = subst (λ (l : List Pending). IsIn l p) (sym c.in_ok-insert.ensures.items) (insert_in old c.min-place.result p);
+      pending = λ q h. subst (λ (l : List Pending). IsIn l q) (sym c.in_ok-insert.ensures.items) (in_insert old c.min-place.result p q h);
       heads = refl {A = List State};
       ends = refl {A = List State};
     }

@@ -10,6 +10,6 @@ returns c =
     let copied = subst (λ (y : State). IsCopy y c.in_ok-low.low.value) c.deref.ensures c.in_ok-low.ensures in
     let boxed = subst (λ (y : State). IsCopy c.args.entry.state.value y) (sym c.deref_mut.ensures.value) copied in
     let upper = subst (λ (y : State). IsUpper c.args.split y c.raise.new.state) c.deref_mut-2.ensures.value c.raise.ensures in
-    split_reaches c.args.setting.now c.args.kept.now c.args.entry.state.value c.args.entry.may_stop (with_value c.in_ok-low.low c.lower.new.state) (with_value c.args.entry.state c.raise.new.state) c.args.walk.now c.put_pending.new.walk c.put_pending-2.new.walk
+    λ setting kept. split_reaches setting kept c.args.entry.state.value c.args.entry.may_stop (with_value c.in_ok-low.low c.lower.new.state) (with_value c.args.entry.state c.raise.new.state) c.args.walk.now c.put_pending.new.walk c.put_pending-2.new.walk
     (parts_split c.args.split c.args.entry.state.value c.deref_mut.result.now c.lower.new.state c.raise.new.state boxed c.lower.ensures upper)
     c.in_ok-put_pending.ensures c.in_ok-put_pending-2.ensures
