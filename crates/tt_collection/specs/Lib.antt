@@ -1,0 +1,6 @@
+pub mod Headers
+pub mod Faces
+pub mod FaultNumbers
+pub mod FaultTexts
+pub mod CollectionFaults
+pub mod Laws
