@@ -3,14 +3,18 @@
 ghost use Rattle.tt_stream.specs.Streams.{CountsPrintFailure};
 
 use crate::arrivals::Arrival;
+use crate::certainty::class_at;
 use crate::describing::{Why, reason_text};
 use crate::effect_text::tell_effect;
-use crate::meaning::{ADVICE_ON_RANGE, advice_of, class_of, class_text};
+use crate::makers::makers_advice;
+use crate::meaning::{ADVICE_ON_RANGE, Advice, advice_of, advice_on_strict, class_of, class_text};
 use crate::scene::Scene;
+use crate::view::View;
 use std::fmt;
 use tt_code::Reason;
 use tt_setting::{Failed, Setting};
 use tt_stream::{PrintFailed, Sink};
+use tt_symbolic_check::Site;
 
 /// Why a program is refused of which nothing is known at a place.
 #[derive(Clone, Copy)]
@@ -33,11 +37,38 @@ impl fmt::Display for WhyProgram<'_> {
     }
 }
 
-/// Prints why a program is refused for this reason, its class and what to do, where nothing is known
-/// of a place.
+/// By which profile a program is refused.
+#[derive(Clone, Copy)]
+pub(crate) enum By {
+    Strict,
+    Symbolic,
+}
+
+/// Returns what to do about a program that this profile refuses for this reason at a site: first in the
+/// terms of the maker of its font program, if the fault is a known one; or, in the strict profile, to
+/// ask the other one, which comes before the maker's where a number isn't known.
+fn advice_at(
+    setting: &Setting<'_>,
+    site: Site,
+    reason: Reason,
+    by: By,
+    general: &'static str,
+) -> Advice {
+    let first = match by {
+        By::Strict if reason == Reason::UnknownOperand => advice_on_strict(reason),
+        By::Strict => makers_advice(setting, site, reason).or(advice_on_strict(reason)),
+        By::Symbolic => makers_advice(setting, site, reason),
+    };
+    Advice { first, general }
+}
+
+/// Prints why a program is refused at a site for this reason, its class and what to do, where nothing is
+/// known there.
 pub(crate) fn tell_cause_of_program<O: Sink>(
     setting: &Setting<'_>,
+    site: Site,
     reason: Reason,
+    by: By,
     out: &mut O,
 ) -> Result<(), PrintFailed>
     ensures failures { CountsPrintFailure result (O.failures out.old) (O.failures out.new) }
@@ -45,8 +76,9 @@ pub(crate) fn tell_cause_of_program<O: Sink>(
     let why = WhyProgram { setting, reason };
     let class = reason.class();
     let kind = class_text(reason, class);
-    let advice = advice_of(reason, class, "");
-    writeln!(out, "Why: {why}\nClass: {kind}\nWhat to do: {advice}")
+    let general = advice_of(reason, class, "");
+    let advice = advice_at(setting, site, reason, by, general);
+    writeln!(out, "Why: {why}\nClass: {kind}\n{advice}")
 }
 
 /// Prints why a program is refused at a place, since this test fails there, or two ways meet; the
@@ -65,12 +97,16 @@ pub(crate) fn tell_cause<O: Sink>(
         meeting,
     };
     let reason = failed.reason();
-    let class = class_of(failed);
-    let kind = class_text(reason, class);
-    let advice = match scene.range(failed) {
+    let kind = class_at(&scene, failed);
+    let general = match scene.range(failed) {
         Some(_) => ADVICE_ON_RANGE,
-        None => advice_of(reason, class, scene.name()),
+        None => advice_of(reason, class_of(failed), scene.name()),
     };
-    writeln!(out, "Why: {why}\nClass: {kind}\nWhat to do: {advice}")?;
+    let by = match scene.view {
+        View::Strict(_) => By::Strict,
+        View::Symbolic(_) => By::Symbolic,
+    };
+    let advice = advice_at(scene.setting, scene.site, reason, by, general);
+    writeln!(out, "Why: {why}\nClass: {kind}\n{advice}")?;
     tell_effect(scene, out)
 }

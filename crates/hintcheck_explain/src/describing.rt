@@ -5,7 +5,7 @@ use crate::element::Element;
 use crate::scene::Scene;
 use std::fmt;
 use tt_code::Reason;
-use tt_setting::{Failed, Register, Role, ZoneCell};
+use tt_setting::{Failed, Register, Role, Setting, ZoneCell};
 
 /// How many numbers of the stack there are, as it is printed.
 #[derive(Clone, Copy)]
@@ -89,6 +89,18 @@ fn out_of_range(failed: Failed) -> Option<(i32, Role, ZoneCell)> {
     Some((number, role, ZoneCell::Either))
 }
 
+/// Returns what an index has to be below that is taken as this in a zone.
+pub(crate) fn bound_in(setting: &Setting<'_>, role: Role, zone: ZoneCell) -> u32 {
+    match role {
+        Role::Point => setting.points_in(zone),
+        Role::ControlValue => setting.cvt,
+        Role::StorageCell => u32::from(setting.limits.storage),
+        Role::Contour => setting.contours_in(zone),
+        Role::Function => u32::from(setting.limits.functions),
+        Role::Zone | Role::Count | Role::StackIndex | Role::Distance | Role::Turns => 0,
+    }
+}
+
 /// Why a program is refused.
 #[derive(Clone, Copy)]
 pub(crate) struct Why<'a> {
@@ -100,19 +112,6 @@ pub(crate) struct Why<'a> {
 }
 
 impl Why<'_> {
-    /// Returns what an index has to be below that is taken as this in a zone.
-    fn bound(&self, role: Role, zone: ZoneCell) -> u32 {
-        let setting = self.scene.setting;
-        match role {
-            Role::Point => setting.points_in(zone),
-            Role::ControlValue => setting.cvt,
-            Role::StorageCell => u32::from(setting.limits.storage),
-            Role::Contour => setting.contours_in(zone),
-            Role::Function => u32::from(setting.limits.functions),
-            Role::Zone | Role::Count | Role::StackIndex | Role::Distance | Role::Turns => 0,
-        }
-    }
-
     /// Returns how many cells the instruction takes, of which the stack hasn't enough.
     fn wanted(&self) -> usize {
         let least = match self.failed {
@@ -159,7 +158,7 @@ impl Why<'_> {
                 self.scene.setting.limits.zones
             ),
             _ => {
-                let bound = self.bound(role, zone);
+                let bound = bound_in(self.scene.setting, role, zone);
                 write!(f, ", and it has to be at least 0 and below {bound} here: ")?;
                 self.write_bound(role, f)
             }
@@ -189,7 +188,7 @@ impl Why<'_> {
         write!(
             f,
             ". It may be any from {low} to {high} here, and it has to be at least 0 and below {}: ",
-            self.bound(role, zone)
+            bound_in(self.scene.setting, role, zone)
         )?;
         self.write_bound(role, f)
     }

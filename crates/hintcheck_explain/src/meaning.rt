@@ -1,5 +1,6 @@
 //! What a reason tells the font's maker: its class, and what to do.
 
+use std::fmt;
 use tt_code::{Reason, ReasonClass};
 use tt_setting::Failed;
 
@@ -113,5 +114,42 @@ pub(crate) fn advice_of(reason: Reason, class: ReasonClass, name: &str) -> &'sta
             "clear the stack on each way before the ways meet, as by ELSE and CLEAR before the EIF."
         }
         _ => advice_on_number(reason),
+    }
+}
+
+/// Returns what to do first about a reason of the strict profile: the other profile may not have it.
+pub(crate) fn advice_on_strict(reason: Reason) -> Option<&'static str> {
+    match reason {
+        Reason::UnknownOperand => Some(
+            "ask again with --symbolic: that profile follows numbers that are measured, computed, \
+            chosen or read back.",
+        ),
+        Reason::DepthMismatch => Some(
+            "ask again with --symbolic: that profile follows ways that bring stacks of different \
+            depths, each by itself.",
+        ),
+        Reason::TooManyContexts => Some(
+            "ask again with --symbolic: that profile has no limit on lists of open calls.",
+        ),
+        _ => None,
+    }
+}
+
+/// What to do about a refusal.
+#[derive(Clone, Copy)]
+pub(crate) struct Advice {
+    /// What to do first, where there is something.
+    pub first: Option<&'static str>,
+    /// What to do otherwise.
+    pub general: &'static str,
+}
+
+impl fmt::Display for Advice {
+    fn fmt<W: fmt::Write>(&self, f: &mut fmt::Formatter<W>) -> fmt::Result {
+        let general = self.general;
+        match self.first {
+            Some(first) => write!(f, "What to do: {first}\nOtherwise: {general}"),
+            None => write!(f, "What to do: {general}"),
+        }
     }
 }

@@ -4,7 +4,7 @@ ghost use Rattle.std.specs.Prelude.{OnOk};
 ghost use Rattle.tt_stream.specs.Streams.{CountsPrintFailure};
 ghost use Rattle.hintcheck_explain.specs.Texts.{WritesFirst, reason_line};
 
-use crate::meaning::{advice_of, class_text};
+use crate::meaning::{Advice, advice_of, advice_on_strict, class_text};
 use tt_code::Reason;
 use tt_stream::{PrintFailed, Sink};
 
@@ -88,12 +88,12 @@ pub fn explain_reason<O: Sink>(reason: Reason, out: &mut O) -> Result<(), PrintF
     let meaning = meaning_of(reason);
     let class = reason.class();
     let kind = class_text(reason, class);
-    let advice = advice_of(reason, class, "");
+    let advice = Advice {
+        first: advice_on_strict(reason),
+        general: advice_of(reason, class, ""),
+    };
     writeln!(out, "{number} {reason}")?;
-    writeln!(
-        out,
-        "What it means: {meaning}\nClass: {kind}\nWhat to do: {advice}"
-    )?;
+    writeln!(out, "What it means: {meaning}\nClass: {kind}\n{advice}")?;
     writeln!(out, "Examples are in docs/REASONS.md.")?;
     Ok(())
 }

@@ -3,7 +3,7 @@
 ghost use Rattle.hintcheck_explain.specs.Faults.{TellsFailure};
 
 use crate::arrivals::{Arrival, Ways, WaysTo, add_edges};
-use crate::cause::{tell_cause, tell_cause_of_program};
+use crate::cause::{By, tell_cause, tell_cause_of_program};
 use crate::element::Element;
 use crate::excerpt::Excerpt;
 use crate::explored_program::ExploredProgram;
@@ -160,7 +160,7 @@ fn tell_refusal_at<O: Sink>(
     let subject = ways.subject;
     match case_of(ways, next, site, failed)? {
         Some(case) => tell_case(ways, next, case, failed, out)?,
-        None => tell_cause_of_program(subject.setting, failed.reason(), out)?,
+        None => tell_cause_of_program(subject.setting, site, failed.reason(), By::Strict, out)?,
     }
     let listing = Excerpt::at(subject.name, subject.setting, site);
     writeln!(out, "{listing}")?;

@@ -5,7 +5,7 @@ ghost use Rattle.hintcheck_explain.specs.Faults.{TellsFailure};
 
 use crate::accepted::count_instructions;
 use crate::asked::{Asked, place_of};
-use crate::cause::{tell_cause, tell_cause_of_program};
+use crate::cause::{By, tell_cause, tell_cause_of_program};
 use crate::effect_text::tell_effect;
 use crate::element::Element;
 use crate::excerpt::Excerpt;
@@ -190,14 +190,14 @@ fn tell_refusal<O: Sink>(
     ensures failures { TellsFailure result (O.failures out.old) (O.failures out.new) }
 {
     let reason = refused.reason;
+    let site = site_of(searched.name, refused);
     match searched.refused() {
         Some(state) if state.failed.reason() == reason => {
             tell_case(searched, &state.known, state.failed, out)?;
         }
         Some(state) => tell_case(searched, &state.known, Failed::Only(reason), out)?,
-        None => tell_cause_of_program(searched.setting, reason, out)?,
+        None => tell_cause_of_program(searched.setting, site, reason, By::Symbolic, out)?,
     }
-    let site = site_of(searched.name, refused);
     let listing = Excerpt::at(searched.name, searched.setting, site);
     writeln!(out, "{listing}")?;
     Ok(())
