@@ -7,8 +7,8 @@ It needs cc, c++, pkg-config and FreeType's headers. The library is built by `ma
 font, a refused one and one that is cut short, all made here, and what it prints is compared with what is written below. examples/embedding/calls.c
 calls the library with requests, pointers and lengths of all kinds, as C99 and C++11, and under valgrind where that is there. Then the library and the command
 answer each FONT, or the fonts of /usr/share/fonts, at most 100: their counts of programs and of refused ones, and the first refusals, must be the
-same. So must be what a shared library made of the archive answers, called from Python (examples/embedding/verdict.py). What differs is printed, and
-the exit status is then 1.
+same. So must be what a shared library made of the archive answers, called from Python (examples/embedding/verdict.py), whose module has tests of its own
+there (test_hintcheck.py). What differs is printed, and the exit status is then 1.
 """
 
 import os
@@ -78,7 +78,7 @@ REFUSED_CVT_PROGRAM = b"\x21"
 # What the example prints of each font.
 PRINTED = {
     "serif.ttf": "accepted: 5 programs, hinted\n",
-    "broken.ttf": "refused g1 at f:10: 26 underflow\nrefused g2 at g2:8: 38 depth mismatch\nrefused: 2 of 5 programs, not hinted\n",
+    "broken.ttf": "refused g1 at f:10: 26 underflow\nrefused g2 at g2:8: 38 depth mismatch\nrefused: 2 of 5 programs, glyphs with hints: 1\n",
     "short.ttf": "status 2, fault 4, not hinted\n",
 }
 
@@ -143,7 +143,8 @@ def fails_example(line: pathlib.Path, folder: pathlib.Path) -> bool:
     ran = run([str(line), str(folder / "serif.ttf"), "abc", str(folder / "line.pgm"), str(certificate)])
     failed |= differs("line with a certificate", ran.stdout.splitlines()[0], PRINTED["serif.ttf"].strip())
     ran = run([str(line), str(folder / "broken.ttf"), "abc", str(folder / "line.pgm"), str(certificate)])
-    return failed | differs("line with another's certificate", "hinted" in ran.stdout.replace("not hinted", ""), False)
+    hinted = re.search(r"accepted|glyphs with hints: [1-9]", ran.stdout) is not None
+    return failed | differs("line with another's certificate", hinted, False)
 
 
 def fails_calls(programs: dict[str, pathlib.Path], folder: pathlib.Path) -> bool:
@@ -177,7 +178,10 @@ def fails_shared(folder: pathlib.Path) -> bool:
         told = must([sys.executable, str(SOURCES / "verdict.py"), str(library), str(folder / name)])
         wanted = "".join(f"{folder / name}: {line}\n" for line in by_command(folder / name)[0].splitlines())
         failed |= differs(f"verdict.py {name}", told, wanted)
-    return failed
+    tests = run([sys.executable, str(SOURCES / "test_hintcheck.py"), str(library)])
+    if tests.returncode:
+        print(tests.stdout, end="")
+    return failed or tests.returncode != 0
 
 
 def by_command(font: pathlib.Path) -> tuple[str, float]:
@@ -195,7 +199,7 @@ def by_command(font: pathlib.Path) -> tuple[str, float]:
 def by_library(line: pathlib.Path, font: pathlib.Path) -> str:
     """What the library answers of a font."""
     told = run([str(line), str(font), "", "/dev/null"]).stdout
-    lines = [re.sub(r", (?:not )?hinted$", "", text) for text in told.splitlines() if not text.endswith(("glyphs drawn", "no face"))]
+    lines = [re.sub(r", (?:(?:not )?hinted|glyphs with hints: \d+)$", "", text) for text in told.splitlines() if not text.endswith(("glyphs drawn", "no face"))]
     return "\n".join(lines)
 
 

@@ -86,7 +86,7 @@ def proved(said: list[str] | None) -> str:
         f"Digest of the sources: {gate_record.sources_digest()}\n"
         f"    In a clone at this commit the same is printed by\n    {gate_record.BY_HAND}\n"
         f"What `rt ci` said of these sources with this toolchain, in its last lines:\n{lines}\n"
-        "What that means is in README.md, under \"What is proved\"; docs/CONTRACTS.md has the contracts. The proof is one of the sources: that\n"
+        "What that means is in README.md, under \"What is proved\"; docs/CONTRACTS.md names the contracts. The proof is one of the sources: that\n"
         "program and library were compiled from them, as `rt` and bench/library.py do it, is the word of whoever made this package. Whoever has\n"
         "the toolchain proves and builds them in a clone by `make check`, `make install` and `make install-library`.\n"
     )

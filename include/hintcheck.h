@@ -7,11 +7,11 @@
  * Where hintcheck_verdict or hintcheck_check answers HINTCHECK_ACCEPTED by the strict profile, no run of any of these programs reaches a
  * fault of the hint machine: no stack underflow, no stack above maxStackElements, no CVT, storage, function, zone, contour or point number
  * out of range, and no step outside the program's bytes. That is proved, for every font and every certificate
- * (crates/hintcheck_c/src/lib.rt, the clauses `accepted`), and so is the rest of the answer, except that `points` is how many were made
- * (the clauses `verdict` and `fault`).
+ * (crates/hintcheck_c/src/lib.rt, the clauses `accepted`), and so is the rest of the answer, except that `points` and `steps` are how many
+ * were made (the clauses `verdict` and `fault`).
  *
- * hintcheck_may_hint says of each glyph of a font whether it may be drawn with hints, also where some programs are refused: that no run of
- * what is run to draw it reaches a fault is proved too (the clauses `hinted`).
+ * hintcheck_verdict also says of each glyph of a font whether it may be drawn with hints, also where some programs are refused: that no run
+ * of what is run to draw it reaches a fault is proved too (the clauses `hinted`).
  *
  * The symbolic profile follows values that are computed, and accepts far more fonts. Its acceptance is a theorem too, but about a machine
  * that works more as interpreters do: it keeps control values, and computes exactly. docs/EMBEDDING.md says which premises that adds.
@@ -130,41 +130,44 @@ typedef struct hintcheck_answer {
     uint32_t status;   /* an enum hintcheck_status */
     uint32_t fault;    /* the fault's number, as docs/REASONS.md lists them; 0 where there is a verdict, and at HINTCHECK_USAGE */
     uint64_t place;    /* at fault 43, the first byte of the certificate that is wrong; otherwise 0 */
-    uint64_t points;   /* how many points were made, also where there is no verdict: one each time that a state was carried on; none by
-                        * HINTCHECK_SYMBOLIC */
+    uint64_t points;   /* by HINTCHECK_STRICT, how many points were made, also where there is no verdict: one each time that a state was
+                        * carried on; otherwise 0 */
+    uint64_t steps;    /* by HINTCHECK_SYMBOLIC, how many steps the search made, also where there is no verdict: one each time that it
+                        * carried a state over an instruction; otherwise 0 */
     uint32_t programs; /* how many programs the font has: its glyphs and 2; 0 where there is no verdict */
     uint32_t refused;  /* how many of them are refused */
     size_t listed;     /* how many of these were written to `refusals`: the first ones, as many as there was room for */
 } hintcheck_answer;
 
-/* Where the status is HINTCHECK_REFUSED, hints may stay on for some glyphs: hintcheck_may_hint says for which. */
+/* Where the status is HINTCHECK_REFUSED, hints may stay on for some glyphs: the array `may_hint` of hintcheck_verdict says for which. There
+ * is none where the font program or the CVT program is refused. */
 
 /* Compiles only where the compiler lays out these two structs as the library does: the array has no length that is allowed otherwise. No
  * request gets to the library. */
 typedef char hintcheck_layout_is_right[
     sizeof(size_t) == 8 && sizeof(hintcheck_refusal) == 20 && offsetof(hintcheck_refusal, program) == 0 &&
     offsetof(hintcheck_refusal, place) == 4 && offsetof(hintcheck_refusal, offset) == 8 && offsetof(hintcheck_refusal, reason) == 12 &&
-    offsetof(hintcheck_refusal, reason_class) == 16 && sizeof(hintcheck_answer) == 40 && offsetof(hintcheck_answer, status) == 0 &&
+    offsetof(hintcheck_refusal, reason_class) == 16 && sizeof(hintcheck_answer) == 48 && offsetof(hintcheck_answer, status) == 0 &&
     offsetof(hintcheck_answer, fault) == 4 && offsetof(hintcheck_answer, place) == 8 && offsetof(hintcheck_answer, points) == 16 &&
-    offsetof(hintcheck_answer, programs) == 24 && offsetof(hintcheck_answer, refused) == 28 && offsetof(hintcheck_answer, listed) == 32
+    offsetof(hintcheck_answer, steps) == 24 && offsetof(hintcheck_answer, programs) == 32 && offsetof(hintcheck_answer, refused) == 36 &&
+    offsetof(hintcheck_answer, listed) == 40
     ? 1 : -1];
 
 /* The version of the library: a byte each for its three numbers, as HINTCHECK_VERSION. */
 uint32_t hintcheck_version(void);
 
 /* The library's own functions, one for each call below and each profile that it takes. They take no null pointer, also where a length is
- * 0. Use the calls below, which do. */
+ * 0: no array without room and no `*text` may be null. Use the calls below, which see to that. */
 uint32_t hintcheck_verdict_of_bytes(const uint8_t *font, size_t font_length, uint64_t points, hintcheck_refusal *refusals, size_t room,
-                                    hintcheck_answer *answer);
+                                    uint8_t *may_hint, size_t glyphs, hintcheck_answer *answer);
 uint32_t hintcheck_verdict_symbolic_of_bytes(const uint8_t *font, size_t font_length, uint64_t steps, hintcheck_refusal *refusals,
-                                             size_t room, hintcheck_answer *answer);
+                                             size_t room, uint8_t *may_hint, size_t glyphs, hintcheck_answer *answer);
 uint32_t hintcheck_check_of_bytes(const uint8_t *font, size_t font_length, const uint8_t *certificate, size_t certificate_length,
                                   uint64_t points, hintcheck_refusal *refusals, size_t room, hintcheck_answer *answer);
-uint32_t hintcheck_may_hint_of_bytes(const uint8_t *font, size_t font_length, uint64_t points, uint8_t *may_hint, size_t room,
-                                     hintcheck_answer *answer);
-uint32_t hintcheck_may_hint_symbolic_of_bytes(const uint8_t *font, size_t font_length, uint64_t steps, uint8_t *may_hint, size_t room,
-                                              hintcheck_answer *answer);
 
+/* Points `*text` to the text of a reason, 24 bytes that stay: the text, and zeros after it. Returns whether the number is a reason's; where
+ * it isn't, `*text` stays. Neither `text` nor `*text` may be null: when you call, `*text` points to 24 bytes of yours that can be read,
+ * whatever they are. */
 bool hintcheck_reason_text_of_number(uint32_t number, const uint8_t **text);
 
 /* The text of a reason, as the command prints it, "underflow" for HINTCHECK_REASON_UNDERFLOW: a constant string, which stays. A null
@@ -199,6 +202,7 @@ static inline uint32_t hintcheck_usage(hintcheck_answer *answer)
         answer->fault = 0;
         answer->place = 0;
         answer->points = 0;
+        answer->steps = 0;
         answer->programs = 0;
         answer->refused = 0;
         answer->listed = 0;
@@ -215,33 +219,50 @@ static inline uint32_t hintcheck_no_hints(uint8_t *may_hint, size_t room, hintch
     return hintcheck_usage(answer);
 }
 
-/* Checks the programs of the request's font by its profile, and returns the status. The first refusals, at most `room`, are written to
- * `refusals`; what was there after them stays. A null pointer with a length of 0 is no bytes, or no room. A length above 2^31 is taken like
- * any other.
+/* Checks the programs of the request's font by its profile, and returns the status. Both arrays are optional: for none, hand in a null
+ * pointer and a length of 0.
+ *
+ * The first refusals, at most `room`, are written to `refusals`; what was there after them stays.
+ *
+ * `may_hint` has `glyphs` entries, which say of each glyph whether it may be drawn with hints. To draw a composite glyph, a renderer runs
+ * the glyph programs of its components too. So `may_hint[g]` is 1 exactly where the font program, the CVT program, the program of glyph g
+ * and those of its components, at any depth, are accepted: then no run of one of them reaches a fault, also where the status is
+ * HINTCHECK_REFUSED. By HINTCHECK_SYMBOLIC that holds as long as no glyph whose entry is 0 is drawn with hints (docs/EMBEDDING.md, "The
+ * symbolic profile"). All entries are written: the others are 0, those past the last glyph too, and all of them where the font program or
+ * the CVT program is refused, and at any status but HINTCHECK_ACCEPTED and HINTCHECK_REFUSED. 65,535 entries are room enough for any font;
+ * with fewer than there are glyphs, nothing is said of the glyphs after these.
  *
  * By HINTCHECK_STRICT at most request->limit points are made, or as many as the font asks for with HINTCHECK_UNLIMITED: where that is too
  * few, the status is HINTCHECK_BUDGET.
  *
  * By HINTCHECK_SYMBOLIC the search makes at most request->limit steps for the font (HINTCHECK_USUAL_STEPS is what the command allows), and
  * at most 20,000,000 for a program: a program for which that is too little is refused (46), and so is each after it that needs a step,
- * where the font's steps are used up. No points are counted, answer->points is 0, and the status is never HINTCHECK_BUDGET. A program is
- * refused where this search found no way to accept it, which says no more.
+ * where the font's steps are used up. answer->steps says how many it made. No points are counted, and the status is never HINTCHECK_BUDGET.
+ * A program is refused where this search found no way to accept it, which says no more.
  *
  * Statuses: each of enum hintcheck_status. HINTCHECK_USAGE is for a null request or answer, a null pointer with a length that isn't 0, a
- * profile that isn't one of enum hintcheck_profile, and a face that isn't 0. */
-static inline uint32_t hintcheck_verdict(const hintcheck_request *request, hintcheck_refusal *refusals, size_t room,
-                                         hintcheck_answer *answer)
+ * profile that isn't one of enum hintcheck_profile, and a face that isn't 0. A length above 2^31 is taken like any other. */
+static inline uint32_t hintcheck_verdict(const hintcheck_request *request, hintcheck_refusal *refusals, size_t room, uint8_t *may_hint,
+                                         size_t glyphs, hintcheck_answer *answer)
 {
-    hintcheck_refusal no_room;
-    if (!answer || !hintcheck_can_take(request) || (!refusals && room)) {
-        return hintcheck_usage(answer);
+    hintcheck_refusal no_refusal;
+    uint8_t no_glyph;
+    if (!answer || !hintcheck_can_take(request) || (!refusals && room) || (!may_hint && glyphs)) {
+        return hintcheck_no_hints(may_hint, glyphs, answer);
     }
     const uint8_t *font = hintcheck_bytes(request->font);
-    hintcheck_refusal *list = refusals ? refusals : &no_room;
+    hintcheck_refusal *list = refusals ? refusals : &no_refusal;
+    uint8_t *entries = may_hint ? may_hint : &no_glyph;
     if (request->profile == HINTCHECK_SYMBOLIC) {
-        return hintcheck_verdict_symbolic_of_bytes(font, request->font_length, request->limit, list, room, answer);
+        return hintcheck_verdict_symbolic_of_bytes(font, request->font_length, request->limit, list, room, entries, glyphs, answer);
     }
-    return hintcheck_verdict_of_bytes(font, request->font_length, request->limit, list, room, answer);
+    return hintcheck_verdict_of_bytes(font, request->font_length, request->limit, list, room, entries, glyphs, answer);
+}
+
+/* hintcheck_verdict without a list of refusals. */
+static inline uint32_t hintcheck_may_hint(const hintcheck_request *request, uint8_t *may_hint, size_t glyphs, hintcheck_answer *answer)
+{
+    return hintcheck_verdict(request, NULL, 0, may_hint, glyphs, answer);
 }
 
 /* Checks the programs of the request's font by the certificate in `certificate_length` bytes at `certificate`, as `hintcheck find` writes
@@ -249,7 +270,8 @@ static inline uint32_t hintcheck_verdict(const hintcheck_request *request, hintc
  * hintcheck_verdict by HINTCHECK_STRICT. A certificate that was made for another font mostly comes to HINTCHECK_FAULT (43) or to
  * HINTCHECK_REFUSED (41, 42 among the reasons), or to HINTCHECK_BUDGET before that; where it fits this font too, to HINTCHECK_ACCEPTED,
  * which is right: an acceptance is a theorem about the font's bytes, whatever the certificate is. A certificate is checked by the strict
- * profile: where the request's is another than HINTCHECK_STRICT, the status is HINTCHECK_USAGE. All else is as for hintcheck_verdict. */
+ * profile: where the request's is another than HINTCHECK_STRICT, the status is HINTCHECK_USAGE. It says nothing of single glyphs. All else
+ * is as for hintcheck_verdict. */
 static inline uint32_t hintcheck_check(const hintcheck_request *request, const uint8_t *certificate, size_t certificate_length,
                                        hintcheck_refusal *refusals, size_t room, hintcheck_answer *answer)
 {
@@ -260,30 +282,6 @@ static inline uint32_t hintcheck_check(const hintcheck_request *request, const u
     }
     return hintcheck_check_of_bytes(hintcheck_bytes(request->font), request->font_length, hintcheck_bytes(certificate), certificate_length,
                                     request->limit, refusals ? refusals : &no_room, room, answer);
-}
-
-/* Checks the programs of the request's font as hintcheck_verdict does, returns the same status, and says of each glyph whether it may be
- * drawn with hints. To draw a composite glyph, a renderer runs the glyph programs of its components too. So `may_hint[g]` is 1 exactly
- * where the font program, the CVT program, the program of glyph g and those of its components, at any depth, are accepted: then no run of
- * one of them reaches a fault, also where the status is HINTCHECK_REFUSED. By HINTCHECK_SYMBOLIC that holds as long as no glyph whose entry
- * is 0 is drawn with hints (docs/EMBEDDING.md, "The symbolic profile").
- *
- * All of the array's `room` entries are written: the others are 0, those past the last glyph too, and all of them where the font program or
- * the CVT program is refused, or where there is no verdict. 65,535 entries are room enough for any font; with fewer than there are glyphs,
- * nothing is said of the glyphs after these. No refusals are listed, and answer->listed is 0. At HINTCHECK_USAGE too all entries are 0,
- * unless `may_hint` is the null pointer. All else is as for hintcheck_verdict. */
-static inline uint32_t hintcheck_may_hint(const hintcheck_request *request, uint8_t *may_hint, size_t room, hintcheck_answer *answer)
-{
-    uint8_t no_room;
-    if (!answer || !hintcheck_can_take(request) || (!may_hint && room)) {
-        return hintcheck_no_hints(may_hint, room, answer);
-    }
-    const uint8_t *font = hintcheck_bytes(request->font);
-    uint8_t *entries = may_hint ? may_hint : &no_room;
-    if (request->profile == HINTCHECK_SYMBOLIC) {
-        return hintcheck_may_hint_symbolic_of_bytes(font, request->font_length, request->limit, entries, room, answer);
-    }
-    return hintcheck_may_hint_of_bytes(font, request->font_length, request->limit, entries, room, answer);
 }
 
 #ifdef __cplusplus

@@ -38,21 +38,22 @@ static void call_verdict(const uint8_t *accepted, size_t accepted_length, const 
     hintcheck_answer answer;
     hintcheck_refusal refusals[4];
     memset(refusals, 0x55, sizeof refusals);
-    expect(hintcheck_verdict(&request, refusals, 4, &answer) == HINTCHECK_ACCEPTED, "an accepted font");
+    expect(hintcheck_verdict(&request, refusals, 4, NULL, 0, &answer) == HINTCHECK_ACCEPTED, "an accepted font");
     expect(answer.status == HINTCHECK_ACCEPTED && answer.fault == 0, "its status");
     expect(answer.programs == 5 && answer.refused == 0 && answer.listed == 0, "its counts");
+    expect(answer.points > 0 && answer.steps == 0, "its points");
     request.font = refused;
     request.font_length = refused_length;
-    expect(hintcheck_verdict(&request, refusals, 4, &answer) == HINTCHECK_REFUSED, "a refused font");
+    expect(hintcheck_verdict(&request, refusals, 4, NULL, 0, &answer) == HINTCHECK_REFUSED, "a refused font");
     expect(answer.programs == 5 && answer.refused == 2 && answer.listed == 2, "counts of a refused font");
     expect(refusals[0].program == 1 && refusals[0].place == HINTCHECK_FONT_PROGRAM && refusals[0].offset == 10, "the first refusal");
     expect(refusals[0].reason == 26 && refusals[0].reason_class == HINTCHECK_POSSIBLE_FAULT, "its reason");
     expect(refusals[1].program == 2 && refusals[1].place == 2 && refusals[1].offset == 8, "the second refusal");
     expect(refusals[1].reason == 38 && refusals[1].reason_class == HINTCHECK_UNDECIDED, "its reason");
     expect(refusals[2].program == 0x55555555u, "what is after the refusals");
-    expect(hintcheck_verdict(&request, refusals, 1, &answer) == HINTCHECK_REFUSED, "room for one");
+    expect(hintcheck_verdict(&request, refusals, 1, NULL, 0, &answer) == HINTCHECK_REFUSED, "room for one");
     expect(answer.refused == 2 && answer.listed == 1, "counts with room for one");
-    expect(hintcheck_verdict(&request, NULL, 0, &answer) == HINTCHECK_REFUSED, "no room");
+    expect(hintcheck_verdict(&request, NULL, 0, NULL, 0, &answer) == HINTCHECK_REFUSED, "no room");
     expect(answer.refused == 2 && answer.listed == 0, "counts with no room");
 }
 
@@ -78,23 +79,24 @@ static void call_oddly(const uint8_t *accepted, size_t accepted_length)
 {
     hintcheck_request request = {NULL, 0, HINTCHECK_STRICT, 0, HINTCHECK_UNLIMITED};
     hintcheck_answer answer;
-    expect(hintcheck_verdict(&request, NULL, 0, &answer) == HINTCHECK_FAULT, "no bytes");
+    expect(hintcheck_verdict(&request, NULL, 0, NULL, 0, &answer) == HINTCHECK_FAULT, "no bytes");
     expect(answer.fault == 2 && answer.programs == 0, "what is told of no bytes");
     request.font_length = 1;
-    expect(hintcheck_verdict(&request, NULL, 0, &answer) == HINTCHECK_USAGE, "a null font");
+    expect(hintcheck_verdict(&request, NULL, 0, NULL, 0, &answer) == HINTCHECK_USAGE, "a null font");
     expect(answer.status == HINTCHECK_USAGE && answer.programs == 0, "what is told of it");
     request.font = accepted;
     request.font_length = accepted_length;
-    expect(hintcheck_verdict(&request, NULL, 1, &answer) == HINTCHECK_USAGE, "null room");
-    expect(hintcheck_verdict(&request, NULL, 0, NULL) == HINTCHECK_USAGE, "a null answer");
+    expect(hintcheck_verdict(&request, NULL, 1, NULL, 0, &answer) == HINTCHECK_USAGE, "null room");
+    expect(hintcheck_verdict(&request, NULL, 0, NULL, 1, &answer) == HINTCHECK_USAGE, "null room for a glyph beside no refusals");
+    expect(hintcheck_verdict(&request, NULL, 0, NULL, 0, NULL) == HINTCHECK_USAGE, "a null answer");
     expect(hintcheck_version() == HINTCHECK_VERSION, "the version");
 }
 
 /* Whether an answer says that what was handed in can't be taken, and nothing else. */
 static int says_usage(const hintcheck_answer *answer)
 {
-    return answer->status == HINTCHECK_USAGE && answer->fault == 0 && answer->place == 0 && answer->points == 0 && answer->programs == 0 &&
-           answer->refused == 0 && answer->listed == 0;
+    return answer->status == HINTCHECK_USAGE && answer->fault == 0 && answer->place == 0 && answer->points == 0 && answer->steps == 0 &&
+           answer->programs == 0 && answer->refused == 0 && answer->listed == 0;
 }
 
 /* Whether an array has these entries, and then zeros. */
@@ -116,7 +118,9 @@ static void call_by(const hintcheck_request *request, const uint8_t *certificate
     uint8_t may_hint[4];
     memset(refusals, 0x55, sizeof refusals);
     memset(&answer, 0x55, sizeof answer);
-    expect(hintcheck_verdict(request, refusals, 1, &answer) == HINTCHECK_USAGE && says_usage(&answer), what);
+    memset(may_hint, 0x55, sizeof may_hint);
+    expect(hintcheck_verdict(request, refusals, 1, may_hint, 4, &answer) == HINTCHECK_USAGE && says_usage(&answer), what);
+    expect(has(may_hint, 4, NULL, 0), "no glyph of it beside no refusal");
     memset(&answer, 0x55, sizeof answer);
     expect(hintcheck_check(request, certificate, certificate_length, refusals, 1, &answer) == HINTCHECK_USAGE && says_usage(&answer), what);
     expect(refusals[0].program == 0x55555555u, "no refusal of it");
@@ -148,9 +152,9 @@ static void call_by_odd_requests(const uint8_t *accepted, size_t accepted_length
     request.font = NULL;
     call_by(&request, certificate, certificate_length, "a null font by symbolic states");
     request.font_length = 0;
-    expect(hintcheck_verdict(&request, NULL, 0, &answer) == HINTCHECK_FAULT && answer.fault == 2, "no bytes by symbolic states");
-    expect(hintcheck_verdict(&request, NULL, 1, &answer) == HINTCHECK_USAGE, "null room by symbolic states");
-    expect(hintcheck_verdict(&request, NULL, 0, NULL) == HINTCHECK_USAGE, "a null answer by symbolic states");
+    expect(hintcheck_verdict(&request, NULL, 0, NULL, 0, &answer) == HINTCHECK_FAULT && answer.fault == 2, "no bytes by symbolic states");
+    expect(hintcheck_verdict(&request, NULL, 1, NULL, 0, &answer) == HINTCHECK_USAGE, "null room by symbolic states");
+    expect(hintcheck_verdict(&request, NULL, 0, NULL, 0, NULL) == HINTCHECK_USAGE, "a null answer by symbolic states");
 }
 
 static void call_may_hint(const uint8_t *composites, size_t length)
@@ -181,6 +185,31 @@ static void call_may_hint(const uint8_t *composites, size_t length)
     expect(answer.refused == 2 && answer.points == 0, "the counts beside it by symbolic states");
 }
 
+/* Refusals and glyphs by one call: what each of the two tells alone, by both profiles. */
+static void call_for_both(const uint8_t *composites, size_t length)
+{
+    static const uint8_t entries[11] = {1, 0, 1, 0, 0, 1, 0, 0, 0, 1, 1};
+    static const uint32_t profiles[2] = {HINTCHECK_STRICT, HINTCHECK_SYMBOLIC};
+    for (size_t i = 0; i < 2; i++) {
+        hintcheck_request request = {composites, length, profiles[i], 0, HINTCHECK_USUAL_STEPS};
+        hintcheck_answer answer, alone;
+        hintcheck_refusal refusals[4];
+        uint8_t may_hint[16];
+        memset(refusals, 0x55, sizeof refusals);
+        memset(may_hint, 0x55, sizeof may_hint);
+        expect(hintcheck_verdict(&request, refusals, 4, may_hint, 16, &answer) == HINTCHECK_REFUSED, "refusals and glyphs");
+        expect(has(may_hint, 16, entries, 11), "which may be drawn with hints beside the refusals");
+        expect(answer.refused == 2 && answer.listed == 2, "how many refusals are listed beside the glyphs");
+        expect(refusals[0].program == 1 && refusals[1].program == 6, "which refusals they are");
+        expect(refusals[2].program == 0x55555555u, "what is after them");
+        expect((answer.points > 0) == (i == 0) && (answer.steps > 0) == (i == 1), "points by one profile, steps by the other");
+        expect(hintcheck_may_hint(&request, may_hint, 16, &alone) == HINTCHECK_REFUSED, "glyphs alone");
+        expect(alone.points == answer.points && alone.steps == answer.steps, "as many points and steps for glyphs alone");
+        expect(hintcheck_verdict(&request, refusals, 1, may_hint, 2, &answer) == HINTCHECK_REFUSED, "room for one and for two");
+        expect(answer.listed == 1 && refusals[0].program == 1 && has(may_hint, 2, entries, 2), "one refusal and two glyphs");
+    }
+}
+
 static void call_may_hint_of_none(const uint8_t *cvt, size_t cvt_length, const uint8_t *circle, size_t circle_length)
 {
     hintcheck_request request = {cvt, cvt_length, HINTCHECK_STRICT, 0, HINTCHECK_UNLIMITED};
@@ -189,6 +218,10 @@ static void call_may_hint_of_none(const uint8_t *cvt, size_t cvt_length, const u
     memset(may_hint, 0x55, sizeof may_hint);
     expect(hintcheck_may_hint(&request, may_hint, 4, &answer) == HINTCHECK_REFUSED, "a refused CVT program");
     expect(has(may_hint, 4, NULL, 0) && answer.refused == 1, "no glyph after it");
+    hintcheck_refusal refusal;
+    memset(may_hint, 0x55, sizeof may_hint);
+    expect(hintcheck_verdict(&request, &refusal, 1, may_hint, 4, &answer) == HINTCHECK_REFUSED, "a refused CVT program, listed");
+    expect(has(may_hint, 4, NULL, 0) && refusal.program == HINTCHECK_CVT_PROGRAM, "the program, and no glyph after it");
     request.profile = HINTCHECK_SYMBOLIC;
     request.limit = HINTCHECK_USUAL_STEPS;
     memset(may_hint, 0x55, sizeof may_hint);
@@ -263,24 +296,39 @@ static void call_reason_text(void)
     expect(next == count && !hintcheck_reason_text(UINT32_MAX), "each reason has a text");
 }
 
+/* The library's own function for texts: the pointer that is handed in points to 24 bytes, of any kind, and stays where the number is no
+ * reason's. */
+static void call_text_of_number(void)
+{
+    uint8_t own[24];
+    const uint8_t *text = own;
+    memset(own, 0x55, sizeof own);
+    expect(!hintcheck_reason_text_of_number(0, &text) && text == own, "a pointer stays where the number is no reason's");
+    expect(!hintcheck_reason_text_of_number(48, &text) && text == own, "a pointer stays after the last reason");
+    expect(hintcheck_reason_text_of_number(HINTCHECK_REASON_CVT, &text) && text != own, "a pointer to a reason's text");
+    expect(strcmp((const char *)text, "cvt") == 0 && has(text, 24, (const uint8_t *)"cvt", 3), "a text, and zeros after it");
+    expect(hintcheck_reason_text_of_number(HINTCHECK_REASON_INSTRUCTION_DEFINITION, &text), "another text over the first one");
+    expect(strcmp((const char *)text, "instruction definition") == 0 && text[23] == 0 && own[0] == 0x55, "that text");
+}
+
 /* With each number of points up to the one that the font needs, and with that one. */
 static void call_within(const uint8_t *font, size_t length, uint32_t status, const uint8_t *certificate, size_t certificate_length)
 {
     hintcheck_request request = {font, length, HINTCHECK_STRICT, 0, HINTCHECK_UNLIMITED};
     hintcheck_answer answer;
     hintcheck_refusal refusals[4];
-    hintcheck_verdict(&request, refusals, 4, &answer);
+    hintcheck_verdict(&request, refusals, 4, NULL, 0, &answer);
     uint64_t needed = answer.points;
     expect(needed > 0, "points are counted");
     for (uint64_t points = 0; points < needed; points++) {
         request.limit = points;
         memset(refusals, 0x55, sizeof refusals);
-        expect(hintcheck_verdict(&request, refusals, 4, &answer) == HINTCHECK_BUDGET, "too few points");
+        expect(hintcheck_verdict(&request, refusals, 4, NULL, 0, &answer) == HINTCHECK_BUDGET, "too few points");
         expect(answer.status == HINTCHECK_BUDGET && answer.fault == 46 && answer.points == points, "what is told of them");
         expect(answer.programs == 0 && answer.listed == 0 && refusals[0].program == 0x55555555u, "nothing else");
     }
     request.limit = needed;
-    expect(hintcheck_verdict(&request, refusals, 4, &answer) == status, "enough points");
+    expect(hintcheck_verdict(&request, refusals, 4, NULL, 0, &answer) == status, "enough points");
     expect(answer.points == needed, "how many they are");
     request.limit = 0;
     expect(hintcheck_check(&request, certificate, certificate_length, refusals, 4, &answer) == HINTCHECK_BUDGET, "a check without points");
@@ -297,17 +345,22 @@ static void call_within_steps(const uint8_t *font, size_t length)
     hintcheck_answer answer;
     hintcheck_refusal refusals[4];
     uint8_t may_hint[4];
-    while (request.limit < 10000 && hintcheck_verdict(&request, refusals, 4, &answer) == HINTCHECK_REFUSED) {
+    while (request.limit < 10000 && hintcheck_verdict(&request, refusals, 4, NULL, 0, &answer) == HINTCHECK_REFUSED) {
         expect(answer.refused > 0 && refusals[0].reason == HINTCHECK_REASON_TOO_MANY_STEPS, "what is told of too few steps");
+        expect(answer.steps <= request.limit && answer.points == 0, "how many were made");
         request.limit++;
     }
     uint64_t steps = request.limit;
     expect(steps > 0, "steps are counted");
-    expect(answer.status == HINTCHECK_ACCEPTED && answer.points == 0, "enough steps");
+    expect(answer.status == HINTCHECK_ACCEPTED && answer.points == 0 && answer.steps == steps, "enough steps");
     request.limit = HINTCHECK_USUAL_STEPS;
-    expect(hintcheck_verdict(&request, refusals, 4, &answer) == HINTCHECK_ACCEPTED, "more steps");
+    expect(hintcheck_verdict(&request, refusals, 4, NULL, 0, &answer) == HINTCHECK_ACCEPTED && answer.steps == steps, "more steps");
     request.limit = HINTCHECK_UNLIMITED;
-    expect(hintcheck_verdict(&request, refusals, 4, &answer) == HINTCHECK_ACCEPTED, "as many steps as are made");
+    expect(hintcheck_verdict(&request, refusals, 4, NULL, 0, &answer) == HINTCHECK_ACCEPTED && answer.steps == steps,
+           "as many steps as are made");
+    request.font_length -= 40;
+    expect(hintcheck_verdict(&request, refusals, 4, NULL, 0, &answer) == HINTCHECK_FAULT && answer.steps == 0, "no step for no font");
+    request.font_length = length;
     request.limit = steps;
     expect(hintcheck_may_hint(&request, may_hint, 4, &answer) == HINTCHECK_ACCEPTED, "enough steps for glyphs");
     request.limit = steps - 1;
@@ -328,9 +381,9 @@ static void call_with_many_bytes(const uint8_t *accepted, size_t accepted_length
         return;
     }
     hintcheck_request request = {bytes, length, HINTCHECK_STRICT, 0, HINTCHECK_UNLIMITED};
-    expect(hintcheck_verdict(&request, NULL, 0, &answer) == HINTCHECK_FAULT && answer.fault == 1, "many zeros");
+    expect(hintcheck_verdict(&request, NULL, 0, NULL, 0, &answer) == HINTCHECK_FAULT && answer.fault == 1, "many zeros");
     memcpy(bytes, accepted, accepted_length);
-    expect(hintcheck_verdict(&request, NULL, 0, &answer) == HINTCHECK_ACCEPTED, "a font before many zeros");
+    expect(hintcheck_verdict(&request, NULL, 0, NULL, 0, &answer) == HINTCHECK_ACCEPTED, "a font before many zeros");
     free(bytes);
 }
 
@@ -353,8 +406,10 @@ int main(int argc, char **argv)
     call_oddly(accepted, accepted_length);
     call_by_odd_requests(accepted, accepted_length, certificate, certificate_length);
     call_may_hint(composites, composites_length);
+    call_for_both(composites, composites_length);
     call_may_hint_of_none(cvt, cvt_length, circle, circle_length);
     call_reason_text();
+    call_text_of_number();
     call_within(accepted, accepted_length, HINTCHECK_ACCEPTED, certificate, certificate_length);
     call_within_steps(accepted, accepted_length);
     if (argc == 7) {

@@ -1,6 +1,6 @@
-/* Draws a line of text to a PGM file by FreeType, with the font's hints only where hintcheck accepts them.
+/* Draws a line of text to a PGM file by FreeType, each glyph with hints only where hintcheck accepts all that is run to draw it.
  * Usage: line FONT TEXT OUTPUT.pgm [CERT]
- * With CERT, a certificate that `hintcheck find FONT CERT` has written, the font is checked by it. */
+ * With CERT, a certificate that `hintcheck find FONT CERT` has written, the font is checked by it: all glyphs have hints then, or none. */
 #include <hintcheck.h>
 #include <stdio.h>
 #include <stdlib.h>
@@ -19,6 +19,9 @@ enum { SIZE = 24, WIDTH = 480, HEIGHT = 40, BASELINE = 30, LISTED = 3 };
 #define NO_HINTS (FT_LOAD_NO_HINTING | FT_LOAD_NO_AUTOHINT)
 
 static unsigned char image[HEIGHT][WIDTH];
+
+/* Whether each glyph may be drawn with hints: room enough for any font. */
+static uint8_t may_hint[65535];
 
 /* The bytes of a file, or null. */
 static unsigned char *read_file(const char *name, size_t *length)
@@ -52,37 +55,50 @@ static const char *name_of(uint32_t program, char *room, size_t size)
     return room;
 }
 
-/* Asks hintcheck, says what it answers, and returns how FreeType is to load glyphs. */
-static int load_flags(const unsigned char *font, size_t length, const char *certificate_name)
+/* Says which programs are refused: the first ones. */
+static void print_refusals(const hintcheck_refusal *refusals, size_t count)
+{
+    for (size_t i = 0; i < count; i++) {
+        char program[16], place[16];
+        printf("refused %s at %s:%u: %u %s\n", name_of(refusals[i].program, program, sizeof program),
+               name_of(refusals[i].place, place, sizeof place), (unsigned)refusals[i].offset, (unsigned)refusals[i].reason,
+               hintcheck_reason_text(refusals[i].reason));
+    }
+}
+
+/* Asks hintcheck by a certificate: all glyphs may be drawn with hints, or none. */
+static uint32_t check(const hintcheck_request *request, const char *certificate_name, hintcheck_refusal *refusals, hintcheck_answer *answer)
+{
+    size_t size = 0;
+    unsigned char *certificate = read_file(certificate_name, &size);
+    uint32_t status = hintcheck_check(request, certificate, certificate ? size : 0, refusals, LISTED, answer);
+    free(certificate);
+    memset(may_hint, status == HINTCHECK_ACCEPTED, sizeof may_hint);
+    return status;
+}
+
+/* Asks hintcheck which glyphs may be drawn with hints, and says what it answers. */
+static void ask(const unsigned char *font, size_t length, const char *certificate_name)
 {
     hintcheck_request request = {.font = font, .font_length = length, .profile = HINTCHECK_STRICT, .limit = POINTS};
     hintcheck_refusal refusals[LISTED];
     hintcheck_answer answer;
-    uint32_t status;
-    if (certificate_name) {
-        size_t size = 0;
-        unsigned char *certificate = read_file(certificate_name, &size);
-        status = hintcheck_check(&request, certificate, certificate ? size : 0, refusals, LISTED, &answer);
-        free(certificate);
-    } else {
-        status = hintcheck_verdict(&request, refusals, LISTED, &answer);
-    }
+    uint32_t status = certificate_name ? check(&request, certificate_name, refusals, &answer)
+                                       : hintcheck_verdict(&request, refusals, LISTED, may_hint, sizeof may_hint, &answer);
+    unsigned hinted = 0;
     switch (status) {
     case HINTCHECK_ACCEPTED:
         printf("accepted: %u programs, hinted\n", (unsigned)answer.programs);
-        return FT_LOAD_DEFAULT;
+        break;
     case HINTCHECK_REFUSED:
-        for (size_t i = 0; i < answer.listed; i++) {
-            char program[16], place[16];
-            printf("refused %s at %s:%u: %u %s\n", name_of(refusals[i].program, program, sizeof program),
-                   name_of(refusals[i].place, place, sizeof place), (unsigned)refusals[i].offset, (unsigned)refusals[i].reason,
-                   hintcheck_reason_text(refusals[i].reason));
+        for (size_t glyph = 0; glyph < sizeof may_hint; glyph++) {
+            hinted += may_hint[glyph];
         }
-        printf("refused: %u of %u programs, not hinted\n", (unsigned)answer.refused, (unsigned)answer.programs);
-        return NO_HINTS;
+        print_refusals(refusals, answer.listed);
+        printf("refused: %u of %u programs, glyphs with hints: %u\n", (unsigned)answer.refused, (unsigned)answer.programs, hinted);
+        break;
     default:
         printf("status %u, fault %u, not hinted\n", (unsigned)status, (unsigned)answer.fault);
-        return NO_HINTS;
     }
 }
 
@@ -102,12 +118,19 @@ static void draw(const FT_Bitmap *bitmap, int left, int top)
     }
 }
 
+/* How FreeType is to load a glyph. */
+static FT_Int32 load_flags(FT_UInt glyph)
+{
+    return glyph < sizeof may_hint && may_hint[glyph] ? FT_LOAD_DEFAULT : NO_HINTS;
+}
+
 /* Draws the text by its outlines, and returns how many glyphs were drawn. */
-static int draw_text(FT_Face face, const char *text, int flags)
+static int draw_text(FT_Face face, const char *text)
 {
     int drawn = 0, at = 4;
     for (const char *c = text; *c; c++) {
-        if (FT_Load_Char(face, (unsigned char)*c, flags | FT_LOAD_RENDER | FT_LOAD_NO_BITMAP) == 0) {
+        FT_UInt glyph = FT_Get_Char_Index(face, (unsigned char)*c);
+        if (FT_Load_Glyph(face, glyph, load_flags(glyph) | FT_LOAD_RENDER | FT_LOAD_NO_BITMAP) == 0) {
             draw(&face->glyph->bitmap, at + face->glyph->bitmap_left, BASELINE - face->glyph->bitmap_top);
             at += (int)(face->glyph->advance.x >> 6);
             drawn++;
@@ -145,14 +168,14 @@ int main(int argc, char **argv)
         fprintf(stderr, "line: %s can't be read\n", argv[1]);
         return 2;
     }
-    int flags = load_flags(font, length, argc > 4 ? argv[4] : NULL);
+    ask(font, length, argc > 4 ? argv[4] : NULL);
     FT_Library library;
     FT_Face face;
     int status = 1;
     if (FT_Init_FreeType(&library) == 0) {
         if (FT_New_Memory_Face(library, font, (FT_Long)length, 0, &face) == 0) {
             FT_Set_Pixel_Sizes(face, 0, SIZE);
-            printf("%d glyphs drawn\n", draw_text(face, argv[2], flags));
+            printf("%d glyphs drawn\n", draw_text(face, argv[2]));
             status = write_image(argv[3]);
             FT_Done_Face(face);
         } else {

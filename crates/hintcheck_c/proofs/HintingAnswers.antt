@@ -1,62 +1,21 @@
--- What the two calls that tell which glyphs may be drawn with hints answer, from what they ask.
-use Rattle.std.proofs.Common.{◌≡◌, ℕ, ◌<◌, ◌≤◌, List, [], ◌∷◌, Bool, None, length, ap, arith, inl, inr}
+-- What the calls that tell which glyphs may be drawn with hints answer, from what they ask.
+use Rattle.std.proofs.Common.{◌≡◌, ℕ, ◌<◌, List, [], Bool, None, length, arith, inl, inr}
 use Rattle.std.specs.Prelude.{slice_index}
 use Rattle.std.specs.List.{AllByRecursion}
 use Rattle.std.proofs.lemmas.Bool.{cases_lt}
 use Rattle.std.proofs.lemmas.List.{get_or_past}
 use Rattle.tt_font.specs.FileFaults.{font_fault}
 use Rattle.tt_font.specs.Reading.{FontData, Reads}
-use Rattle.tt_font.specs.declared.fault.FontFault.TheVariants as faults
 use Rattle.hintcheck_programs.specs.FontPrograms.{IsVerdict}
 use Rattle.hintcheck_fonts.specs.SymbolicVerdicts.{IsSymbolicVerdict}
 use Rattle.hintcheck_programs.specs.Verdicts.{Judgement}
-use Rattle.tt_setting.specs.declared.exhausted.Exhausted.TheVariants as exhausted
-use Rattle.hintcheck_report.specs.declared.answer_fault.AnswerFault.{AnswerFault}
-use Rattle.hintcheck_report.specs.declared.answer_fault.AnswerFault.TheVariants as fault
-use Rattle.hintcheck_report.specs.declared.refused.Refused.{Refused}
-use Rattle.hintcheck_c.specs.Answers.{Answers, unanswered, status_of}
-use Rattle.hintcheck_c.specs.MayHint.{AnswersMayHint, AnswersMayHintSymbolic, HoldSafeGlyph, HoldSymbolicSafeGlyphs, TellsMayHint}
+use Rattle.hintcheck_c.specs.Answers.{Answers, AnswersSymbolicVerdict, AnswersVerdict}
+use Rattle.hintcheck_c.specs.MayHint.{HoldSafeGlyph, HoldSymbolicSafeGlyphs, TellsMayHint}
 use Rattle.hintcheck_c.specs.Representation.HintedSets.{AreHinted, Tell}
 use Rattle.hintcheck_c.specs.declared.answer.HintcheckAnswer.{HintcheckAnswer}
+use Rattle.hintcheck_c.specs.declared.refusal.HintcheckRefusal.{HintcheckRefusal}
 use Rattle.hintcheck_c.proofs.HintedGlyphs.{one_may, tells_may_hint}
 use Rattle.hintcheck_c.proofs.SafeGlyphs.{glyph_is_safe, glyphs_are_safe_symbolic}
-
--- ---- the status
-
-status_is_few : (refused : List Refused) → status_of refused ≤ 1
-status_is_few [] = omega arith
-status_is_few (r ∷ rs) = omega arith
-
--- a verdict has a status of at most 1
-pub verdict_status : (v : Judgement) (answer : HintcheckAnswer) → Answers v answer [] [] → answer.status ≤ 1
-verdict_status v answer given =
-    let few : status_of v.refused ≤ 1 = status_is_few v.refused in
-    let is : answer.status ≡ status_of v.refused = ap (λ (a : HintcheckAnswer). a.status) given.in_numbers in
-    omega arith
-
--- and a fault has another
-pub fault_status : (fault : AnswerFault) (points : ℕ) → 2 ≤ (unanswered fault points).status
-fault_status (fault.Font faults.NotSfnt) points = omega arith
-fault_status (fault.Font faults.DirectoryTruncated) points = omega arith
-fault_status (fault.Font (faults.MissingTable tag)) points = omega arith
-fault_status (fault.Font (faults.TableOutside tag)) points = omega arith
-fault_status (fault.Font faults.MaxpVersion) points = omega arith
-fault_status (fault.Font (faults.Loca entry)) points = omega arith
-fault_status (fault.Font (faults.GlyphTruncated id)) points = omega arith
-fault_status (fault.Font (faults.Composite id)) points = omega arith
-fault_status (fault.Font (faults.OutOfMemory error)) points = omega arith
-fault_status (fault.Form place) points = omega arith
-fault_status fault.Read points = omega arith
-fault_status fault.Write points = omega arith
-fault_status (fault.Print failed) points = omega arith
-fault_status (fault.Exhausted exhausted.Memory) points = omega arith
-fault_status (fault.Exhausted exhausted.Budget) points = omega arith
-
-pub answered_fault_status : (fault : AnswerFault) (points : ℕ) (answer : HintcheckAnswer) → answer ≡ unanswered fault points → 2 ≤ answer.status
-answered_fault_status fault points answer e =
-    let few : 2 ≤ (unanswered fault points).status = fault_status fault points in
-    let is : answer.status ≡ (unanswered fault points).status = ap (λ (a : HintcheckAnswer). a.status) e in
-    omega arith
 
 -- ---- the entries
 
@@ -83,9 +42,9 @@ told_are_safe_symbolic bytes d v set entries id reads given hinted told one =
 
 -- ---- the whole answer
 
-pub answers_may_hint : (bytes : List ℕ) (d : FontData) (v : Judgement) (set : List Bool) (answer : HintcheckAnswer) (entries : List ℕ) → Reads bytes d → IsVerdict d v
-    → Answers v answer [] [] → AreHinted bytes v.refused set → Tell set entries → AnswersMayHint bytes answer entries
-answers_may_hint bytes d v set answer entries reads given answered hinted told = record {
+pub answers_verdict : (bytes : List ℕ) (d : FontData) (v : Judgement) (set : List Bool) (answer : HintcheckAnswer) (old new : List HintcheckRefusal) (entries : List ℕ) → Reads bytes d → IsVerdict d v
+    → Answers v answer old new → AreHinted bytes v.refused set → Tell set entries → AnswersVerdict bytes answer old new entries
+answers_verdict bytes d v set answer old new entries reads given answered hinted told = record {
   font = d;
   reads = reads;
   judgement = v;
@@ -94,9 +53,9 @@ answers_may_hint bytes d v set answer entries reads given answered hinted told =
   told = tells_may_hint bytes v.refused set entries hinted told;
 }
 
-pub answers_may_hint_symbolic : (bytes : List ℕ) (d : FontData) (v : Judgement) (set : List Bool) (answer : HintcheckAnswer) (entries : List ℕ) → Reads bytes d → IsSymbolicVerdict d v
-    → Answers v answer [] [] → AreHinted bytes v.refused set → Tell set entries → AnswersMayHintSymbolic bytes answer entries
-answers_may_hint_symbolic bytes d v set answer entries reads given answered hinted told = record {
+pub answers_symbolic_verdict : (bytes : List ℕ) (d : FontData) (v : Judgement) (set : List Bool) (answer : HintcheckAnswer) (old new : List HintcheckRefusal) (entries : List ℕ) → Reads bytes d
+    → IsSymbolicVerdict d v → Answers v answer old new → AreHinted bytes v.refused set → Tell set entries → AnswersSymbolicVerdict bytes answer old new entries
+answers_symbolic_verdict bytes d v set answer old new entries reads given answered hinted told = record {
   font = d;
   reads = reads;
   judgement = v;

@@ -14,6 +14,7 @@ use Rattle.hintcheck_programs.specs.Verdicts.{Judgement}
 use Rattle.hintcheck_report.specs.declared.answer_fault.AnswerFault.{AnswerFault}
 use Rattle.hintcheck_report.specs.declared.answer_fault.AnswerFault.TheVariants as fault
 use Rattle.hintcheck_report.specs.declared.refused.Refused.{Refused}
+use Rattle.hintcheck_c.specs.MayHint.{TellsMayHint}
 use Rattle.hintcheck_c.specs.Refusals.{listed_in}
 use Rattle.hintcheck_c.specs.declared.answer.HintcheckAnswer.{HintcheckAnswer}
 use Rattle.hintcheck_c.specs.declared.refusal.HintcheckRefusal.{HintcheckRefusal}
@@ -23,70 +24,77 @@ abbrev pub status_of : List Refused → ℕ
 status_of [] = 0
 status_of (r ∷ rs) = 1
 
--- a verdict in numbers, with room for `room` refusals, for which `points` points were made; 32 bits
--- tell how many programs are refused
-abbrev pub verdict_answer : Judgement → ℕ → ℕ → HintcheckAnswer
-verdict_answer judgement room points = record {
+-- a verdict in numbers, with room for `room` refusals, for which so many points and steps were
+-- made; 32 bits tell how many programs are refused
+abbrev pub verdict_answer : Judgement → ℕ → ℕ → ℕ → HintcheckAnswer
+verdict_answer judgement room points steps = record {
   status = status_of judgement.refused;
   fault = 0;
   place = 0;
   points = points;
+  steps = steps;
   programs = judgement.programs;
   refused = min (length judgement.refused) (2 ^ 32 - 1);
   listed = min (length judgement.refused) room;
 }
 
--- a fault in numbers: the status, the fault's own number, its place, and how many points were made
-abbrev pub fault_answer : ℕ → ℕ → ℕ → ℕ → HintcheckAnswer
-fault_answer status fault place points = record {
+-- a fault in numbers: the status, the fault's own number, its place, and how many points and steps
+-- were made
+abbrev pub fault_answer : ℕ → ℕ → ℕ → ℕ → ℕ → HintcheckAnswer
+fault_answer status fault place points steps = record {
   status = status;
   fault = fault;
   place = place;
   points = points;
+  steps = steps;
   programs = 0;
   refused = 0;
   listed = 0;
 }
 
 -- a fault of a font in numbers
-abbrev pub font_answer : FontFault → ℕ → HintcheckAnswer
-font_answer (font.OutOfMemory error) points = fault_answer 3 9 0 points
-font_answer fault points = fault_answer 2 (fault_number fault) 0 points
+abbrev pub font_answer : FontFault → ℕ → ℕ → HintcheckAnswer
+font_answer (font.OutOfMemory error) points steps = fault_answer 3 9 0 points steps
+font_answer fault points steps = fault_answer 2 (fault_number fault) 0 points steps
 
 -- why there is no verdict, in numbers
-abbrev pub unanswered : AnswerFault → ℕ → HintcheckAnswer
-unanswered (fault.Font fault) points = font_answer fault points
-unanswered (fault.Form place) points = fault_answer 2 43 place points
-unanswered fault.Read points = fault_answer 2 44 0 points
-unanswered fault.Write points = fault_answer 2 45 0 points
-unanswered (fault.Print failed) points = fault_answer 2 45 0 points
-unanswered (fault.Exhausted exhausted.Memory) points = fault_answer 3 9 0 points
-unanswered (fault.Exhausted exhausted.Budget) points = fault_answer 4 46 0 points
+abbrev pub unanswered : AnswerFault → ℕ → ℕ → HintcheckAnswer
+unanswered (fault.Font fault) points steps = font_answer fault points steps
+unanswered (fault.Form place) points steps = fault_answer 2 43 place points steps
+unanswered fault.Read points steps = fault_answer 2 44 0 points steps
+unanswered fault.Write points steps = fault_answer 2 45 0 points steps
+unanswered (fault.Print failed) points steps = fault_answer 2 45 0 points steps
+unanswered (fault.Exhausted exhausted.Memory) points steps = fault_answer 3 9 0 points steps
+unanswered (fault.Exhausted exhausted.Budget) points steps = fault_answer 4 46 0 points steps
 
 -- The answer is this verdict in numbers, and its first refusals are listed, as many as there is
 -- room for.
 pub record Answers (judgement : Judgement) (answer : HintcheckAnswer)
     (old new : List HintcheckRefusal) : Type 0 where
-  pub in_numbers : answer ≡ verdict_answer judgement (length old) answer.points
+  pub in_numbers : answer ≡ verdict_answer judgement (length old) answer.points answer.steps
   pub listed : new ≡ listed_in judgement.refused old
 
--- The answer is the verdict on the font that is in the bytes.
+-- The answer is the verdict on the font that is in the bytes, and the array says of each glyph
+-- whether it may be drawn with hints.
 pub record AnswersVerdict (bytes : List ℕ) (answer : HintcheckAnswer)
-    (old new : List HintcheckRefusal) : Type 0 where
+    (old new : List HintcheckRefusal) (entries : List ℕ) : Type 0 where
   pub font : FontData
   pub reads : Reads bytes font
   pub judgement : Judgement
   pub given : IsVerdict font judgement
   pub answered : Answers judgement answer old new
+  pub told : TellsMayHint bytes judgement.refused entries
 
--- The answer is the verdict on the font that is in the bytes, by symbolic states.
+-- The answer is the verdict on the font that is in the bytes, by symbolic states, and the array says
+-- of each glyph whether it may be drawn with hints.
 pub record AnswersSymbolicVerdict (bytes : List ℕ) (answer : HintcheckAnswer)
-    (old new : List HintcheckRefusal) : Type 0 where
+    (old new : List HintcheckRefusal) (entries : List ℕ) : Type 0 where
   pub font : FontData
   pub reads : Reads bytes font
   pub judgement : Judgement
   pub given : IsSymbolicVerdict font judgement
   pub answered : Answers judgement answer old new
+  pub told : TellsMayHint bytes judgement.refused entries
 
 -- The answer is the verdict on the font that is in the bytes, by a certificate.
 pub record AnswersCheck (bytes certificate : List ℕ) (answer : HintcheckAnswer)
@@ -123,7 +131,7 @@ pub record AnswersFontFault (bytes : List ℕ) (answer : HintcheckAnswer)
     (old new : List HintcheckRefusal) : Type 0 where
   pub fault : AnswerFault
   pub of_font : IsFaultOfVerdict bytes fault
-  pub in_numbers : answer ≡ unanswered fault answer.points
+  pub in_numbers : answer ≡ unanswered fault answer.points answer.steps
   pub unlisted : new ≡ old
 
 -- the same of a verdict by a certificate
@@ -131,5 +139,5 @@ pub record AnswersCheckFault (bytes certificate : List ℕ) (answer : HintcheckA
     (old new : List HintcheckRefusal) : Type 0 where
   pub fault : AnswerFault
   pub of_check : IsFaultOfCheck bytes certificate fault
-  pub in_numbers : answer ≡ unanswered fault answer.points
+  pub in_numbers : answer ≡ unanswered fault answer.points answer.steps
   pub unlisted : new ≡ old

@@ -1,5 +1,5 @@
 pub mod Refusals
+pub mod MayHint
 pub mod Answers
 pub mod ReasonTexts
-pub mod MayHint
 pub mod Representation

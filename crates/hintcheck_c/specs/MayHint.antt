@@ -13,13 +13,10 @@ use Rattle.tt_font.specs.Outlines.{Outline}
 use Rattle.tt_font.specs.Reading.{FontData, GlyphData, Reads}
 use Rattle.hintcheck_fonts.specs.SymbolicLaws.{IsFontSafe}
 use Rattle.hintcheck_fonts.specs.CvtStarts.{GlyphPrograms}
-use Rattle.hintcheck_programs.specs.FontPrograms.{IsSafeFont, IsVerdict, cvt_subject, font_of, font_subject}
+use Rattle.hintcheck_programs.specs.FontPrograms.{IsSafeFont, cvt_subject, font_of, font_subject}
 use Rattle.hintcheck_programs.specs.Programs.{IsCutInto}
-use Rattle.hintcheck_fonts.specs.SymbolicVerdicts.{IsGlyphSetting, IsSymbolicVerdict}
-use Rattle.hintcheck_programs.specs.Verdicts.{Judgement}
+use Rattle.hintcheck_fonts.specs.SymbolicVerdicts.{IsGlyphSetting}
 use Rattle.hintcheck_report.specs.declared.refused.Refused.{Refused}
-use Rattle.hintcheck_c.specs.Answers.{Answers}
-use Rattle.hintcheck_c.specs.declared.answer.HintcheckAnswer.{HintcheckAnswer}
 
 -- a chain of components, of any number of steps, leads from a glyph to another one; one of no steps
 -- leads to the glyph itself
@@ -52,27 +49,6 @@ pub record TellsMayHint (bytes : List ℕ) (refused : List Refused) (entries : L
   pub numbers : (id : ℕ) → slice_index entries id ≤ 1
   pub ones : (id : ℕ) → id < length entries
       → (slice_index entries id ≡ 1) ↔ MayHint bytes refused id
-
--- The answer is the verdict on the font that is in the bytes, without a list of refusals, and the
--- array says of each glyph whether it may be drawn with hints.
-pub record AnswersMayHint (bytes : List ℕ) (answer : HintcheckAnswer) (entries : List ℕ)
-    : Type 0 where
-  pub font : FontData
-  pub reads : Reads bytes font
-  pub judgement : Judgement
-  pub given : IsVerdict font judgement
-  pub answered : Answers judgement answer [] []
-  pub told : TellsMayHint bytes judgement.refused entries
-
--- The same of the verdict by symbolic states.
-pub record AnswersMayHintSymbolic (bytes : List ℕ) (answer : HintcheckAnswer) (entries : List ℕ)
-    : Type 0 where
-  pub font : FontData
-  pub reads : Reads bytes font
-  pub judgement : Judgement
-  pub given : IsSymbolicVerdict font judgement
-  pub answered : Answers judgement answer [] []
-  pub told : TellsMayHint bytes judgement.refused entries
 
 -- the font with only one of its glyphs
 abbrev pub with_only : FontData → GlyphData → FontData

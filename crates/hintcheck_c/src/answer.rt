@@ -50,8 +50,12 @@ pub struct HintcheckAnswer {
     pub fault: u32,
     /// Where the certificate is at fault, in bytes; 0 where it isn't.
     pub place: u64,
-    /// How many points were made: one point is made each time that a state is carried on.
+    /// How many points were made: one point is made each time that a state is carried on. None by
+    /// symbolic states.
     pub points: u64,
+    /// How many steps the search made, by symbolic states: a step carries a state over an instruction.
+    /// None by the strict profile.
+    pub steps: u64,
     /// How many programs there are; 0 at a fault.
     pub programs: u32,
     /// How many of them are refused.
@@ -60,30 +64,59 @@ pub struct HintcheckAnswer {
     pub listed: usize,
 }
 
+/// How much was done for an answer.
+#[derive(Clone, Copy)]
+pub(crate) struct Cost {
+    /// How many points were made.
+    pub points: u64,
+    /// How many steps the search made.
+    pub steps: u64,
+}
+
+impl Cost {
+    /// Returns the cost of so many points, by the strict profile.
+    pub(crate) fn of_points(points: u64) -> Cost
+        ensures points { result.points ≡ points }
+        ensures steps { result.steps ≡ 0 }
+    {
+        Cost { points, steps: 0 }
+    }
+
+    /// Returns the cost of so many steps, by symbolic states.
+    pub(crate) fn of_steps(steps: u64) -> Cost
+        ensures points { result.points ≡ 0 }
+        ensures steps { result.steps ≡ steps }
+    {
+        Cost { points: 0, steps }
+    }
+}
+
 /// Returns a fault as an answer.
-fn fault_answer(status: u32, fault: u32, place: u64, points: u64) -> HintcheckAnswer
-    ensures { result ≡ answer_of_fault status fault place points }
+fn fault_answer(status: u32, fault: u32, place: u64, cost: Cost) -> HintcheckAnswer
+    ensures { result ≡ answer_of_fault status fault place cost.points cost.steps }
 {
     HintcheckAnswer {
         status,
         fault,
         place,
-        points,
+        points: cost.points,
+        steps: cost.steps,
         programs: 0,
         refused: 0,
         listed: 0,
     }
 }
 
-/// Returns a verdict, for which this many points were made, as an answer, and lists its first
-/// refusals.
+/// Returns a verdict that cost so much as an answer, and lists its first refusals.
 pub(crate) fn answer_verdict(
     verdict: &Verdict,
     refusals: &mut [HintcheckRefusal],
-    points: u64,
+    cost: Cost,
 ) -> HintcheckAnswer
     ensures answers { Answers verdict.now result refusals.old refusals.new }
-    ensures points { result.points ≡ points }
+    ensures status { result.status ≤ 1 }
+    ensures points { result.points ≡ cost.points }
+    ensures steps { result.steps ≡ cost.steps }
 {
     let refused = verdict.refused();
     let listed = list_refused(refused, refusals);
@@ -95,39 +128,44 @@ pub(crate) fn answer_verdict(
         },
         fault: 0,
         place: 0,
-        points,
+        points: cost.points,
+        steps: cost.steps,
         programs: verdict.programs(),
         refused: u32::try_from(refused.len()).unwrap_or(u32::MAX),
         listed,
     }
 }
 
-/// Returns a fault of a font as an answer, after this many points.
-fn fault_of_font(fault: &FontFault, points: u64) -> HintcheckAnswer
-    ensures answer { result ≡ font_answer fault.now points }
+/// Returns a fault of a font as an answer that cost so much.
+fn fault_of_font(fault: &FontFault, cost: Cost) -> HintcheckAnswer
+    ensures answer { result ≡ font_answer fault.now cost.points cost.steps }
     ensures status { result.status ≤ 3 }
+    ensures none { 2 ≤ result.status }
+    ensures points { result.points ≡ cost.points }
+    ensures steps { result.steps ≡ cost.steps }
 {
     match fault {
-        FontFault::OutOfMemory(_) => fault_answer(OUT_OF_MEMORY, MEMORY_FAULT, 0, points),
-        fault => fault_answer(FAULT, u32::from(fault.number()), 0, points),
+        FontFault::OutOfMemory(_) => fault_answer(OUT_OF_MEMORY, MEMORY_FAULT, 0, cost),
+        fault => fault_answer(FAULT, u32::from(fault.number()), 0, cost),
     }
 }
 
-/// Returns why there is no verdict as an answer, after this many points.
-pub(crate) fn fault_of(fault: &AnswerFault, points: u64) -> HintcheckAnswer
-    ensures answer { result ≡ unanswered fault.now points }
+/// Returns why there is no verdict as an answer that cost so much.
+pub(crate) fn fault_of(fault: &AnswerFault, cost: Cost) -> HintcheckAnswer
+    ensures answer { result ≡ unanswered fault.now cost.points cost.steps }
     ensures status { fault.now ≢ AnswerFault.Exhausted By.Budget → result.status ≤ 3 }
+    ensures none { 2 ≤ result.status }
+    ensures points { result.points ≡ cost.points }
+    ensures steps { result.steps ≡ cost.steps }
 {
     match fault {
-        AnswerFault::Font(fault) => fault_of_font(fault, points),
-        AnswerFault::Form(place) => fault_answer(FAULT, FORM_FAULT, *place, points),
-        AnswerFault::Read => fault_answer(FAULT, READ_FAULT, 0, points),
-        AnswerFault::Write | AnswerFault::Print(_) => fault_answer(FAULT, WRITE_FAULT, 0, points),
+        AnswerFault::Font(fault) => fault_of_font(fault, cost),
+        AnswerFault::Form(place) => fault_answer(FAULT, FORM_FAULT, *place, cost),
+        AnswerFault::Read => fault_answer(FAULT, READ_FAULT, 0, cost),
+        AnswerFault::Write | AnswerFault::Print(_) => fault_answer(FAULT, WRITE_FAULT, 0, cost),
         AnswerFault::Exhausted(Exhausted::Memory) => {
-            fault_answer(OUT_OF_MEMORY, MEMORY_FAULT, 0, points)
+            fault_answer(OUT_OF_MEMORY, MEMORY_FAULT, 0, cost)
         }
-        AnswerFault::Exhausted(Exhausted::Budget) => {
-            fault_answer(BUDGET, BUDGET_FAULT, 0, points)
-        }
+        AnswerFault::Exhausted(Exhausted::Budget) => fault_answer(BUDGET, BUDGET_FAULT, 0, cost),
     }
 }

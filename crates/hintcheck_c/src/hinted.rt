@@ -7,17 +7,19 @@ ghost use Rattle.tt_setting.specs.Budgets.{IsExceeded, Spends};
 ghost use Rattle.tt_font.specs.FileFaults.{font_fault};
 ghost use Rattle.tt_font.specs.Files.{font_glyph_count};
 ghost use Rattle.tt_font.specs.Reading.{FontData, Reads};
-ghost use Rattle.hintcheck_programs.specs.FontPrograms.{IsVerdict};
+ghost use Rattle.hintcheck_programs.specs.FontPrograms.{IsSafeFont, IsVerdict};
 ghost use Rattle.hintcheck_fonts.specs.SymbolicVerdicts.{IsSymbolicVerdict};
 ghost use Rattle.hintcheck_report.specs.declared.answer_fault.AnswerFault.{AnswerFault};
 ghost use Rattle.tt_setting.specs.declared.exhausted.Exhausted.{Exhausted as By};
 ghost use Rattle.hintcheck_c.specs.Answers.{Answers, IsFaultOfVerdict, unanswered};
 ghost use Rattle.hintcheck_c.specs.Representation.HintedSets.{AreHinted, Tell};
 
-use crate::answer::{HintcheckAnswer, answer_verdict, fault_of};
+use crate::answer::{Cost, HintcheckAnswer, answer_verdict, fault_of};
 use crate::closed::retain_closed;
+use crate::refusal::HintcheckRefusal;
 use hintcheck_fonts::{
-    AnswerFault, Budget, FontFault, Name, Refused, Verdict, verdict_symbolic_within, verdict_within,
+    AnswerFault, Budget, FontFault, Name, Refused, SymbolicCheck, Verdict, verdict_symbolic_by,
+    verdict_within,
 };
 use std::alloc::Global;
 
@@ -92,7 +94,8 @@ pub(crate) fn judge_hinting(
     font: &[u8],
     budget: &mut Budget,
 ) -> Result<Hinting, AnswerFault>
-    ensures given { IfOk result (λ h. (d : FontData) × Reads font.now d × IsVerdict d h.verdict) }
+    ensures given { IfOk result (λ h. (d : FontData) × Reads font.now d × IsVerdict d h.verdict
+        × (h.verdict.refused ≡ [] → IsSafeFont d)) }
     ensures glyphs { IfOk result (λ h. AreHinted font.now h.verdict.refused h.glyphs.items) }
     ensures whole { IfOk result (λ h. font_fault font.now ≡ None) }
     ensures fault { IfErr result (IsFaultOfVerdict font.now) }
@@ -103,12 +106,12 @@ pub(crate) fn judge_hinting(
     Ok(with_glyphs(alloc, font, verdict)?)
 }
 
-/// Returns the verdict by symbolic states on the programs of a font, with so many steps, and which
-/// of its glyphs may be drawn with hints.
+/// Returns the verdict by symbolic states on the programs of a font, by this judge, and which of its
+/// glyphs may be drawn with hints.
 pub(crate) fn judge_hinting_symbolic(
     alloc: Global,
     font: &[u8],
-    steps: u64,
+    judge: &mut SymbolicCheck,
 ) -> Result<Hinting, AnswerFault>
     ensures given { IfOk result (λ h. (d : FontData) × Reads font.now d
         × IsSymbolicVerdict d h.verdict) }
@@ -116,7 +119,7 @@ pub(crate) fn judge_hinting_symbolic(
     ensures fault { IfErr result (IsFaultOfVerdict font.now) }
     ensures unbounded { IfErr result (λ fault. fault ≢ AnswerFault.Exhausted By.Budget) }
 {
-    let verdict = verdict_symbolic_within(alloc, font, steps)?;
+    let verdict = verdict_symbolic_by(alloc, font, judge)?;
     Ok(with_glyphs(alloc, font, verdict)?)
 }
 
@@ -130,30 +133,39 @@ fn tell(set: &[bool], entries: &mut [u8])
     }
 }
 
-/// Returns a verdict, for which this many points were made, as an answer without a list of refusals,
-/// and tells which glyphs may be drawn with hints.
-pub(crate) fn answer_hinting(hinting: &Hinting, may_hint: &mut [u8], points: u64) -> HintcheckAnswer
-    ensures answers { Answers hinting.now.verdict result [] [] }
+/// Returns a verdict that cost so much as an answer, lists its first refusals, and tells which glyphs
+/// may be drawn with hints.
+pub(crate) fn answer_hinting(
+    hinting: &Hinting,
+    refusals: &mut [HintcheckRefusal],
+    may_hint: &mut [u8],
+    cost: Cost,
+) -> HintcheckAnswer
+    ensures answers { Answers hinting.now.verdict result refusals.old refusals.new }
+    ensures status { result.status ≤ 1 }
     ensures tell { Tell hinting.now.glyphs.items may_hint.new }
     ensures len { length may_hint.new ≡ length may_hint.old }
-    ensures points { result.points ≡ points }
+    ensures points { result.points ≡ cost.points }
+    ensures steps { result.steps ≡ cost.steps }
 {
     tell(&hinting.glyphs, may_hint);
-    answer_verdict(&hinting.verdict, &mut [], points)
+    answer_verdict(&hinting.verdict, refusals, cost)
 }
 
-/// Returns a fault as an answer, after this many points, and tells that no glyph may be drawn with
-/// hints.
+/// Returns a fault as an answer that cost so much, and tells that no glyph may be drawn with hints.
 pub(crate) fn answer_no_hinting(
     fault: &AnswerFault,
     may_hint: &mut [u8],
-    points: u64,
+    cost: Cost,
 ) -> HintcheckAnswer
-    ensures answer { result ≡ unanswered fault.now points }
+    ensures answer { result ≡ unanswered fault.now cost.points cost.steps }
     ensures status { fault.now ≢ AnswerFault.Exhausted By.Budget → result.status ≤ 3 }
+    ensures none { 2 ≤ result.status }
     ensures tell { Tell [] may_hint.new }
     ensures len { length may_hint.new ≡ length may_hint.old }
+    ensures points { result.points ≡ cost.points }
+    ensures steps { result.steps ≡ cost.steps }
 {
     tell(&[], may_hint);
-    fault_of(fault, points)
+    fault_of(fault, cost)
 }

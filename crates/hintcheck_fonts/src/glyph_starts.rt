@@ -133,7 +133,7 @@ impl GlyphStarts {
         let mut storage = Vec::new(alloc);
         let mut controls = Vec::new(alloc);
         for start in proposed.as_slice() {
-            if !has_functions(&ends.functions, start.functions.as_slice()) {
+            if !has_functions(&ends.functions, &start.functions) {
                 return Ok(None);
             }
             put_indexes(&mut storage, &start.storage)?;

@@ -16,4 +16,5 @@ pub use hintcheck_programs::{
 };
 pub use request::{Request, verdict_by};
 pub use symbolic_bare::{bare_symbolic, bare_symbolic_within};
-pub use symbolic_verdict::{verdict_symbolic, verdict_symbolic_within};
+pub use symbolic_check::SymbolicCheck;
+pub use symbolic_verdict::{verdict_symbolic, verdict_symbolic_by, verdict_symbolic_within};

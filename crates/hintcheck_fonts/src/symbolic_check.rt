@@ -80,6 +80,11 @@ impl SymbolicCheck {
         self.search.take_insight()
     }
 
+    /// Returns how many steps the search has made so far, for all programs together.
+    pub fn steps(&self) -> u64 {
+        self.search.steps()
+    }
+
     /// Returns how much may be done for the next program.
     fn effort_left(&self) -> Effort {
         let left = self.most_steps.saturating_sub(self.search.steps());

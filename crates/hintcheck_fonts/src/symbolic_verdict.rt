@@ -97,9 +97,25 @@ pub fn verdict_symbolic_within(alloc: Global, font: &[u8], steps: u64) -> Result
     ensures exact { IfOk result (λ v. (d : FontData) × Reads font.now d × IsSymbolicVerdict d v) }
     ensures faults { TestsWithMemory (font_fault font.now) result }
 {
-    let read = read_font(alloc, font)?;
     let mut judge = SymbolicCheck::new(alloc, steps);
-    match refused_programs(alloc, &read, &mut judge) {
+    verdict_symbolic_by(alloc, font, &mut judge)
+}
+
+/// Returns the verdict as `verdict_symbolic_within` does, by this judge, which may make as many steps
+/// as it has left. Afterwards the judge tells how many it has made (`SymbolicCheck::steps`).
+///
+/// # Errors
+/// As `verdict_symbolic`.
+pub fn verdict_symbolic_by(
+    alloc: Global,
+    font: &[u8],
+    judge: &mut SymbolicCheck,
+) -> Result<Verdict, FontFault>
+    ensures exact { IfOk result (λ v. (d : FontData) × Reads font.now d × IsSymbolicVerdict d v) }
+    ensures faults { TestsWithMemory (font_fault font.now) result }
+{
+    let read = read_font(alloc, font)?;
+    match refused_programs(alloc, &read, judge) {
         Ok(refused) => Ok(Verdict::new(u32::from(read.glyph_count()) + 2, refused)),
         Err(_) => Err(FontFault::OutOfMemory(AllocError)),
     }

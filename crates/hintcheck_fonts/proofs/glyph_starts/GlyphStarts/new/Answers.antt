@@ -1,8 +1,7 @@
-use Rattle.std.proofs.Common.{ℕ, List, rules, subst}
+use Rattle.std.proofs.Common.{rules, subst}
 use Rattle.std.specs.List.{All}
 use Rattle.std.proofs.lemmas.List.{take_all}
 use Rattle.std.proofs.lemmas.List.Elements.{All-more, All-weaker}
-use Rattle.tt_setting.specs.Functions.{CoversFunctions}
 use Rattle.hintcheck_fonts.specs.SymbolicEnds.{IsWithin}
 use Rattle.hintcheck_fonts.proofs.Following.{made}
 use Rattle.hintcheck_fonts.proofs.Following.{within_more, within_is}
@@ -15,7 +14,7 @@ loop-start-preserved c =
     let new = IsWithin functions c.put_indexes.new.indexes.items c.put_indexes-in-loop-start.new.indexes.items in
     All-more new c.as_slice-start-items.result.now c.loop-start.start-index c.start-item.result c.loop-start-test.true
     (All-weaker old new (λ s h. within_more functions _ _ _ _ s c.in_ok-put_indexes.ensures.before c.in_ok-put_indexes-2.ensures.before h) _ c.loop-start.invariant)
-    (subst new c.start-item.is (within_is functions _ _ c.start-item.result c.in_ok-put_indexes.ensures.listed c.in_ok-put_indexes-2.ensures.listed (subst (λ (l : List (ℕ × ℕ)). CoversFunctions l functions) c.as_slice-in-loop-start.ensures.value (c.has_functions.ensures (search rules)))))
+    (subst new c.start-item.is (within_is functions _ _ c.start-item.result c.in_ok-put_indexes.ensures.listed c.in_ok-put_indexes-2.ensures.listed (c.has_functions.ensures (search rules))))
 
 pub returns : goal.returns
 returns c =

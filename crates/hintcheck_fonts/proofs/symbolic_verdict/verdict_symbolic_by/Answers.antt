@@ -2,7 +2,7 @@ use Rattle.std.proofs.Common.{◌≡◌, ◌+◌, ◌∙◌, length, subst, sym}
 use Rattle.hintcheck_programs.specs.FontPrograms.{judgement_on}
 use Rattle.hintcheck_fonts.specs.SymbolicVerdicts.{IsSymbolicVerdict}
 use Rattle.hintcheck_programs.specs.Verdicts.{Judgement}
-use Rattle.hintcheck_fonts.proofs.symbolic_verdict.verdict_symbolic_within.Goals as goal
+use Rattle.hintcheck_fonts.proofs.symbolic_verdict.verdict_symbolic_by.Goals as goal
 
 pub returns-in-Ok-clause-exact : goal.returns-in-Ok-clause-exact
 returns-in-Ok-clause-exact c =
