@@ -11,7 +11,7 @@ POINTS = 12
 TWILIGHT = 8
 STACK = 64
 STORAGE = 8
-CONTROLS = 8
+CONTROLS = tuple(range(100, 801, 100))
 FUNCTIONS = 64
 UNITS_PER_EM = 1024
 
@@ -24,18 +24,21 @@ REQUIRE = b"\x58\x1b\x22\x21\x59"
 
 @dataclasses.dataclass(frozen=True)
 class Glyph:
-    """A glyph of 12 points, or one made of these other glyphs, with its program."""
+    """A glyph of so many points, or one made of these other glyphs, with its program."""
 
     name: str
     program: bytes
     components: tuple[int, ...] = ()
+    points: int = POINTS
 
 
 @dataclasses.dataclass(frozen=True)
 class Font:
     """A font's programs, and what is expected of its loads where both sizes are equal and where
-    they aren't: `holds` (no load fails), `fails` (one or more do), `faults` (all do), or `any`
-    (that differs from one FreeType to another). `way` is how premises.c loads it."""
+    they aren't: `holds` (no load fails), `fails` (one or more do), `faults` (all do), `scaled`
+    (all do where FreeType scales by more than 32 bits, and none otherwise), or `any` (that differs
+    from one FreeType to another). `way` is how premises.c loads it. `twilight` is
+    maxTwilightPoints."""
 
     name: str
     glyphs: list[Glyph]
@@ -45,6 +48,9 @@ class Font:
     unequal: str = "holds"
     family: str = "Premises"
     way: str = "hinted"
+    twilight: int = TWILIGHT
+    controls: tuple[int, ...] = CONTROLS
+    units_per_em: int = UNITS_PER_EM
 
 
 def push_one(number: int) -> bytes:
@@ -76,14 +82,14 @@ def function(number: int, body: bytes) -> bytes:
     return push(number) + FDEF + body + ENDF
 
 
-def outline(program: bytes) -> bytes:
-    """A simple glyph: twelve points of one contour on a zigzag."""
-    steps = [(80, 200 if point % 2 else -150) if point else (0, 0) for point in range(POINTS)]
-    flags = b"\x01" * POINTS
+def outline(program: bytes, points: int) -> bytes:
+    """A simple glyph: this many points of one contour on a zigzag."""
+    steps = [(80, 200 if point % 2 else -150) if point else (0, 0) for point in range(points)]
+    flags = b"\x01" * points
     across = b"".join(struct.pack(">h", x) for x, _ in steps)
     upwards = b"".join(struct.pack(">h", y) for _, y in steps)
     box = struct.pack(">hhhhh", 1, 0, -150, 880, 450)
-    ends = struct.pack(">HH", POINTS - 1, len(program))
+    ends = struct.pack(">HH", points - 1, len(program))
     return padded(box + ends + program + flags + across + upwards)
 
 
@@ -110,18 +116,18 @@ def glyph_names(glyphs: list[Glyph]) -> bytes:
     return header + struct.pack(">H", len(glyphs)) + numbers + texts
 
 
-def head_table() -> bytes:
+def head_table(units_per_em: int) -> bytes:
     """The `head` table, with long offsets in `loca`."""
     start = struct.pack(">IIII", 0x00010000, 0, 0, 0x5F0F3CF5)
     box = struct.pack(">hhhh", 0, -150, 1000, 1000)
     end = struct.pack(">HHhhh", 0, 8, 2, 1, 0)
-    return start + struct.pack(">HH16x", 0, UNITS_PER_EM) + box + end
+    return start + struct.pack(">HH16x", 0, units_per_em) + box + end
 
 
-def maxp_table(glyphs: int, longest: int) -> bytes:
+def maxp_table(glyphs: int, longest: int, twilight: int) -> bytes:
     """The `maxp` table, for programs of at most `longest` bytes."""
     outlines = (POINTS, 1, 4 * POINTS, 4)
-    programs = (2, TWILIGHT, STORAGE, FUNCTIONS, 0, STACK, longest, 4, 1)
+    programs = (2, twilight, STORAGE, FUNCTIONS, 0, STACK, longest, 4, 1)
     return struct.pack(">I14H", 0x00010000, glyphs, *outlines, *programs)
 
 
@@ -135,21 +141,21 @@ def name_table(family: str) -> bytes:
 def tables_of(font: Font) -> dict[bytes, bytes]:
     """The tables of a font's file."""
     glyphs = [composite(glyph.components, glyph.program) if glyph.components
-              else outline(glyph.program) for glyph in font.glyphs]
+              else outline(glyph.program, glyph.points) for glyph in font.glyphs]
     places = [0]
     for glyph in glyphs:
         places.append(places[-1] + len(glyph))
     count = len(glyphs)
     longest = max(len(glyph.program) for glyph in font.glyphs)
     return {
-        b"cvt ": struct.pack(f">{CONTROLS}h", *range(100, 100 * CONTROLS + 1, 100)),
+        b"cvt ": struct.pack(f">{len(font.controls)}h", *font.controls),
         b"fpgm": font.fpgm,
         b"glyf": b"".join(glyphs),
-        b"head": head_table(),
+        b"head": head_table(font.units_per_em),
         b"hhea": struct.pack(">IhhhH11hH", 0x00010000, 800, -200, 0, 1000, *[0] * 11, 1),
         b"hmtx": struct.pack(">Hh", 1000, 0) + bytes(2 * (count - 1)),
         b"loca": struct.pack(f">{count + 1}I", *places),
-        b"maxp": maxp_table(count, longest),
+        b"maxp": maxp_table(count, longest, font.twilight),
         b"name": name_table(font.family),
         b"post": glyph_names(font.glyphs),
         b"prep": font.prep,

@@ -27,6 +27,9 @@ LOOPCALL, NEG, ABS, SUB, CEILING, MUL = b"\x2a", b"\x65", b"\x64", b"\x61", b"\x
 WS, RS, WCVTP, RCVT, WCVTF, DELTAC = b"\x42", b"\x43", b"\x44", b"\x45", b"\x70", b"\x73"
 SVTCA_Y, SVTCA_X, IUPS = b"\x00", b"\x01", b"\x30\x31"
 SRP0, SRP1, SRP2, SZP0, SZP1, SZP2, SZPS, SLOOP = (bytes([code]) for code in range(0x10, 0x18))
+MDAP, MPPEM, GT, IF, EIF, JMPR, ROUND = (bytes([code]) for code in
+                                         (0x2E, 0x4B, 0x52, 0x58, 0x59, 0x1C, 0x68))
+RTG, RTDG, RUTG, INSTCTRL = b"\x18", b"\x3d", b"\x7c", b"\x8e"
 UTP, ALIGNRP, GC, SCFS, SHPIX, SHP_RP2, SHP_RP1 = (bytes([code]) for code in
                                                    (0x29, 0x3C, 0x46, 0x48, 0x38, 0x32, 0x33))
 # A point that the twilight zone doesn't have, not even with four phantom points.
@@ -260,6 +263,85 @@ def functions() -> list[Font]:
             Font("functions-before-prep", later, fpgm, earlier, equal="fails", unequal="fails")]
 
 
+def functions_of_a_failed_run() -> list[Font]:
+    """A CVT program that defines function 0 anew above 20 ppem and then never ends. So no glyph
+    program runs there; at a smaller size function 0 is the font program's, which does nothing."""
+    above_20 = function(0, POP) + push(-3) + JMPR
+    prep = MPPEM + push(20) + GT + IF + above_20 + EIF
+    font = Font("functions-after-a-failed-run", [Glyph("calls", push(0) + CALL)], function(0, b""),
+                prep)
+    ways = {"hinted": "fails", "at-12": "holds", "at-12-30-12": "faults", "sizes-apart": "holds"}
+    return [dataclasses.replace(font, way=way, equal=expected, unequal=expected)
+            for way, expected in ways.items()]
+
+
+def touched(point: int) -> bytes:
+    """Touches a point of the twilight zone."""
+    return push(0) + SZPS + push(point) + MDAP
+
+
+def twilight_points() -> list[Font]:
+    """How many of 100 declared twilight points there are: to FreeType max(30, 2 * (points + control
+    values)), phantom points with the others, none in the CVT program; 8 control values."""
+    nothing, small = [Glyph("nothing", b"")], Glyph("1 point", touched(29), points=1)
+    large = Glyph("12 points", touched(2 * (12 + 4 + 8) - 1))
+    in_order = [small, large, Glyph("12 points, 1 point", b"", (1, 0))]
+    after_small = [small, large, Glyph("1 point, 12 points", b"", (0, 1))]
+    more = [Glyph("1 point", touched(30), points=1), Glyph("12 points", touched(48))]
+    return [Font("twilight-of-prep", nothing, prep=touched(29), twilight=100),
+            Font("more-twilight-of-prep", nothing, prep=touched(30), equal="faults",
+                 unequal="faults", twilight=100),
+            Font("twilight-of-glyphs", in_order, twilight=100),
+            Font("more-twilight-of-glyphs", more, equal="faults", unequal="faults", twilight=100),
+            Font("twilight-after-a-small-one", after_small, equal="fails", unequal="fails",
+                 twilight=100)]
+
+
+def instruction_control() -> list[Font]:
+    """INSTCTRL, in each program, with each selector and value."""
+    def control(value: int, selector: int) -> bytes:
+        return push(value, selector) + INSTCTRL
+
+    nothing, flags = [Glyph("nothing", b"")], {1: 1, 2: 2, 3: 4}
+    known = control(4, 3) + control(0, 1) + control(0, 2)
+    native = [Glyph("native", control(4, 3)), Glyph("not native", control(0, 3))]
+    others = [(0, 1), (1, 1), (0, 2), (2, 2), (1, 3), (3, 3), (7, 3)]
+    glyphs = [Glyph(f"{value} for {selector}", control(value, selector))
+              for value, selector in others]
+    faulting = {"instctrl-of-glyphs": Font("", glyphs)}
+    for selector, flag in flags.items():
+        faulting[f"instctrl-{selector}-of-fpgm"] = Font("", nothing, control(flag, selector))
+        faulting[f"instctrl-{selector}-of-prep"] = Font("", nothing, prep=control(7, selector))
+    return [Font("instctrl", native, prep=known),
+            *(dataclasses.replace(font, name=name, equal="faults", unequal="faults")
+              for name, font in faulting.items())]
+
+
+def wide_without_arithmetic() -> list[Font]:
+    """Numbers of more than 32 bits that no program adds or multiplies: control values of 32,767
+    with 16 units per em, in the table and as WCVTF writes them, at 20,000 ppem and more; 2^31 - 1
+    after DELTAC, at 9 to 24 ppem, and after ROUND."""
+    in_range = require_between(LEAST, GREATEST)
+    glyphs = [Glyph("cvt", push(0) + RCVT + in_range),
+              Glyph("wcvtf", push(0, 32767) + WCVTF + push(0) + RCVT + in_range)]
+    usual = Font("wide-control-values", glyphs, controls=(32767,), units_per_em=16)
+    huge = dataclasses.replace(usual, way="at-20000", equal="scaled", unequal="scaled")
+    deltas = push(*itertools.chain(*((16 * size + 15, 0) for size in range(16))), 16)
+    raised = written(GREATEST, 0) + deltas + DELTAC + push(0) + RCVT + in_range
+    modes = {"to grid": RTG, "to double grid": RTDG, "up to grid": RUTG}
+    rounds = [Glyph(name, mode + push(GREATEST) + ROUND + in_range) for name, mode in modes.items()]
+    return [usual, huge,
+            Font("wide-deltas", [Glyph("deltac", raised)], way="at-12", equal="faults",
+                 unequal="scaled"),
+            Font("wide-rounded", rounds, equal="faults", unequal="faults")]
+
+
+def many_turns() -> Font:
+    """A thousand turns of a function that does nothing."""
+    glyph = Glyph("1000 turns", push(1000, 0) + LOOPCALL)
+    return Font("many-turns", [glyph], function(0, b""), equal="faults", unequal="faults")
+
+
 def effects() -> list[Font]:
     """How many elements each instruction takes and leaves, also in the twilight zone, in composite
     glyphs, and after both IUPs."""
@@ -295,7 +377,8 @@ def nested_calls(depth: int) -> Font:
 def other_errors() -> Font:
     """What isn't a fault of the machine, and an error of FreeType."""
     programs = {"div by 0": push(1, 0) + b"\x62", "debug": push(1) + b"\x4f",
-                "sds 7": push(7) + b"\x5f", "sloop -1": push(-1) + SLOOP,
+                "sds 7": push(7) + b"\x5f", "sds -1": push(-1) + b"\x5f",
+                "sloop -1": push(-1) + SLOOP,
                 "instctrl 4": push(0, 4) + b"\x8e"}
     glyphs = [Glyph(name, program) for name, program in programs.items()]
     return Font("other-errors", glyphs, equal="faults", unequal="faults")
@@ -319,8 +402,9 @@ def fonts() -> list[Font]:
     exact = [tried("extremes", extremes()), tried("products", products()),
              tried("quotients", quotients()), tried("rounded", rounded()), tried("sums", sums())]
     return [*itertools.chain(*exact), wide_numbers(), *control_values(), *changed_control_values(),
-            *memory(), *fresh_start(), *functions(), *effects(), nested_calls(32), nested_calls(33),
-            other_errors(), *hints_off()]
+            *memory(), *fresh_start(), *functions(), *functions_of_a_failed_run(), *effects(),
+            nested_calls(32), nested_calls(33), many_turns(), other_errors(),
+            *instruction_control(), *wide_without_arithmetic(), *twilight_points(), *hints_off()]
 
 
 def main() -> None:
