@@ -8,8 +8,8 @@ _hintcheck() {
         return
     fi
     case $command in
-        verdict) options='--symbolic --points --json --help' ;;
-        scan) options='--symbolic --points --fail-on --expect --json --causes --needs --files-from --help' ;;
+        verdict) options='--symbolic --points --json --quiet --help' ;;
+        scan) options='--symbolic --points --fail-on --expect --json --causes --needs --files-from --quiet --help' ;;
         find | check) options='--points --help' ;;
         explain) options='--symbolic --points --json --help' ;;
         bare) options='--symbolic --points --help' ;;
@@ -41,7 +41,7 @@ _hintcheck() {
                         fi
                         return
                     fi
-                elif [[ ${COMP_WORDS[i]} = --@(symbolic|json|causes|numbers) ]]; then
+                elif [[ ${COMP_WORDS[i]} = --@(symbolic|json|causes|needs|files-from|quiet|numbers) ]]; then
                     at=$((at - 1))
                 fi
             done

@@ -19,6 +19,7 @@ complete -c hintcheck -n "__fish_seen_subcommand_from scan" -l expect -r -F -d '
 complete -c hintcheck -n "__fish_seen_subcommand_from scan" -l causes -d 'Print the causes of the refusals'
 complete -c hintcheck -n "__fish_seen_subcommand_from scan" -l needs -d 'Print what the fonts need'
 complete -c hintcheck -n "__fish_seen_subcommand_from scan" -l files-from -d 'Each FONT lists the names of fonts'
+complete -c hintcheck -n "__fish_seen_subcommand_from verdict scan" -l quiet -d 'Print the last line alone, or no accepted font'
 complete -c hintcheck -n "__fish_seen_subcommand_from list" -l numbers -d 'List the numbers that instructions push'
 complete -c hintcheck -n "__fish_seen_subcommand_from verdict scan explain" -l json -d 'Print an object of JSON'
 complete -c hintcheck -n "__fish_seen_subcommand_from verdict scan explain find check list upgrade" -F

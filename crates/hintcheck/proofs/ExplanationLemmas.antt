@@ -1,5 +1,5 @@
 -- What is told of a program that is explained, and of the faults.
-use Rattle.std.proofs.Common.{◌≡◌, ◌∙◌, ℕ, IfErr, IsErrAnd, List, [], Some, Result, Ok, Err, refl, sym, ap, subst}
+use Rattle.std.proofs.Common.{◌≡◌, ◌∙◌, ℕ, IsErrAnd, List, [], Some, Result, Ok, Err, arith, sym, ap, subst}
 use Rattle.std.specs.Prelude.{slice_get}
 use Rattle.tt_code.specs.Cut.{Instruction}
 use Rattle.tt_font.specs.Reading.{FontData, GlyphData, Reads}
@@ -11,7 +11,7 @@ use Rattle.tt_setting.specs.declared.exhausted.Exhausted.TheVariants.{Memory, Bu
 use Rattle.hintcheck_report.specs.declared.answer_fault.AnswerFault.TheVariants as answer
 use Rattle.tt_stream.specs.declared.text.PrintFailed.TheVariants as failed
 use Rattle.hintcheck.specs.Commands.{TellsFailure, fault_of_answer}
-use Rattle.hintcheck.specs.CommandFaults.{IsEndOfWork, IsFaultOfExplanation}
+use Rattle.hintcheck.specs.Representation.Answers.{IsExplained}
 use Rattle.hintcheck.specs.Explanations.{IsAnswered, IsReportOf, TellsProgram, cvt_accepted, cvt_refused, font_accepted, font_refused, glyph_accepted, glyph_refused, HoldExplained, status_of_explained}
 use Rattle.hintcheck_programs.specs.FontPrograms.{cvt_subject, font_of, font_subject, glyph_subject}
 use Rattle.tt_setting.specs.Refusals.{reason_of}
@@ -35,11 +35,10 @@ use Rattle.hintcheck_programs.proofs.FontEnds.{least_of}
 use Rattle.hintcheck_programs.proofs.ProgramSteps.{glyph_of}
 use Rattle.hintcheck_programs.proofs.ProgramVerdictLemmas.{HasFlow, accepted_found, found_refusal}
 use Rattle.hintcheck.specs.Listing.{Calls}
-use Rattle.hintcheck.specs.MeansSafe.{HoldAcceptedBy, HoldExplainedBy, HoldUnacceptedBy}
+use Rattle.hintcheck.specs.MeansSafe.{HoldExplainedBy}
 use Rattle.hintcheck_words.specs.declared.words.Profile.{Profile}
 use Rattle.hintcheck_words.specs.declared.words.Profile.TheVariants.{Strict, Symbolic}
 use Rattle.hintcheck.specs.declared.commands.faults.CommandFault.{CommandFault}
-use Rattle.hintcheck.specs.declared.commands.faults.CommandFault.TheVariants as command
 
 -- a failed write of an explanation
 pub failed_text : (S : Type 0) {T : Type 0} (e : AnswerFault) (r : Result T CommandFault) (old new : ℕ) → TellsExplained {T = S} (Err e) old new → IsErrAnd r (λ told. told ≡ fault_of_answer e) → TellsFailure r old new
@@ -52,24 +51,6 @@ failed_text S (answer.Font font) (Err told) old new tells is = absurd tells
 failed_text S (answer.Form place) (Err told) old new tells is = absurd tells
 failed_text S answer.Read (Err told) old new tells is = absurd tells
 failed_text S answer.Write (Err told) old new tells is = absurd tells
-
-pub fault_of_text : (S : Type 0) {T : Type 0} (e : AnswerFault) (r : Result T CommandFault) (old new : ℕ) → TellsExplained {T = S} (Err e) old new → IsErrAnd r (λ told. told ≡ fault_of_answer e) → IfErr r IsFaultOfExplanation
-fault_of_text S e (Ok x) old new tells is = absurd is
-fault_of_text S (answer.Print failed.Write) (Err told) old new tells is = rw is tt
-fault_of_text S (answer.Print failed.Format) (Err told) old new tells is = rw is tt
-fault_of_text S (answer.Exhausted Memory) (Err told) old new tells is = rw is tt
-fault_of_text S (answer.Exhausted Points) (Err told) old new tells is = rw is tt
-fault_of_text S (answer.Font font) (Err told) old new tells is = absurd tells
-fault_of_text S (answer.Form place) (Err told) old new tells is = absurd tells
-fault_of_text S answer.Read (Err told) old new tells is = absurd tells
-fault_of_text S answer.Write (Err told) old new tells is = absurd tells
-
--- work that ended without an answer wrote nothing
-pub ended_failures : {T : Type 0} (f : CommandFault) (r : Result T CommandFault) (n : ℕ) → IsErrAnd r (λ told. told ≡ f) → IsEndOfWork f → TellsFailure r n n
-ended_failures f (Ok x) n is ended = absurd is
-ended_failures command.OutOfMemory (Err told) n is ended = rw is refl
-ended_failures command.Budget (Err told) n is ended = rw is refl
-ended_failures _ (Err told) n is ended = absurd ended
 
 -- what was explained of a program, whatever it was searched for by
 pub answered : (x : Subject) (s : AnySetting) (called : Name) (e : Explained) → IsSubjectOf x s → x.name ≡ called → HasFlow (setting_of s) s.start.now → IsAnsweredFor s called e → IsAnswered x e
@@ -133,12 +114,8 @@ word_told bytes word d called explained.Accepted reads text tells = record { fon
 word_told bytes word d called (explained.Refused r) reads text tells = record { font = d; reads = reads; name = called; text = text; refused = tells }
 
 -- the exit status of what is answered by a profile
-pub accepted_by : (profile : Profile) (bytes word : List ℕ) (e : Explained) (status : ℕ) → HoldExplainedBy profile bytes word e → status ≡ status_of_explained e → status ≡ 0 → HoldAcceptedBy profile bytes word
-accepted_by (Strict points) bytes word explained.Accepted status holds is zero = holds
-accepted_by (Symbolic steps) bytes word explained.Accepted status holds is zero = holds
-accepted_by profile bytes word (explained.Refused r) status holds is zero = absurd (cc)
-
-pub refused_by : (profile : Profile) (bytes word : List ℕ) (e : Explained) (status : ℕ) → HoldExplainedBy profile bytes word e → status ≡ status_of_explained e → status ≡ 1 → HoldUnacceptedBy profile bytes word
-refused_by (Strict points) bytes word (explained.Refused r) status holds is one = (r, holds)
-refused_by (Symbolic steps) bytes word (explained.Refused r) status holds is one = (r, holds)
-refused_by profile bytes word explained.Accepted status holds is one = absurd (cc)
+pub explained_by : (profile : Profile) (bytes word : List ℕ) (e : Explained) (status : ℕ) → HoldExplainedBy profile bytes word e → status ≡ status_of_explained e → IsExplained profile word status
+explained_by (Strict points) bytes word explained.Accepted status holds is = record { few = omega arith; accepted = λ zero. (bytes, holds); refused = λ one. absurd (omega arith) }
+explained_by (Symbolic steps) bytes word explained.Accepted status holds is = record { few = omega arith; accepted = λ zero. (bytes, holds); refused = λ one. absurd (omega arith) }
+explained_by (Strict points) bytes word (explained.Refused r) status holds is = record { few = omega arith; accepted = λ zero. absurd (omega arith); refused = λ one. (bytes, (r, holds)) }
+explained_by (Symbolic steps) bytes word (explained.Refused r) status holds is = record { few = omega arith; accepted = λ zero. absurd (omega arith); refused = λ one. (bytes, (r, holds)) }

@@ -6,7 +6,6 @@ use Rattle.std.proofs.Common.{◌≡◌, ◌≢◌, ◌≤◌, ℕ, zero, suc, �
 use Rattle.std.proofs.lemmas.Fmt.{decimal_digit, first_decimal, digits_decimal, decimal-digits_value, decimal_nonempty}
 use Rattle.std.proofs.lemmas.Str.Parse.{IsNumeralModel, numerals_by_value, tells_digits, not_in_digits, parse_plain}
 use Rattle.std.specs.Result.{OkIff, result_ok}
-use Rattle.std.proofs.lemmas.Option.{slice_get_within}
 use Rattle.tt_font.specs.Reading.{FontData, GlyphData}
 use Rattle.hintcheck_programs.specs.FontPrograms.{IsFontInRange}
 use Rattle.hintcheck.specs.Listing.{Calls, IsNameOf, IsNoName, IsOf16Bits, IsPlain, Names, program_in, by_glyph_name}
@@ -48,24 +47,11 @@ pub not_plain : (s t : List ℕ) (b : Bool) → (IsTrue b ↔ IsPlain s) → b �
 not_plain s t b test isnt same n small e =
     let yes : b ≡ true = test.1 (subst IsPlain (sym (same ∙ e)) (plain_decimal n small)) in cc
 
--- A name of a program that the font has.
-
-number_below : (glyphs : List GlyphData) (id : ℕ) (o : Option GlyphData) → slice_get glyphs id ≡ o → (p : List ℕ) → option_map (λ g. g.program) o ≡ Some p → id < length glyphs
-number_below glyphs id None at p e = absurd (cc)
-number_below glyphs id (Some g) at p e = slice_get_within glyphs id g at
-
-of_16_bits : (d : FontData) → length d.glyphs < 2 ^ 16 → (called : Name) (p : List ℕ) → program_in d called ≡ Some p → IsOf16Bits called
-of_16_bits d few name.Font p e = tt
-of_16_bits d few name.Cvt p e = tt
-of_16_bits d few (name.Glyph id) p e = let h = number_below d.glyphs id (slice_get d.glyphs id) refl p e in omega arith
+-- A name of a program.
 
 -- what a word is read as
 abbrev pub IsReadAs : List ℕ → Option Name → Type 0
 IsReadAs word read = (called : Name) → IsOf16Bits called → IsNameOf word called → read ≡ Some called
-
--- which program a word means
-abbrev pub IsMeant : List ℕ → List ℕ → Option Name → Type 0
-IsMeant bytes word meant = (called : Name) → IsOf16Bits called → Calls bytes word called → meant ≡ Some called
 
 no_such_name : (word : List ℕ) (read : Option Name) → IsReadAs word read → read ≡ None → IsNoName word
 no_such_name word read is none = λ called small e. let some : read ≡ Some called = is called small e in cc
@@ -74,17 +60,6 @@ pub glyph_called : (bytes word : List ℕ) (read : Option Name) (found : Option 
     → IfSome found (IsFirstNamed (post_of bytes) word) → IfSome (option_map name.Glyph found) (Calls bytes word)
 glyph_called bytes word read (Some glyph) is none first = by_glyph_name glyph refl (no_such_name word read is none) first
 glyph_called bytes word read None is none first = tt
-
-pub no_name : (bytes word : List ℕ) (d : FontData) (meant : Option Name) → length d.glyphs < 2 ^ 16 → IsMeant bytes word meant → meant ≡ None → (p : List ℕ) → Names bytes word d p → ⊥
-no_name bytes word d meant few is none p named =
-    let some = is named.name (of_16_bits d few named.name p named.there) named.text in cc
-
-pub no_program : (bytes word : List ℕ) (d : FontData) (meant : Option Name) (called : Name) → length d.glyphs < 2 ^ 16 → IsMeant bytes word meant → meant ≡ Some called
-    → program_in d called ≡ None → (p : List ℕ) → Names bytes word d p → ⊥
-no_program bytes word d meant called few is found none p named =
-    let some : meant ≡ Some named.name = is named.name (of_16_bits d few named.name p named.there) named.text in
-    let same : called ≡ named.name = cc in
-    let there : program_in d called ≡ Some p = subst (λ n. program_in d n ≡ Some p) (sym same) named.there in cc
 
 -- a program of a font is a list of fewer than 2^31 bytes
 

@@ -20,6 +20,7 @@ use Rattle.hintcheck_words.specs.Requests.{Request, bare, check, explain, find, 
 use Rattle.tt_font.specs.declared.fault.FontFault.{FontFault}
 use Rattle.tt_font.specs.declared.fault.FontFault.TheVariants as font
 
+-- the exit status of a font's fault: 3 where memory ran out, and otherwise 2
 abbrev pub font_status : FontFault → ℕ
 font_status (font.OutOfMemory error) = 3
 font_status other = 2
@@ -28,18 +29,13 @@ font_status other = 2
 abbrev pub status_of : CommandFault → ℕ
 status_of fault.OutOfMemory = 3
 status_of fault.Budget = 3
-status_of (fault.Font numbered) = font_status numbered.0
+status_of (fault.Font font container) = font_status font
 status_of other = 2
 
 -- the fault is no failed write
 abbrev pub IsNoWriteFault : CommandFault → Type 0
 IsNoWriteFault fault.Write = ⊥
 IsNoWriteFault other = Unit {0}
-
--- what holds of the place that a fault of form names
-abbrev pub AtForm : CommandFault → (ℕ → Type 0) → Type 0
-AtForm (fault.Form place) At = At place
-AtForm other At = Unit {0}
 
 -- the fault of a text that isn't printed
 abbrev pub fault_of_print : PrintFailed → CommandFault
@@ -58,7 +54,7 @@ fault_of_end exhausted.Budget = fault.Budget
 
 -- the fault of a font on which there is no answer; what is written there is a file
 abbrev pub fault_of_answer : AnswerFault → CommandFault
-fault_of_answer (answer.Font font) = fault.Font (record { 0 = font; 1 = Other })
+fault_of_answer (answer.Font font) = fault.Font font Other
 fault_of_answer (answer.Form place) = fault.Form place
 fault_of_answer answer.Read = fault.Read
 fault_of_answer answer.Write = fault.File
@@ -87,7 +83,7 @@ HasAll left bytes = IfSome left (λ known. bytes ≡ known)
 -- one verdict is asked for, and not a scan, an explanation, a listing or an upgrade
 abbrev pub IsForVerdict : Request → Type 0
 IsForVerdict (bare maxp cvt points contours program profile) = Unit {0}
-IsForVerdict (verdict font profile) = Unit {0}
+IsForVerdict (verdict font profile is_quiet) = Unit {0}
 IsForVerdict (scan fonts options expected) = ⊥
 IsForVerdict (explain font program place options) = ⊥
 IsForVerdict (find font certificate budget) = Unit {0}

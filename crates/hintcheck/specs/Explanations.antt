@@ -1,19 +1,16 @@
 -- One program of a font as it is explained: it is accepted, or it is refused, or one before it is.
-use Rattle.std.specs.Prelude.{◌≡◌, ◌≢◌, ℕ, List, [], Option, Some, IfSome, slice_get}
-use Rattle.tt_code.specs.Cut.{BeginsWith, Instruction, size}
+use Rattle.std.specs.Prelude.{◌≡◌, ◌≢◌, ℕ, List, Some, slice_get}
+use Rattle.tt_code.specs.Cut.{Instruction}
 use Rattle.tt_setting.specs.declared.name.Name.{Name}
 use Rattle.tt_setting.specs.declared.name.Name.TheVariants as name
 use Rattle.tt_font.specs.Reading.{FontData, GlyphData, Reads}
 use Rattle.tt_setting.specs.Refusals.{reason_of}
 use Rattle.tt_setting.specs.declared.refusal.Refusal.{Refusal}
 use Rattle.tt_setting.specs.declared.refusal.Refusal.TheVariants as fault
-use Rattle.tt_setting.specs.declared.spot.Spot.{Spot}
-use Rattle.tt_setting.specs.declared.spot.Spot.TheVariants as spot
-use Rattle.tt_symbolic_check.specs.declared.site.Site.{Site}
 use Rattle.hintcheck_explain.specs.declared.asked.Explained.{Explained}
 use Rattle.hintcheck_explain.specs.declared.asked.Explained.TheVariants as explained
 use Rattle.hintcheck_programs.specs.FontPrograms.{cvt_subject, font_of, font_subject, glyph_subject}
-use Rattle.hintcheck.specs.Listing.{Calls, Names}
+use Rattle.hintcheck.specs.Listing.{Calls}
 use Rattle.hintcheck_programs.specs.Programs.{EndsWith, HasLeastFamily, IsRefusal, Subject}
 use Rattle.hintcheck_report.specs.Places.{reported_at}
 use Rattle.hintcheck_report.specs.declared.refused.Refused.{Refused}
@@ -82,37 +79,6 @@ HoldExplained bytes word (explained.Refused r) = HoldRefusal bytes word r
 abbrev pub status_of_explained : Explained → ℕ
 status_of_explained explained.Accepted = 0
 status_of_explained (explained.Refused r) = 1
-
--- An instruction of the program begins at the offset: the program begins with whole instructions of
--- that size, and bytes are left after them. (Own: it is said of a program that can't be cut, too,
--- where the last such offset is that of the instruction that passes the end.)
-pub record BeginsInstruction (program : List ℕ) (offset : ℕ) : Type 0 where
-  pub before : List Instruction
-  pub rest : List ℕ
-  pub begins : BeginsWith program before rest
-  pub reached : size before ≡ offset
-  pub left : rest ≢ []
-
--- the bytes of the program that holds a place of this spot, where the font's program of these bytes
--- is explained
-abbrev pub bytes_at : FontData → List ℕ → Spot → List ℕ
-bytes_at d program spot.Main = program
-bytes_at d program spot.Font = d.fpgm
-bytes_at d program spot.Prep = d.prep
-
--- where a site is asked for, an instruction of the program that holds it begins there
-abbrev pub HasSite : FontData → List ℕ → Option Site → Type 0
-HasSite d program site =
-    IfSome site (λ at. BeginsInstruction (bytes_at d program at.spot) at.offset)
-
--- The bytes hold a font, and the word is the name of a program of it; where a site is asked for, an
--- instruction of that program, or of the font program or the CVT program, begins there.
-pub record HoldPlace (bytes word : List ℕ) (site : Option Site) : Type 0 where
-  pub font : FontData
-  pub reads : Reads bytes font
-  pub program : List ℕ
-  pub named : Names bytes word font program
-  pub place : HasSite font program site
 
 -- whether the program is accepted: it has its least family, or it is refused so
 abbrev pub IsAnswered : Subject → Explained → Type 0

@@ -106,12 +106,6 @@ pub record HoldToldProgram (bytes word : List ℕ) (old new : Option (List ℕ))
   pub there : program_in font name ≡ Some program
   pub told : TellsUnlisted name program old new
 
--- The bytes hold a font, and the word isn't the name of any of its programs.
-pub record HoldNoSuchProgram (bytes word : List ℕ) : Type 0 where
-  pub font : FontData
-  pub reads : Reads bytes font
-  pub none : (program : List ℕ) → Names bytes word font program → ⊥
-
 -- What is listed. (OpenType specification, "The TrueType Instruction Set": the names.)
 
 -- two hexadecimal digits for each byte

@@ -1,6 +1,6 @@
 -- What the exit statuses 0 and 1 mean: what was asked for is safe, or refused.
-use Rattle.std.specs.Prelude.{◌≡◌, ◌↔◌, ◌⊎◌, ◌+◌, ◌≤◌, ◌<◌, ℕ, All, Contains, List, [], None, Option, Some, length, true, unwrap_or}
-use Rattle.tt_code.specs.declared.reason.ReasonClass.TheVariants.{PossibleFault}
+use Rattle.std.specs.Prelude.{◌≡◌, ◌↔◌, ◌⊎◌, ◌+◌, ◌≤◌, ℕ, All, Bool, Contains, false, List, [], None, Option, Some, length, true, unwrap_or}
+use Rattle.std.specs.List.{list_any}
 use Rattle.tt_font.specs.Reading.{FontData, GlyphData, Reads}
 use Rattle.hintcheck_words.specs.HexWords.{Spells}
 use Rattle.hintcheck_words.specs.declared.words.FailOn.{FailOn}
@@ -9,17 +9,14 @@ use Rattle.hintcheck_words.specs.declared.words.Profile.{Profile}
 use Rattle.hintcheck_words.specs.declared.words.Profile.TheVariants.{Strict, Symbolic}
 use Rattle.hintcheck_words.specs.declared.words.ScanOptions.{ScanOptions}
 use Rattle.hintcheck_words.specs.Requests.{Request, bare, check, explain, find, is_taken, list, meaning, scan, upgrade, verdict}
-use Rattle.hintcheck.specs.CommandFaults.{IsFaultOfFontFile, MeansNoFault, TellsFault}
-use Rattle.hintcheck.specs.Commands.{status_of}
-use Rattle.hintcheck.specs.declared.commands.faults.CommandFault.{CommandFault}
+use Rattle.hintcheck.specs.CommandFaults.{MeansNoFault, TellsFault}
 use Rattle.hintcheck_explain.specs.declared.asked.Explained.{Explained}
 use Rattle.hintcheck_programs.specs.BarePrograms.{bare_font, bare_subject}
 use Rattle.hintcheck.specs.Explanations.{HoldAcceptedProgram, HoldExplained, HoldRefusedProgram}
 use Rattle.hintcheck_programs.specs.FontPrograms.{IsSafeFont, IsSafeGlyph}
-use Rattle.hintcheck.specs.KnownRefusals.{AreLines, IsKnown, counts}
+use Rattle.hintcheck.specs.KnownRefusals.{fails_for, is_unknown}
 use Rattle.hintcheck.specs.Listing.{HoldUnlistedProgram}
 use Rattle.hintcheck_programs.specs.Programs.{HasGoodFamily, IsRefusal}
-use Rattle.hintcheck.specs.RefusalClasses.{number_of_class}
 use Rattle.hintcheck.specs.ScannedNames.{HoldsOfNames}
 use Rattle.hintcheck.specs.SymbolicExplanations.{HoldSymbolicAcceptedProgram, HoldSymbolicExplained, HoldSymbolicRefusedProgram}
 use Rattle.hintcheck.specs.SymbolicAnswers.{SpellGlyph, SpellSymbolicSafeGlyph, SpellSymbolicVerdict}
@@ -74,43 +71,29 @@ abbrev pub IsRequestOf : Profile → VerdictRequest → Type 0
 IsRequestOf (Strict most) request = request ≡ asked.Strict
 IsRequestOf (Symbolic most) request = (steps : ℕ) × (request ≡ asked.Symbolic steps)
 
--- The verdict of this profile on the font in the bytes refuses no program for a possible fault.
--- Those that it refuses are undecided or left out: this doesn't tell that they are safe.
-pub record HoldNoPossibleFault (profile : Profile) (bytes : List ℕ) : Type 0 where
+-- The verdict of this profile on the font in the bytes refuses no program that counts. Those that it
+-- refuses are undecided, left out or known: this doesn't tell that they are safe.
+pub record HoldNoneCounted (profile : Profile) (does_count : Refused → Bool)
+    (bytes : List ℕ) : Type 0 where
   pub judgement : Judgement
   pub given : IsVerdictBy profile bytes judgement
-  pub none : number_of_class PossibleFault judgement.refused ≡ 0
+  pub none : list_any does_count judgement.refused ≡ false
 
 -- What status 0 of a scan tells of each font file: some bytes hold a font whose programs are safe
 -- by this profile; or, where the scan fails for possible faults alone, whose verdict has none.
-abbrev pub HoldPassing : FailOn → Profile → List ℕ → Type 0
-HoldPassing Possible profile bytes = HoldNoPossibleFault profile bytes
+abbrev pub HoldPassing : Option FailOn → Profile → List ℕ → Type 0
+HoldPassing (Some Possible) profile bytes =
+    HoldNoneCounted profile (fails_for (Some Possible)) bytes
 HoldPassing other profile bytes = HoldSafeBy profile bytes
 
--- The verdict of this profile on the font in the bytes, whose file has this name, refuses no other
--- programs than those that don't count, and known ones, which the lines name. This doesn't tell that
--- they are safe.
-pub record HoldOnlyKnown (fail_on : FailOn) (profile : Profile) (lines : List (List ℕ))
-    (font bytes : List ℕ) : Type 0 where
-  pub judgement : Judgement
-  pub given : IsVerdictBy profile bytes judgement
-  pub known : All (λ r. counts fail_on r ≡ true → IsKnown lines font r) judgement.refused
-
--- What status 0 of a scan with a file of known refusals tells of the font files with these names:
--- some bytes have lines, those that the file holds or held, or that were written to it; and for each
--- of the names some bytes hold a font of which only known programs are refused, of those that count.
-pub record HoldOnlyKnownFonts (options : ScanOptions) (fonts : List (List ℕ)) : Type 0 where
-  pub held : List ℕ
-  pub lines : List (List ℕ)
-  pub cut : AreLines held lines
-  pub only_known : All (λ font. (bytes : List ℕ)
-      × HoldOnlyKnown options.fail_on options.profile lines font bytes) fonts
-
--- what status 0 of a scan tells, with a file of known refusals or without one
+-- What status 0 of a scan tells. With a file of known refusals it tells that each refused program for
+-- which it fails is known, by the line that names it: no contract of the runtime tells which lines
+-- the file has.
 abbrev pub IsSafeScan : ScanOptions → List (List ℕ) → Option (List ℕ) → Type 0
 IsSafeScan options fonts None =
     All (λ font. (bytes : List ℕ) × HoldPassing options.fail_on options.profile bytes) fonts
-IsSafeScan options fonts (Some file) = HoldOnlyKnownFonts options fonts
+IsSafeScan options fonts (Some file) = (is_known : List ℕ → Bool) × All (λ font. (bytes : List ℕ)
+    × HoldNoneCounted options.profile (is_unknown options.fail_on is_known font) bytes) fonts
 
 -- What is asked for is safe, where it names a profile by that one, and otherwise by the strict one:
 -- the glyph program of `bare`, which has no bytes where its word is left out. For `verdict`, `find`
@@ -123,7 +106,7 @@ IsSafeScan options fonts (Some file) = HoldOnlyKnownFonts options fonts
 abbrev pub IsSafeRequest : Request → Type 0
 IsSafeRequest (bare maxp cvt points contours program profile) =
     SpellSafeBy profile maxp cvt points contours (unwrap_or program [])
-IsSafeRequest (verdict font profile) = (bytes : List ℕ) × HoldSafeBy profile bytes
+IsSafeRequest (verdict font profile is_quiet) = (bytes : List ℕ) × HoldSafeBy profile bytes
 IsSafeRequest (scan fonts options expected) =
     HoldsOfNames options.words fonts (λ names. IsSafeScan options names expected)
 IsSafeRequest (explain font None place options) =
@@ -165,16 +148,18 @@ abbrev pub HoldRefusedBy : Profile → List ℕ → Type 0
 HoldRefusedBy (Strict points) bytes = HoldRefusedFont bytes
 HoldRefusedBy (Symbolic steps) bytes = HoldSymbolicRefusedFont bytes
 
--- The verdict of this profile on the font in the bytes refuses some program for a possible fault.
-pub record HoldPossibleFault (profile : Profile) (bytes : List ℕ) : Type 0 where
+-- The verdict of this profile on the font in the bytes refuses a program that counts.
+pub record HoldSomeCounted (profile : Profile) (does_count : Refused → Bool)
+    (bytes : List ℕ) : Type 0 where
   pub judgement : Judgement
   pub given : IsVerdictBy profile bytes judgement
-  pub some : 0 < number_of_class PossibleFault judgement.refused
+  pub some : list_any does_count judgement.refused ≡ true
 
 -- What status 1 of a scan tells of a font file: some bytes hold a font whose verdict by this
 -- profile names refused programs; or, where the scan fails for possible faults alone, one of these.
-abbrev pub HoldFailing : FailOn → Profile → List ℕ → Type 0
-HoldFailing Possible profile bytes = HoldPossibleFault profile bytes
+abbrev pub HoldFailing : Option FailOn → Profile → List ℕ → Type 0
+HoldFailing (Some Possible) profile bytes =
+    HoldSomeCounted profile (fails_for (Some Possible)) bytes
 HoldFailing other profile bytes = HoldRefusedBy profile bytes
 
 -- the bytes hold a font, and the word is the name of a program of it that is refused by this profile, or
@@ -225,7 +210,7 @@ pub record IsCheckOn (bytes : List ℕ) (judgement : Judgement) : Type 0 where
 abbrev pub IsVerdictAsked : Request → Judgement → Type 0
 IsVerdictAsked (bare maxp cvt points contours program profile) judgement =
     SpellVerdictBy profile maxp cvt points contours (unwrap_or program []) judgement
-IsVerdictAsked (verdict font profile) judgement =
+IsVerdictAsked (verdict font profile is_quiet) judgement =
     (bytes : List ℕ) × IsVerdictBy profile bytes judgement
 IsVerdictAsked (find font certificate budget) judgement =
     (bytes : List ℕ) × IsVerdictOn bytes judgement
@@ -236,34 +221,14 @@ IsVerdictAsked (explain font program place options) judgement = ⊥
 IsVerdictAsked (list font program detail) judgement = ⊥
 IsVerdictAsked (upgrade old new) judgement = ⊥
 
--- The verdict of this profile on the font in the bytes, whose file has this name, refuses a program
--- that counts and isn't known: none of the lines names it.
-pub record HoldUnknown (fail_on : FailOn) (profile : Profile) (lines : List (List ℕ))
-    (font bytes : List ℕ) : Type 0 where
-  pub judgement : Judgement
-  pub given : IsVerdictBy profile bytes judgement
-  pub program : Refused
-  pub refused : Contains judgement.refused program
-  pub counted : counts fail_on program ≡ true
-  pub unknown : IsKnown lines font program → ⊥
-
--- What status 1 of a scan with a file of known refusals tells of the font files with these names:
--- some bytes have lines, those that the file holds, and for one of the names some bytes hold a font
--- of which a program is refused that isn't known, of those that count.
-pub record HoldUnknownFont (options : ScanOptions) (fonts : List (List ℕ)) : Type 0 where
-  pub held : List ℕ
-  pub lines : List (List ℕ)
-  pub cut : AreLines held lines
-  pub font : List ℕ
-  pub named : Contains fonts font
-  pub bytes : List ℕ
-  pub unknown : HoldUnknown options.fail_on options.profile lines font bytes
-
--- what status 1 of a scan tells, with a file of known refusals or without one
+-- What status 1 of a scan tells: a font file fails; with a file of known refusals, its verdict refuses
+-- a program for which the scan fails, and which isn't known.
 abbrev pub IsRefusedScan : ScanOptions → List (List ℕ) → Option (List ℕ) → Type 0
 IsRefusedScan options fonts None =
     (bytes : List ℕ) × HoldFailing options.fail_on options.profile bytes
-IsRefusedScan options fonts (Some file) = HoldUnknownFont options fonts
+IsRefusedScan options fonts (Some file) = (is_known : List ℕ → Bool) × (font bytes : List ℕ)
+    × Contains fonts font
+    × HoldSomeCounted options.profile (is_unknown options.fail_on is_known font) bytes
 
 -- What is asked for is refused: the glyph program of `bare`. For `verdict`, `find` and `scan`, some
 -- bytes hold a font whose verdict names refused programs, for `scan` some for which it fails, and
@@ -274,7 +239,7 @@ IsRefusedScan options fonts (Some file) = HoldUnknownFont options fonts
 abbrev pub IsRefusedRequest : Request → Type 0
 IsRefusedRequest (bare maxp cvt points contours program profile) =
     SpellRefusedBy profile maxp cvt points contours (unwrap_or program [])
-IsRefusedRequest (verdict font profile) = (bytes : List ℕ) × HoldRefusedBy profile bytes
+IsRefusedRequest (verdict font profile is_quiet) = (bytes : List ℕ) × HoldRefusedBy profile bytes
 IsRefusedRequest (scan fonts options expected) =
     HoldsOfNames options.words fonts (λ names. IsRefusedScan options names expected)
 IsRefusedRequest (explain font None place options) =
@@ -291,28 +256,6 @@ pub record MeansRefused (words : List (List ℕ)) : Type 0 where
   pub request : Request
   pub meant : meaning words ≡ Some request
   pub refused : IsRefusedRequest request
-
--- What the greatest of the exit statuses of font files tells, with these options: where it is 0,
--- each of the files is safe; where it is 1, one is refused; where it is more, one has a fault of
--- this status. Where the scan fails for possible faults alone, only these count.
-pub record TellsFonts (options : ScanOptions) (fonts : List (List ℕ)) (status : ℕ) : Type 0 where
-  pub few : status ≤ 3
-  pub safe : status ≡ 0
-      → All (λ font. (bytes : List ℕ) × HoldPassing options.fail_on options.profile bytes) fonts
-  pub refused : status ≡ 1
-      → (bytes : List ℕ) × HoldFailing options.fail_on options.profile bytes
-  pub fault : 2 ≤ status
-      → (reported : CommandFault) × IsFaultOfFontFile reported × (status_of reported ≡ status)
-
--- What the exit status of a scan with these options tells, with a file of known refusals or without
--- one: as `TellsFonts` says, where only refused programs count that aren't known.
-pub record TellsScan (options : ScanOptions) (fonts : List (List ℕ))
-    (expected : Option (List ℕ)) (status : ℕ) : Type 0 where
-  pub few : status ≤ 3
-  pub safe : status ≡ 0 → IsSafeScan options fonts expected
-  pub refused : status ≡ 1 → IsRefusedScan options fonts expected
-  pub fault : 2 ≤ status
-      → (reported : CommandFault) × IsFaultOfFontFile reported × (status_of reported ≡ status)
 
 -- What an exit status tells of the words of a command line. Where it is 0 and they are taken, they
 -- ask for something safe; where it is 1, for something refused. Where it is more, a fault of theirs

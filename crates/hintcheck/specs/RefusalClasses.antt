@@ -1,11 +1,9 @@
--- The refused programs by the class of their reasons, and those for which a scan fails.
-use Rattle.std.specs.Prelude.{ℕ, Bool, true, false, codes, List, length}
+-- The refused programs by the class of their reasons.
+use Rattle.std.specs.Prelude.{ℕ, Bool, true, false, codes, List}
 use Rattle.std.specs.List.{count_by}
 use Rattle.tt_code.specs.Refusals.{class_of}
 use Rattle.tt_code.specs.declared.reason.ReasonClass.{ReasonClass}
 use Rattle.tt_code.specs.declared.reason.ReasonClass.TheVariants.{PossibleFault, Undecided, LeftOut, Certificate}
-use Rattle.hintcheck_words.specs.declared.words.FailOn.{FailOn}
-use Rattle.hintcheck_words.specs.declared.words.FailOn.TheVariants.{Possible}
 use Rattle.hintcheck_report.specs.declared.refused.Refused.{Refused}
 
 -- what a reason of this class tells, in words
@@ -26,8 +24,3 @@ is_same one other = false
 -- how many programs are refused for a reason of this class
 abbrev pub number_of_class : ReasonClass → List Refused → ℕ
 number_of_class class rs = count_by (λ r. is_same (class_of r.reason) class) rs
-
--- for how many of the refused programs a scan fails
-abbrev pub number_failing : FailOn → List Refused → ℕ
-number_failing Possible rs = number_of_class PossibleFault rs
-number_failing other rs = length rs

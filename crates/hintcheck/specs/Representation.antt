@@ -1,6 +1,4 @@
--- What the code prints and keeps beside the answers: private contracts cite these, and no public one
--- does.
-pub mod CauseLists
-pub mod ScanSummaries
-pub mod ToldFaults
-pub mod Expectations
+-- What the code promises of its parts and keeps beside the answers: private contracts cite these, and
+-- no public one does.
+pub mod Answers
+pub mod Known

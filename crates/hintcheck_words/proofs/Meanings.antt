@@ -7,7 +7,7 @@ use Rattle.clap.specs.declared.parser.matches.ArgMatches.{ArgMatches}
 use Rattle.clap.specs.Words.{has_subcommand, subcommand_name_of, subcommand_rows_of, App, Row, Text, is_simple, subcommand_of, takes}
 use Rattle.clap.proofs.OnLiterals.{clap_on_literals}
 use Rattle.hintcheck_words.specs.CommandLine.{hintcheck}
-use Rattle.hintcheck_words.specs.Requests.{IsReadable, MeetsSubcommand, Request, is_taken, meaning, met, request_of}
+use Rattle.hintcheck_words.specs.Requests.{MeetsSubcommand, Request, is_taken, meaning, met, request_of}
 
 hintcheck_simple : is_simple hintcheck ≡ true
 unfolding hintcheck clap_on_literals
@@ -56,5 +56,5 @@ differs word name other = go (bytes_eq name word) refl
     go true e = absurd (other (sym ((bytes_eq-Decides name word).0 e)))
 
 -- a subcommand that a parse met asks for something
-pub is_readable : (o : Option (Text × List Row)) (p : Text × List Row) → MeetsSubcommand o → o ≡ Some p → IsReadable p
-is_readable o p met e = subst (λ (q : Option (Text × List Row)). MeetsSubcommand q) e met
+pub asks_for : (o : Option (Text × List Row)) (p : Text × List Row) → MeetsSubcommand o → o ≡ Some p → is_some (request_of p) ≡ true
+asks_for o p met e = subst (λ (q : Option (Text × List Row)). MeetsSubcommand q) e met

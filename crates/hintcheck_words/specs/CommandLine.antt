@@ -1,8 +1,8 @@
 -- The command line, in the terms of clap's definitions:
 --     hintcheck bare [--symbolic] [--points LIMIT] MAXP CVT POINTS CONTOURS [PROGRAM]
---     hintcheck verdict [--symbolic] [--points POINTS] [--json] FONT
+--     hintcheck verdict [--symbolic] [--points POINTS] [--json] [--quiet] FONT
 --     hintcheck scan [--symbolic] [--points POINTS] [--fail-on CLASS] [--expect FILE] [--json]
---         [--causes] [--needs] [--files-from] FONT..
+--         [--causes] [--needs] [--files-from] [--quiet] FONT..
 --     hintcheck explain [--symbolic] [--points POINTS] [--json] FONT [PROGRAM] [OFFSET]
 --     hintcheck find [--points POINTS] FONT CERT
 --     hintcheck check [--points POINTS] FONT CERT
@@ -89,6 +89,10 @@ needs = flag (codes "NEEDS") (codes "needs")
 abbrev pub files_from : Rule
 files_from = flag (codes "LISTS") (codes "files-from")
 
+-- the option `--quiet`, which leaves out what most verdicts have in common
+abbrev pub quiet : Rule
+quiet = flag (codes "QUIET") (codes "quiet")
+
 -- a subcommand whose arguments are texts that must be given, and the option `--points`
 abbrev pub of_texts_and_points : Text → List Text → App
 of_texts_and_points name ids = with_rule (of_texts name ids) (points (codes "POINTS"))
@@ -102,14 +106,14 @@ bare = with_rule (with_rule (with_rule (with_rule (with_rule (with_rule (with_ru
 
 -- the subcommand `verdict`, which checks all programs of a font file
 abbrev pub verdict : App
-verdict = with_rule (with_rule (of_texts_and_points (codes "verdict") (codes "FONT" ∷ []))
-    symbolic) json
+verdict = with_rule (with_rule (with_rule (of_texts_and_points (codes "verdict")
+    (codes "FONT" ∷ [])) symbolic) json) quiet
 
 -- the subcommand `scan`, which checks all programs of each of several font files
 abbrev pub scan : App
 scan = with_rule (with_rule (with_rule (with_rule (with_rule (with_rule (with_rule (with_rule
-    (with_rule (new_app (codes "scan")) (needed_list (codes "FONT"))) (points (codes "POINTS")))
-    symbolic) fail_on) expect) json) causes) needs) files_from
+    (with_rule (with_rule (new_app (codes "scan")) (needed_list (codes "FONT")))
+    (points (codes "POINTS"))) symbolic) fail_on) expect) json) causes) needs) files_from) quiet
 
 -- the subcommand `explain`, which tells how one program is checked, or why programs are refused
 abbrev pub explain : App

@@ -1,11 +1,11 @@
 -- What the words of a command line ask for, by what clap says that a simple command's words mean.
-use Rattle.std.specs.Prelude.{◌≡◌, ◌⊎◌, ◌&&◌, not, ℕ, Bool, true, false, if◌then◌else◌, codes, List, [], ◌∷◌, find as first_where, map, Option, Some, None, IfSome, IsSomeAnd, is_some, unwrap_or, option_map, option_and_then, pos, string_bytes, Result, Ok, Err}
+use Rattle.std.specs.Prelude.{◌≡◌, ◌&&◌, not, ℕ, Bool, true, false, if◌then◌else◌, codes, List, [], ◌∷◌, find as first_where, map, Option, Some, None, IsSomeAnd, is_some, unwrap_or, option_map, option_and_then, string_bytes}
 use Rattle.std.specs.Option.{option_map_or}
 use denote.Ref.{Bor}
 use Rattle.std.specs.Str.{bytes_eq}
 use Rattle.std.specs.Str.Parse.{digits_value, without_leading_plus}
-use Rattle.clap.specs.Faults.{fault_of}
-use Rattle.clap.specs.Words.{IsAmong, IsSignedIn, IsUnsignedIn, Kinds, Row, Text, all_of, first_of, found_of, kind_of, one_of, rows_of, subcommand_of, takes, without_minus}
+use Rattle.clap.specs.ValueTests.{is_unsigned_in}
+use Rattle.clap.specs.Words.{Row, Text, all_of, first_of, found_of, one_of, rows_of, subcommand_of, takes}
 use Rattle.clap.specs.declared.parser.matches.ArgMatches.{ArgMatches}
 use Rattle.hintcheck_words.specs.CommandLine.{hintcheck}
 use Rattle.hintcheck_words.specs.declared.words.Detail.{Detail}
@@ -36,7 +36,7 @@ rows_in values = rows_of (found_of values)
 -- a subcommand and its values
 pub data Request : Type 0 where
   bare : Text → ℕ → ℕ → ℕ → Option Text → Profile → Request
-  verdict : Text → Profile → Request
+  verdict : Text → Profile → Bool → Request
   scan : List Text → ScanOptions → Option Text → Request
   explain : Text → Option Text → Option Text → ExplainOptions → Request
   find : Text → Text → Option ℕ → Request
@@ -48,9 +48,14 @@ pub data Request : Type 0 where
 abbrev pub text_in : List Row → Text → Text
 text_in rows id = unwrap_or (first_of id rows) []
 
--- the number that the text of an argument spells
+-- the number up to this one that a text spells, if it spells one
+unfoldable pub spelled : ℕ → Text → Option ℕ
+spelled most text = if is_unsigned_in 0 most text
+    then Some (digits_value 10 (without_leading_plus text)) else None
+
+-- the number of 16 bits that the text of an argument spells, 0 where it spells none
 abbrev pub number_in : List Row → Text → ℕ
-number_in rows id = digits_value 10 (without_leading_plus (unwrap_or (one_of id rows) []))
+number_in rows id = unwrap_or (option_and_then (spelled 65535) (one_of id rows)) 0
 
 -- the text that an argument got, if it got one
 abbrev pub optional_in : List Row → Text → Option Text
@@ -60,34 +65,13 @@ optional_in rows id = first_of id rows
 abbrev pub texts_in : List Row → Text → List Text
 texts_in rows id = unwrap_or (all_of id rows) []
 
--- the number that the text of an argument spells, if it got one
+-- the number of 64 bits that the text of an argument spells, if it spells one
 abbrev pub optional_number_in : List Row → Text → Option ℕ
-optional_number_in rows id =
-    option_map (λ t. digits_value 10 (without_leading_plus t)) (one_of id rows)
+optional_number_in rows id = option_and_then (spelled 18446744073709551615) (one_of id rows)
 
 -- whether a flag is given, by the text `true` that it gets then
 abbrev pub flag_in : List Row → Text → Bool
 flag_in rows id = option_map_or (λ t. bytes_eq t (codes "true")) (one_of id rows) false
-
--- an argument got the text of a number up to this one, without the minus that may be before a zero
-pub record HasNumber (most : ℕ) (rows : List Row) (id : Text) : Type 0 where
-  pub text : Text
-  pub found : one_of id rows ≡ Some (without_minus text)
-  pub number : IsSignedIn (pos 0) (pos most) text
-
--- an argument got the text of a number of 64 bits
-pub record HasLongNumber (rows : List Row) (id : Text) : Type 0 where
-  pub text : Text
-  pub found : one_of id rows ≡ Some text
-  pub number : IsUnsignedIn 0 18446744073709551615 text
-
--- an argument got no text, or that of a number of 64 bits
-abbrev pub HasLongNumberIfAny : List Row → Text → Type 0
-HasLongNumberIfAny rows id = (one_of id rows ≡ None) ⊎ HasLongNumber rows id
-
--- a flag got no text, or one that says whether it is given
-abbrev pub HasFlag : List Row → Text → Type 0
-HasFlag rows id = IfSome (one_of id rows) (λ t. (t ≡ codes "true") ⊎ (t ≡ codes "false"))
 
 -- how many points may be made at most, if that is limited
 abbrev pub points_in : List Row → Option ℕ
@@ -98,11 +82,6 @@ abbrev pub profile_in : List Row → Text → Profile
 profile_in rows limit = if flag_in rows (codes "SYMBOLIC")
     then profile.Symbolic (optional_number_in rows limit)
     else profile.Strict (optional_number_in rows limit)
-
--- how many points a profile may make, if that is limited: only the strict one makes any
-abbrev pub points_of : Profile → Option ℕ
-points_of (profile.Strict points) = points
-points_of (profile.Symbolic steps) = None
 
 -- the profile that is asked for, in other subcommands than `bare`, which has its limit under another id
 abbrev pub profile_asked : List Row → Profile
@@ -127,14 +106,14 @@ font_words_in rows = if flag_in rows (codes "LISTS") then font_words.Lists else 
 abbrev pub detail_in : List Row → Detail
 detail_in rows = if flag_in rows (codes "NUMBERS") then detail.Numbers else detail.Names
 
--- for which refused programs a scan fails, by the word that names their class
-abbrev pub fail_on_named : Text → FailOn
-fail_on_named word =
-    if bytes_eq word (codes "possible") then fail_on.Possible else fail_on.Unknown
+-- for which refused programs a scan fails, by the word that names their class, if it names one
+abbrev pub fail_on_named : Text → Option FailOn
+fail_on_named word = if bytes_eq word (codes "possible") then Some fail_on.Possible else None
 
 -- for which refused programs a scan is to fail
-abbrev pub fail_on_in : List Row → FailOn
-fail_on_in rows = option_map_or fail_on_named (optional_in rows (codes "CLASS")) fail_on.Refused
+abbrev pub fail_on_in : List Row → Option FailOn
+fail_on_in rows =
+    option_map_or fail_on_named (optional_in rows (codes "CLASS")) (Some fail_on.Refused)
 
 -- what `bare` asks for, by what its arguments got
 unfoldable pub bare_request : List Row → Request
@@ -147,9 +126,10 @@ bare_request rows =
 abbrev pub json_request : List Row → Request
 json_request rows = scan (text_in rows (codes "FONT") ∷ []) (record {
   profile = profile_asked rows;
-  fail_on = fail_on.Refused;
+  fail_on = Some fail_on.Refused;
   format = format.Json;
   words = font_words.Fonts;
+  is_quiet = false;
 }) None
 
 -- what `explain` asks for, by what its arguments got: in an object a font without a program of it is
@@ -168,6 +148,7 @@ explain_request rows =
 unfoldable pub verdict_request : List Row → Request
 verdict_request rows = if flag_in rows (codes "JSON") then json_request rows
     else verdict (text_in rows (codes "FONT")) (profile_asked rows)
+    (flag_in rows (codes "QUIET"))
 
 -- what `scan` asks for, by what its arguments got
 unfoldable pub scan_request : List Row → Request
@@ -176,6 +157,7 @@ scan_request rows = scan (texts_in rows (codes "FONT")) (record {
   fail_on = fail_on_in rows;
   format = scan_format_in rows;
   words = font_words_in rows;
+  is_quiet = flag_in rows (codes "QUIET");
 }) (optional_in rows (codes "FILE"))
 
 -- what `find` asks for, by what its arguments got
@@ -221,63 +203,15 @@ meaning words = option_and_then request_of (met words)
 unfoldable pub is_taken : List Text → Bool
 is_taken words = takes hintcheck words
 
--- the kinds of faults of which clap may report one for the words; none where it finds no fault
-unfoldable pub faults_in : List Text → Kinds
-faults_in words = fault_of hintcheck words
-
--- the limit of the points is a number of 64 bits, where it is given
-abbrev pub HasPoints : List Row → Type 0
-HasPoints rows = HasLongNumberIfAny rows (codes "POINTS")
-
--- the numbers of `bare` are there, and its options can be read
-pub record IsReadableBare (rows : List Row) : Type 0 where
-  pub cvt : HasNumber 65535 rows (codes "CVT")
-  pub points : HasNumber 65535 rows (codes "POINTS")
-  pub contours : HasNumber 65535 rows (codes "CONTOURS")
-  pub limit : HasLongNumberIfAny rows (codes "LIMIT")
-  pub symbolic : HasFlag rows (codes "SYMBOLIC")
-
--- the options of `verdict` can be read
-pub record IsReadableVerdict (rows : List Row) : Type 0 where
-  pub points : HasPoints rows
-  pub symbolic : HasFlag rows (codes "SYMBOLIC")
-  pub json : HasFlag rows (codes "JSON")
-
--- the options of `scan` can be read
-pub record IsReadableScan (rows : List Row) : Type 0 where
-  pub points : HasPoints rows
-  pub symbolic : HasFlag rows (codes "SYMBOLIC")
-  pub json : HasFlag rows (codes "JSON")
-  pub causes : HasFlag rows (codes "CAUSES")
-  pub needs : HasFlag rows (codes "NEEDS")
-  pub lists : HasFlag rows (codes "LISTS")
-
--- the options of `explain` can be read
-pub record IsReadableExplain (rows : List Row) : Type 0 where
-  pub points : HasPoints rows
-  pub symbolic : HasFlag rows (codes "SYMBOLIC")
-  pub json : HasFlag rows (codes "JSON")
-
--- a subcommand that asks for something, whose numbers and options can be read
-pub record IsReadable (found : Text × List Row) : Type 0 where
-  pub known : is_some (request_of found) ≡ true
-  pub of_bare : found.0 ≡ codes "bare" → IsReadableBare found.1
-  pub of_verdict : found.0 ≡ codes "verdict" → IsReadableVerdict found.1
-  pub of_scan : found.0 ≡ codes "scan" → IsReadableScan found.1
-  pub of_explain : found.0 ≡ codes "explain" → IsReadableExplain found.1
-  pub of_find : found.0 ≡ codes "find" → HasPoints found.1
-  pub of_check : found.0 ≡ codes "check" → HasPoints found.1
-  pub of_list : found.0 ≡ codes "list" → HasFlag found.1 (codes "NUMBERS")
-
--- there is a subcommand, it asks for something, and its numbers and options can be read
+-- there is a subcommand, and it asks for something
 abbrev pub MeetsSubcommand : Option (Text × List Row) → Type 0
-MeetsSubcommand found = IsSomeAnd found IsReadable
+MeetsSubcommand found = IsSomeAnd found (λ p. is_some (request_of p) ≡ true)
 
 -- what a task asks for, wherever its texts lie in memory
 unfoldable pub asked : Task → Request
 asked (task.Bare maxp cvt points contours program profile) =
     bare (string_bytes maxp) cvt points contours (option_map (λ s. string_bytes s) program) profile
-asked (task.Verdict font profile) = verdict (string_bytes font) profile
+asked (task.Verdict font profile is_quiet) = verdict (string_bytes font) profile is_quiet
 asked (task.Scan fonts options expected) =
     scan (map (λ s. string_bytes s) fonts.items) options
     (option_map (λ s. string_bytes s) expected)
@@ -299,10 +233,3 @@ IsOutOfMemory (fault.OutOfMemory error) = Unit {0}
 -- words that the command line takes are refused only where memory runs out
 abbrev pub IsMemoryIfTaken : List Text → TaskFault → Type 0
 IsMemoryIfTaken words e = is_taken words ≡ true → IsOutOfMemory e
-
--- Of the kinds of faults that clap may report: a task comes only where there are none, a fault of
--- the words is of one of them, and out of memory is unspecified.
-abbrev pub TellsFault : {T : Type 0} → Kinds → Result T TaskFault → Type 0
-TellsFault kinds (Ok task) = kinds ≡ []
-TellsFault kinds (Err (fault.Words error)) = IsAmong (kind_of error) kinds
-TellsFault kinds (Err (fault.OutOfMemory error)) = Unit {0}

@@ -1,9 +1,9 @@
 //! What the words of a command line ask for.
 
-ghost use Rattle.std.specs.Prelude.{◌≡◌, ◌∷◌, [], IfErr, IfOk, Some, codes, is_some, false, map, option_map, string_bytes};
+ghost use Rattle.std.specs.Prelude.{◌≡◌, ◌∷◌, [], IfErr, IfOk, Some, codes, is_some, false, map, option_map, string_bytes, true};
 ghost use Rattle.clap.specs.Words.{app_of, new_app, rule_of, subcommand_rows_of};
-ghost use Rattle.hintcheck_words.specs.CommandLine.{bare, causes as causes_rule, expect as expect_rule, explain, fail_on as fail_on_rule, files_from as files_from_rule, flag, hintcheck, json as json_rule, list, needed as needed_rule, needs as needs_rule, needed_number as number_rule, numbers as numbers_rule, of_texts, of_texts_and_points, optional as optional_rule, points as points_rule, scan, symbolic as symbolic_rule, verdict};
-ghost use Rattle.hintcheck_words.specs.Requests.{HasFlag, HasLongNumberIfAny, HasNumber, HasPoints, IsMemoryIfTaken, IsReadable, IsReadableBare, IsReadableExplain, IsReadableScan, IsReadableVerdict, MeetsSubcommand, TellsFault, asked, bare_request, check_request, detail_in, explain_request, fail_on_in, fail_on_named, faults_in, find_request, flag_in, font_words_in, format_in, json_request, list_request, meaning, met, number_in, optional_in, optional_number_in, points_of, profile_in, request_of, rows_in, scan_format_in, scan_request, text_in, texts_in, texts_of, verdict_request};
+ghost use Rattle.hintcheck_words.specs.CommandLine.{bare, causes as causes_rule, expect as expect_rule, explain, fail_on as fail_on_rule, files_from as files_from_rule, flag, hintcheck, json as json_rule, list, needed as needed_rule, needs as needs_rule, needed_number as number_rule, numbers as numbers_rule, of_texts, of_texts_and_points, optional as optional_rule, points as points_rule, quiet as quiet_rule, scan, symbolic as symbolic_rule, verdict};
+ghost use Rattle.hintcheck_words.specs.Requests.{IsMemoryIfTaken, MeetsSubcommand, asked, bare_request, check_request, detail_in, explain_request, fail_on_in, fail_on_named, find_request, flag_in, font_words_in, format_in, json_request, list_request, meaning, met, number_in, optional_in, optional_number_in, profile_in, request_of, rows_in, scan_format_in, scan_request, text_in, texts_in, texts_of, verdict_request};
 
 use clap::error::ErrorKind;
 use clap::{Arg, ArgAction, ArgMatches, Command, value_parser};
@@ -27,9 +27,7 @@ pub enum Profile {
 
 impl Profile {
     /// Returns how many points may be made, where that is limited: only the strict profile makes any.
-    pub fn points(self) -> Option<u64>
-        ensures { result ≡ points_of self }
-    {
+    pub fn points(self) -> Option<u64> {
         match self {
             Profile::Strict { points } => points,
             Profile::Symbolic { .. } => None,
@@ -44,8 +42,6 @@ pub enum FailOn {
     Refused,
     /// For those whose reason is a possible fault.
     Possible,
-    /// The word names no class of reasons, so that there is no scan.
-    Unknown,
 }
 
 /// The form in which answers are printed.
@@ -86,12 +82,15 @@ pub enum FontWords {
 pub struct ScanOptions {
     /// By which profile each font is checked.
     pub profile: Profile,
-    /// For which refused programs the scan fails.
-    pub fail_on: FailOn,
+    /// For which refused programs the scan fails; None where the word for them names no class of
+    /// reasons, so that there is no scan.
+    pub fail_on: Option<FailOn>,
     /// The form in which the answers are printed.
     pub format: Format,
     /// What the words of its fonts are.
     pub words: FontWords,
+    /// Whether nothing is printed of a font whose programs are all accepted.
+    pub is_quiet: bool,
 }
 
 /// How a program of a font file is explained.
@@ -127,6 +126,8 @@ pub enum Task {
         font: String,
         /// By which profile they are checked.
         profile: Profile,
+        /// Whether the last line of the verdict alone is printed.
+        is_quiet: bool,
     },
     /// Checks all programs of each of several font files.
     Scan {
@@ -430,7 +431,11 @@ fn verdict_command<'a>(alloc: Global) -> Result<Command<'a>, AllocError>
 {
     limited_command(alloc, VERDICT, &[FONT])?
         .arg(symbolic_option(alloc))?
-        .arg(json_option(alloc, "Prints an object of JSON, as `scan --json` does"))
+        .arg(json_option(alloc, "Prints an object of JSON, as `scan --json` does"))?
+        .arg(quiet_option(
+            alloc,
+            "Prints the last line alone; with `--json` it changes nothing",
+        ))
 }
 
 /// Makes the option `--fail-on`.
@@ -482,6 +487,14 @@ fn needs_option<'a>(alloc: Global) -> Arg<'a>
     )
 }
 
+/// Makes the option `--quiet`, with this text of help.
+fn quiet_option<'a>(alloc: Global, help: &'a str) -> Arg<'a>
+    ensures rule { rule_of result ≡ quiet_rule }
+    ensures local { result.global ≡ false }
+{
+    flag_option(alloc, "QUIET", "quiet", help)
+}
+
 /// Makes the option `--files-from`.
 fn lists_option<'a>(alloc: Global) -> Arg<'a>
     ensures rule { rule_of result ≡ files_from_rule }
@@ -516,7 +529,11 @@ fn scan_command<'a>(alloc: Global) -> Result<Command<'a>, AllocError>
         .arg(json_option(alloc, "Prints an object of JSON for each font, in a line"))?
         .arg(causes_option(alloc))?
         .arg(needs_option(alloc))?
-        .arg(lists_option(alloc))
+        .arg(lists_option(alloc))?
+        .arg(quiet_option(
+            alloc,
+            "Prints nothing of a font whose programs are all accepted",
+        ))
 }
 
 /// Makes an argument that may be left out.
@@ -648,17 +665,15 @@ fn all_texts(alloc: Global, values: &ArgMatches<'_>, id: &str) -> Result<Vec<Str
     Ok(texts)
 }
 
-/// Returns the number that the words give the argument.
+/// Returns the number that the words give the argument, 0 where they give none.
 fn number(values: &ArgMatches<'_>, id: &str) -> u16
-    requires { HasNumber 65535 (rows_in values.now) id.now }
     ensures { result ≡ number_in (rows_in values.now) id.now }
 {
-    values.get_one::<u16>(id).unwrap()
+    values.get_one::<u16>(id).unwrap_or(0)
 }
 
 /// Returns the limit of the points that the words give the option, if they give one.
 fn points(values: &ArgMatches<'_>, id: &str) -> Option<u64>
-    requires { HasLongNumberIfAny (rows_in values.now) id.now }
     ensures { result ≡ optional_number_in (rows_in values.now) id.now }
 {
     values.get_one::<u64>(id)
@@ -666,16 +681,13 @@ fn points(values: &ArgMatches<'_>, id: &str) -> Option<u64>
 
 /// Whether the words give the option, which takes no value.
 fn is_given(values: &ArgMatches<'_>, id: &str) -> bool
-    requires { HasFlag (rows_in values.now) id.now }
     ensures { result ≡ flag_in (rows_in values.now) id.now }
 {
-    values.get_flag(id)
+    values.get_one::<bool>(id).unwrap_or(false)
 }
 
 /// Returns the profile that the words ask for, with the limit that they give the option of this id.
 fn asked_profile(values: &ArgMatches<'_>, limit: &str) -> Profile
-    requires symbolic { HasFlag (rows_in values.now) (codes "SYMBOLIC") }
-    requires limit { HasLongNumberIfAny (rows_in values.now) limit.now }
     ensures { result ≡ profile_in (rows_in values.now) limit.now }
 {
     let limit = points(values, limit);
@@ -688,7 +700,6 @@ fn asked_profile(values: &ArgMatches<'_>, limit: &str) -> Profile
 
 /// Returns the form in which the words ask for an explanation.
 fn asked_format(values: &ArgMatches<'_>) -> Format
-    requires { HasFlag (rows_in values.now) (codes "JSON") }
     ensures { result ≡ format_in (rows_in values.now) }
 {
     if is_given(values, "JSON") {
@@ -700,9 +711,6 @@ fn asked_format(values: &ArgMatches<'_>) -> Format
 
 /// Returns the form in which the words ask for the answers of a scan.
 fn asked_scan_format(values: &ArgMatches<'_>) -> Format
-    requires json { HasFlag (rows_in values.now) (codes "JSON") }
-    requires causes { HasFlag (rows_in values.now) (codes "CAUSES") }
-    requires needs { HasFlag (rows_in values.now) (codes "NEEDS") }
     ensures { result ≡ scan_format_in (rows_in values.now) }
 {
     if is_given(values, "JSON") {
@@ -718,7 +726,6 @@ fn asked_scan_format(values: &ArgMatches<'_>) -> Format
 
 /// Returns what the words of a scan's fonts are.
 fn asked_words(values: &ArgMatches<'_>) -> FontWords
-    requires { HasFlag (rows_in values.now) (codes "LISTS") }
     ensures { result ≡ font_words_in (rows_in values.now) }
 {
     if is_given(values, "LISTS") {
@@ -730,7 +737,6 @@ fn asked_words(values: &ArgMatches<'_>) -> FontWords
 
 /// Returns what the words ask to be listed of an instruction.
 fn asked_detail(values: &ArgMatches<'_>) -> Detail
-    requires { HasFlag (rows_in values.now) (codes "NUMBERS") }
     ensures { result ≡ detail_in (rows_in values.now) }
 {
     if is_given(values, "NUMBERS") {
@@ -740,24 +746,21 @@ fn asked_detail(values: &ArgMatches<'_>) -> Detail
     }
 }
 
-/// Returns for which refused programs a scan fails, by the word that names their class.
-fn class_named(word: &str) -> FailOn
+/// Returns for which refused programs a scan fails, by the word that names their class of reasons,
+/// if it names one.
+fn class_named(word: &str) -> Option<FailOn>
     ensures { result ≡ fail_on_named word.now }
 {
-    if word == "possible" {
-        FailOn::Possible
-    } else {
-        FailOn::Unknown
-    }
+    (word == "possible").then_some(FailOn::Possible)
 }
 
 /// Returns for which refused programs the scan that the words ask for is to fail.
-fn asked_class(values: &ArgMatches<'_>) -> FailOn
+fn asked_class(values: &ArgMatches<'_>) -> Option<FailOn>
     ensures { result ≡ fail_on_in (rows_in values.now) }
 {
     match values.get_str("CLASS") {
         Some(word) => class_named(word),
-        None => FailOn::Refused,
+        None => Some(FailOn::Refused),
     }
 }
 
@@ -766,7 +769,6 @@ fn asked_class(values: &ArgMatches<'_>) -> FailOn
 /// # Errors
 /// If memory runs out.
 fn bare_task(alloc: Global, values: &ArgMatches<'_>) -> Result<Task, AllocError>
-    requires { IsReadableBare (rows_in values.now) }
     ensures { IfOk result (λ t. asked t ≡ bare_request (rows_in values.now)) }
 {
     Ok(Task::Bare {
@@ -796,7 +798,6 @@ fn one_text(alloc: Global, text: String) -> Result<Vec<String>, AllocError>
 /// # Errors
 /// If memory runs out.
 fn json_task(alloc: Global, values: &ArgMatches<'_>) -> Result<Task, AllocError>
-    requires { IsReadableVerdict (rows_in values.now) }
     ensures { IfOk result (λ t. asked t ≡ json_request (rows_in values.now)) }
 {
     let font = text(alloc, values, "FONT")?;
@@ -804,9 +805,10 @@ fn json_task(alloc: Global, values: &ArgMatches<'_>) -> Result<Task, AllocError>
         fonts: one_text(alloc, font)?,
         options: ScanOptions {
             profile: asked_profile(values, "POINTS"),
-            fail_on: FailOn::Refused,
+            fail_on: Some(FailOn::Refused),
             format: Format::Json,
             words: FontWords::Fonts,
+            is_quiet: false,
         },
         expected: None,
     })
@@ -825,7 +827,6 @@ fn names_program(values: &ArgMatches<'_>) -> bool
 /// # Errors
 /// If memory runs out.
 fn explain_task(alloc: Global, values: &ArgMatches<'_>) -> Result<Task, AllocError>
-    requires { IsReadableExplain (rows_in values.now) }
     ensures { IfOk result (λ t. asked t ≡ explain_request (rows_in values.now)) }
 {
     if is_given(values, "JSON") && !names_program(values) {
@@ -847,7 +848,6 @@ fn explain_task(alloc: Global, values: &ArgMatches<'_>) -> Result<Task, AllocErr
 /// # Errors
 /// If memory runs out.
 fn verdict_task(alloc: Global, values: &ArgMatches<'_>) -> Result<Task, AllocError>
-    requires { IsReadableVerdict (rows_in values.now) }
     ensures { IfOk result (λ t. asked t ≡ verdict_request (rows_in values.now)) }
 {
     if is_given(values, "JSON") {
@@ -856,6 +856,7 @@ fn verdict_task(alloc: Global, values: &ArgMatches<'_>) -> Result<Task, AllocErr
     Ok(Task::Verdict {
         font: text(alloc, values, "FONT")?,
         profile: asked_profile(values, "POINTS"),
+        is_quiet: is_given(values, "QUIET"),
     })
 }
 
@@ -864,7 +865,6 @@ fn verdict_task(alloc: Global, values: &ArgMatches<'_>) -> Result<Task, AllocErr
 /// # Errors
 /// If memory runs out.
 fn scan_task(alloc: Global, values: &ArgMatches<'_>) -> Result<Task, AllocError>
-    requires { IsReadableScan (rows_in values.now) }
     ensures { IfOk result (λ t. asked t ≡ scan_request (rows_in values.now)) }
 {
     Ok(Task::Scan {
@@ -874,6 +874,7 @@ fn scan_task(alloc: Global, values: &ArgMatches<'_>) -> Result<Task, AllocError>
             fail_on: asked_class(values),
             format: asked_scan_format(values),
             words: asked_words(values),
+            is_quiet: is_given(values, "QUIET"),
         },
         expected: optional_text(alloc, values, "FILE")?,
     })
@@ -884,7 +885,6 @@ fn scan_task(alloc: Global, values: &ArgMatches<'_>) -> Result<Task, AllocError>
 /// # Errors
 /// If memory runs out.
 fn find_task(alloc: Global, values: &ArgMatches<'_>) -> Result<Task, AllocError>
-    requires { HasPoints (rows_in values.now) }
     ensures { IfOk result (λ t. asked t ≡ find_request (rows_in values.now)) }
 {
     Ok(Task::Find {
@@ -899,7 +899,6 @@ fn find_task(alloc: Global, values: &ArgMatches<'_>) -> Result<Task, AllocError>
 /// # Errors
 /// If memory runs out.
 fn check_task(alloc: Global, values: &ArgMatches<'_>) -> Result<Task, AllocError>
-    requires { HasPoints (rows_in values.now) }
     ensures { IfOk result (λ t. asked t ≡ check_request (rows_in values.now)) }
 {
     Ok(Task::Check {
@@ -914,7 +913,6 @@ fn check_task(alloc: Global, values: &ArgMatches<'_>) -> Result<Task, AllocError
 /// # Errors
 /// If memory runs out.
 fn list_task(alloc: Global, values: &ArgMatches<'_>) -> Result<Task, AllocError>
-    requires { HasFlag (rows_in values.now) (codes "NUMBERS") }
     ensures { IfOk result (λ t. asked t ≡ list_request (rows_in values.now)) }
 {
     Ok(Task::List {
@@ -929,7 +927,7 @@ fn list_task(alloc: Global, values: &ArgMatches<'_>) -> Result<Task, AllocError>
 /// # Errors
 /// If memory runs out.
 fn task_of(alloc: Global, name: &str, values: &ArgMatches<'_>) -> Result<Task, AllocError>
-    requires { IsReadable (name.now, rows_in values.now) }
+    requires { is_some (request_of (name.now, rows_in values.now)) ≡ true }
     ensures { IfOk result (λ t. request_of (name.now, rows_in values.now) ≡ Some (asked t)) }
 {
     match name {
@@ -957,7 +955,6 @@ fn matches_of<'a>(alloc: Global, words: &'a [&'a str]) -> Result<ArgMatches<'a>,
     ensures met { IfOk result (λ m. subcommand_rows_of m ≡ met (texts_of words.entry.now)) }
     ensures meets { IfOk result (λ m. MeetsSubcommand (subcommand_rows_of m)) }
     ensures refused { IfErr result (IsMemoryIfTaken (texts_of words.entry.now)) }
-    ensures faults { TellsFault (faults_in (texts_of words.entry.now)) result }
 {
     let command = command_line(alloc)?;
     match command.try_get_matches_from(words) {
@@ -979,9 +976,6 @@ pub fn read_words<'a>(alloc: Global, words: &'a [&'a str]) -> Result<Task, TaskF
     ensures asked { IfOk result (λ t. meaning (texts_of words.entry.now) ≡ Some (asked t)) }
     // Words that the command line takes are refused only when memory runs out.
     ensures refused { IfErr result (IsMemoryIfTaken (texts_of words.entry.now)) }
-    // A task comes only where clap finds no fault in the words; otherwise the fault is one that
-    // clap finds, or out of memory.
-    ensures faults { TellsFault (faults_in (texts_of words.entry.now)) result }
 {
     let matches = matches_of(alloc, words)?;
     match matches.subcommand() {

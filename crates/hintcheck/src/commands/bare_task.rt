@@ -1,22 +1,20 @@
 //! The subcommand `bare`: the verdict on one glyph program, whose bytes are words of hexadecimal
 //! digits.
 
-ghost use Rattle.std.specs.Prelude.{◌≡◌, ◌≢◌, ◌<◌, IfErr, IfOk, None, Ok, OnOk, option_map, string_bytes, unwrap_or, []};
-ghost use Rattle.hintcheck_words.specs.Requests.{points_of};
-ghost use Rattle.hintcheck.specs.Commands.{IsNoWriteFault};
-ghost use Rattle.hintcheck.specs.CommandFaults.{IsFaultOfGlyph, IsWithin, SpellNoFault};
-ghost use Rattle.hintcheck.specs.MeansSafe.{SpellRefusedBy, SpellSafeBy, SpellVerdictBy};
+ghost use Rattle.std.specs.Prelude.{◌≡◌, IfErr, IfOk, Some, option_map, string_bytes, unwrap_or, []};
+ghost use Rattle.hintcheck_words.specs.Requests.{bare};
+ghost use Rattle.hintcheck.specs.Representation.Answers.{IsNoVerdictFor, IsVerdictFor};
 
 use super::faults::CommandFault;
+use crate::font_file::budget_of;
 use hintcheck_fonts::symbolic_bare::bare_symbolic_within;
 use hintcheck_fonts::symbolic_verdict::USUAL_STEPS;
-use hintcheck_programs::bare_program::{bare, bare_within};
+use hintcheck_programs::bare_program::bare_within;
 use hintcheck_programs::report::Verdict;
 use hintcheck_report::AnswerFault;
 use hintcheck_words::{Profile, word_bytes};
 use std::alloc::Global;
 use tt_abs::Exhausted;
-use tt_family::Budget;
 
 /// What `bare` is given: a `maxp` table and a glyph program in words of hexadecimal digits, and how
 /// many control values, points and contours there are.
@@ -29,24 +27,26 @@ pub(super) struct BareWords<'a> {
     pub program: &'a str,
 }
 
+/// Returns the word, empty where it is left out.
+pub(super) fn word_or_empty(word: &Option<String>) -> &str
+    ensures { result.now ≡ unwrap_or (option_map (λ s. string_bytes s) word.now) [] }
+{
+    match word {
+        Some(word) => word.as_str(),
+        None => "",
+    }
+}
+
 /// Returns the verdict of a profile on one glyph program against the limits of a `maxp` table.
 pub(super) fn bare_verdict(
     alloc: Global,
     words: BareWords<'_>,
     profile: Profile,
 ) -> Result<Verdict, CommandFault>
-    ensures safe { IfOk result (λ verdict. verdict.refused ≡ []
-        → SpellSafeBy profile words.entry.maxp.now words.entry.cvt words.entry.points
-        words.entry.contours words.entry.program.now) }
-    ensures refused { IfOk result (λ verdict. verdict.refused ≢ []
-        → SpellRefusedBy profile words.entry.maxp.now words.entry.cvt words.entry.points
-        words.entry.contours words.entry.program.now) }
-    ensures given { IfOk result (SpellVerdictBy profile words.entry.maxp.now words.entry.cvt
-        words.entry.points words.entry.contours words.entry.program.now) }
-    ensures fault { IfErr result IsNoWriteFault }
-    ensures faults { IfErr result (λ fault. IsFaultOfGlyph
-        words.entry.maxp.now words.entry.program.now fault × IsWithin (points_of profile) fault) }
-    ensures none { OnOk result (SpellNoFault words.entry.maxp.now words.entry.program.now) }
+    ensures given { IfOk result (IsVerdictFor (bare words.entry.maxp.now words.entry.cvt
+        words.entry.points words.entry.contours (Some words.entry.program.now) profile)) }
+    ensures faults { IfErr result (IsNoVerdictFor (bare words.entry.maxp.now words.entry.cvt
+        words.entry.points words.entry.contours (Some words.entry.program.now) profile)) }
 {
     let maxp = word_bytes(alloc, words.maxp).map_err(|fault| CommandFault::of_word(
         fault,
@@ -63,11 +63,8 @@ pub(super) fn bare_verdict(
         ..
     } = words;
     match profile {
-        Profile::Strict { points: None } => {
-            Ok(bare(alloc, &maxp, cvt, points, contours, &program)?)
-        }
-        Profile::Strict { points: Some(most) } => {
-            let mut budget = Budget::of(most);
+        Profile::Strict { points: most } => {
+            let mut budget = budget_of(most);
             match bare_within(alloc, &maxp, cvt, points, contours, &program, &mut budget) {
                 Ok(verdict) => Ok(verdict),
                 Err(AnswerFault::Exhausted(Exhausted::Budget)) => Err(CommandFault::Budget),
@@ -78,15 +75,5 @@ pub(super) fn bare_verdict(
             let steps = steps.unwrap_or(USUAL_STEPS);
             Ok(bare_symbolic_within(alloc, &maxp, cvt, points, contours, &program, steps)?)
         }
-    }
-}
-
-/// Returns the word, empty where it is left out.
-pub(super) fn word_or_empty(word: &Option<String>) -> &str
-    ensures { result.now ≡ unwrap_or (option_map (λ s. string_bytes s) word.now) [] }
-{
-    match word {
-        Some(word) => word.as_str(),
-        None => "",
     }
 }

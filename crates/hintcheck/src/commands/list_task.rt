@@ -1,10 +1,9 @@
 //! The subcommand `list`: the instructions of a program of a font file.
 
-ghost use Rattle.std.specs.Prelude.{◌≡◌, ◌+◌, ◌≤◌, ◌<◌, IfErr, IfOk, List, ℕ};
+ghost use Rattle.std.specs.Prelude.{IfOk};
+ghost use Rattle.hintcheck_words.specs.Requests.{list};
+ghost use Rattle.hintcheck.specs.Representation.Answers.{IsAnswered};
 ghost use Rattle.hintcheck.specs.Commands.{TellsFailure};
-ghost use Rattle.hintcheck.specs.CommandFaults.{IsFaultOfFileListing};
-ghost use Rattle.hintcheck.specs.Listing.{HoldUnlistedProgram};
-ghost use Rattle.hintcheck.specs.Printed.{PrintsListing};
 
 use super::faults::CommandFault;
 use super::files::file_bytes;
@@ -25,13 +24,9 @@ pub(super) fn list_of_file<R: Files + AllocGlobal, O: Sink>(
     detail: Detail,
     out: &mut O,
 ) -> Result<u8, CommandFault>
-    ensures status { IfOk result (λ status. status ≤ 1) }
-    ensures refused { IfOk result
-        (λ status. status ≡ 1 → (bytes : List ℕ) × HoldUnlistedProgram bytes word.now) }
-    ensures printed { IfOk result
-        (λ status. PrintsListing detail word.now status (O.contents out.old) (O.contents out.new)) }
+    ensures answer { IfOk result (λ status. IsAnswered (list name.now word.now detail) status
+        (O.contents out.old) (O.contents out.new)) }
     ensures failures { TellsFailure result (O.failures out.old) (O.failures out.new) }
-    ensures faults { IfErr result (IsFaultOfFileListing word.now) }
 {
     let bytes = file_bytes(rt, name)?;
     list_program(rt.alloc(), &bytes, word, detail, out)

@@ -1,7 +1,7 @@
 //! The names of font files that other files list, a line for each.
 
 ghost use Rattle.std.specs.Prelude.{IfErr};
-ghost use Rattle.hintcheck.specs.CommandFaults.{IsFaultOfReading};
+ghost use Rattle.hintcheck.specs.Commands.{IsNoWriteFault};
 
 use super::faults::CommandFault;
 use super::files::file_bytes;
@@ -70,15 +70,13 @@ pub(super) fn listed_names<R: Files + AllocGlobal>(
     rt: &R,
     lists: &[String],
 ) -> Result<Vec<String>, CommandFault>
-    ensures faults { IfErr result IsFaultOfReading }
+    ensures { IfErr result IsNoWriteFault }
 {
     let alloc = rt.alloc();
     let mut names = Vec::new(alloc);
     for list in lists {
         let bytes = file_bytes(rt, list_called(list))?;
-        let Ok(()) = add_names(alloc, &mut names, &bytes) else {
-            return Err(CommandFault::OutOfMemory);
-        };
+        add_names(alloc, &mut names, &bytes)?;
     }
     Ok(names)
 }

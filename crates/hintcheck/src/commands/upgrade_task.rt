@@ -1,10 +1,11 @@
 //! The subcommand `upgrade`: an old certificate file, written again in the newest form.
 
-ghost use Rattle.std.specs.Prelude.{◌≡◌, ◌≢◌, ◌⊎◌, IfErr, IfOk, IfSome, Err, Ok, OnOk};
+ghost use Rattle.std.specs.Prelude.{◌≢◌, IfErr, IfOk, IfSome, Ok, OnOk};
 ghost use Rattle.hintcheck_certificates.specs.CertificateTexts.{WritesText};
-ghost use Rattle.hintcheck.specs.Commands.{AtForm, IsNoWriteFault, TellsFailure};
-ghost use Rattle.hintcheck.specs.CommandFaults.{IsFaultOfPrinting, IsFaultOfUpgrade, IsFaultOfUpgrading};
-ghost use Rattle.hintcheck.specs.Printed.{PrintsUpgrade};
+ghost use Rattle.hintcheck.specs.Commands.{IsNoWriteFault, TellsFailure};
+ghost use Rattle.hintcheck.specs.CommandFaults.{IsFaultOfRewriting, IsFaultOfTask, IsFaultOfUpgrading};
+ghost use Rattle.hintcheck_words.specs.Requests.{upgrade as upgrade_of};
+ghost use Rattle.hintcheck.specs.Representation.Answers.{IsAnswered};
 ghost use Rattle.hintcheck_certificates.specs.Upgrades.{IsNumberOfPrograms, IsUpgradeOf, UpgradesTo};
 
 use super::ACCEPTED;
@@ -28,15 +29,11 @@ fn upgrade_file<F: Read + Drop, G: Write + Drop>(
         (λ r. IfSome (F.remaining old) (λ bytes. UpgradesTo bytes (Ok r.0))) }
     ensures written { IfOk result (λ r. IfSome (F.remaining old)
         (λ bytes. WritesText (G.contents new) (G.contents r.1) (IsUpgradeOf bytes))) }
-    ensures form { IfErr result (λ fault. AtForm fault
-        (λ place. IfSome (F.remaining old) (λ bytes. UpgradesTo bytes (Err place)))) }
     ensures number { IfOk result (λ r. IsNumberOfPrograms r.0) }
     ensures fault { IfErr result IsNoWriteFault }
-    ensures faults { IfErr result IsFaultOfUpgrade }
+    ensures faults { IfErr result IsFaultOfRewriting }
 {
-    let Ok(mut source) = Buffered::new(alloc, Counted::new(old)) else {
-        return Err(CommandFault::OutOfMemory);
-    };
+    let mut source = Buffered::new(alloc, Counted::new(old))?;
     let Ok(new) = BufWriter::with_capacity(alloc, ROOM, new) else {
         return Err(CommandFault::OutOfMemory);
     };
@@ -76,12 +73,10 @@ pub(super) fn tell_upgrade<R: Files + AllocGlobal, O: Sink>(
     new: &str,
     out: &mut O,
 ) -> Result<u8, CommandFault>
-    ensures status { IfOk result (λ status. status ≡ 0) }
-    ensures written { OnOk result (PrintsUpgrade (O.contents out.old) (O.contents out.new)) }
+    ensures answer { IfOk result (λ status. IsAnswered (upgrade_of old.now new.now) status
+        (O.contents out.old) (O.contents out.new)) }
     ensures failures { TellsFailure result (O.failures out.old) (O.failures out.new) }
-    ensures faults { IfErr result (λ fault. IsFaultOfUpgrading old.now new.now fault
-        ⊎ (old.now ≢ new.now × IsFaultOfPrinting fault)) }
-    ensures none { OnOk result (old.now ≢ new.now) }
+    ensures faults { IfErr result (IsFaultOfTask (upgrade_of old.now new.now)) }
 {
     let count = upgrade_named(rt, old, new)?;
     writeln!(out, "upgraded: {count} sections")?;

@@ -5,7 +5,7 @@ ghost use Rattle.std.specs.Io.KnownBytes.{Appends};
 ghost use Rattle.tt_stream.specs.Streams.{CountsPrintFailure};
 ghost use Rattle.hintcheck.specs.Commands.{TellsFailure};
 ghost use Rattle.hintcheck.specs.CommandFaults.{IsFaultOfPrinting};
-ghost use Rattle.hintcheck.specs.Texts.{end_line, profile_text, verdict_text};
+ghost use Rattle.hintcheck.specs.Texts.{end_line, profile_text, told_text, verdict_text};
 
 use super::faults::CommandFault;
 use super::{ACCEPTED, REFUSED};
@@ -62,21 +62,26 @@ pub(super) fn print_last_line<O: Sink>(
     }
 }
 
-/// Prints the verdict of a profile, and returns the exit status.
+/// Prints the verdict of a profile, or its last line alone, and returns the exit status.
 pub(super) fn tell_verdict<O: Sink>(
     out: &mut O,
     verdict: Verdict,
     profile: Profile,
+    is_last: bool,
 ) -> Result<u8, CommandFault>
     ensures status { IfOk result (λ status. status ≤ 1) }
     ensures accepted { IfOk result (λ status. status ≡ 0 → verdict.refused ≡ []) }
     ensures refused { IfOk result (λ status. status ≡ 1 → verdict.refused ≢ []) }
     ensures written { OnOk result
-        (Appends (O.contents out.old) (O.contents out.new) (verdict_text profile verdict)) }
+        (Appends (O.contents out.old) (O.contents out.new) (told_text is_last profile verdict)) }
     ensures failures { TellsFailure result (O.failures out.old) (O.failures out.new) }
     ensures faults { IfErr result IsFaultOfPrinting }
 {
-    print_verdict(out, &verdict, profile)?;
+    if is_last {
+        print_last_line(out, &verdict, profile)?;
+    } else {
+        print_verdict(out, &verdict, profile)?;
+    }
     Ok(if verdict.accepted() {
         ACCEPTED
     } else {

@@ -1,15 +1,20 @@
-use Rattle.std.proofs.Common.{inl, inr}
-use Rattle.hintcheck.specs.CommandFaults.{reported, told}
+use Rattle.std.proofs.Common.{inl, map}
+use Rattle.hintcheck_words.specs.Requests.{asked}
+use Rattle.hintcheck.specs.CommandFaults.{of_request, reported, told}
+use Rattle.hintcheck.proofs.AnswerLemmas.{no_task}
 use Rattle.hintcheck.proofs.commands.command.Goals as goal
 
+pub returns-in-Ok-do_task-clause-told : goal.returns-in-Ok-do_task-clause-told
+returns-in-Ok-do_task-clause-told g c = λ two. told (asked c.in-Ok.task) c.in-Ok.ensures.asked (c.in-Ok-do_task.ensures.answer.told two)
+
 pub returns-in-Ok-clause-told : goal.returns-in-Ok-clause-told
-returns-in-Ok-clause-told g c = λ two. let fault = c.in-Ok.ensures.told two in told fault.request fault.meant fault.told
+returns-in-Ok-clause-told g c = λ two. let fault = c.in-Err-do_task in reported (fault.fault, of_request fault.fault (asked c.in-Ok.task) c.in-Ok.ensures.asked fault.ensures.faults, c.tell.ensures.status)
 
 pub returns-in-Ok-clause-scanned : goal.returns-in-Ok-clause-scanned
-returns-in-Ok-clause-scanned g c = λ two. inr (c.in-Ok.ensures.told two)
+returns-in-Ok-clause-scanned g c = λ two. let fault = c.in-Err-do_task in inl (fault.fault, of_request fault.fault (asked c.in-Ok.task) c.in-Ok.ensures.asked fault.ensures.faults, c.tell.ensures.status)
 
-pub returns-in-Err-clause-told : goal.returns-in-Err-clause-told
-returns-in-Err-clause-told g c = λ two. reported (c.in-Err.fault, c.in-Err.ensures.faults, c.tell.ensures.status)
+pub returns-clause-told : goal.returns-clause-told
+returns-clause-told g c = λ two. reported (no_task (map (λ w. w.now) c.args.words.now) c.in-Err.fault c.tell_words.result c.in-Err.ensures.refused (c.tell_words.ensures.told two))
 
-pub returns-in-Err-clause-scanned : goal.returns-in-Err-clause-scanned
-returns-in-Err-clause-scanned g c = λ two. inl (c.in-Err.fault, c.in-Err.ensures.faults, c.tell.ensures.status)
+pub returns-clause-scanned : goal.returns-clause-scanned
+returns-clause-scanned g c = λ two. inl (no_task (map (λ w. w.now) c.args.words.now) c.in-Err.fault c.tell_words.result c.in-Err.ensures.refused (c.tell_words.ensures.told two))

@@ -1,40 +1,47 @@
-use Rattle.std.proofs.Common.{inl, inr}
-use Rattle.std.proofs.lemmas.Result.{IfErr-weaker, IfOk-weaker, on_ok_weaker}
+use Rattle.std.proofs.Common.{inl, inr, option_map}
+use Rattle.std.specs.Prelude.{string_bytes}
+use Rattle.std.proofs.lemmas.Result.{IfErr-weaker, IfOk-weaker}
 use Rattle.hintcheck_words.specs.Requests.{asked}
-use Rattle.hintcheck.proofs.FaultLemmas.{nothing_said}
+use Rattle.hintcheck_words.specs.declared.words.Task.TheVariants.{Verdict}
+use Rattle.hintcheck.proofs.AnswerLemmas.{bare_for, no_bare_for, no_verdict}
+use Rattle.hintcheck.proofs.ScanLemmas.{refused_by, safe_by}
 use Rattle.hintcheck.proofs.commands.verdict_on.Goals as goal
 
-pub returns-in-Bare-clause-safe : goal.returns-in-Bare-clause-safe
+pub returns-in-Bare-clause-given : goal.returns-in-Bare-clause-given
 unfolding asked
-returns-in-Bare-clause-safe g c = IfOk-weaker c.bare_verdict.result _ _ (λ v safe none. rw c.in-Bare.is (rw (← c.deref.ensures, ← c.word_or_empty.ensures) (safe none))) c.bare_verdict.ensures.safe
+returns-in-Bare-clause-given g c = IfOk-weaker c.bare_verdict.result _ _ (λ v is. rw c.in-Bare.is (bare_for _ _ _ _ _ _ _ v c.word_or_empty.ensures (rw (← c.deref.ensures) is))) c.bare_verdict.ensures.given
 
-pub returns-in-Verdict-clause-safe : goal.returns-in-Verdict-clause-safe
+pub returns-in-Bare-clause-faults : goal.returns-in-Bare-clause-faults
 unfolding asked
-returns-in-Verdict-clause-safe g c = IfOk-weaker c.file_verdict.result _ _ (λ v safe none. rw c.in-Verdict.is (safe none)) c.file_verdict.ensures.safe
+returns-in-Bare-clause-faults g c = IfErr-weaker c.bare_verdict.result _ _ (λ told is. rw c.in-Bare.is (no_bare_for (string_bytes c.in-Bare.maxp) c.in-Bare.cvt c.in-Bare.points c.in-Bare.contours c.word_or_empty.result.now (option_map (λ s. string_bytes s) c.in-Bare.program) c.in-Bare.profile told c.word_or_empty.ensures (rw (← c.deref.ensures) is))) c.bare_verdict.ensures.faults
 
-pub returns-in-Bare-clause-refused : goal.returns-in-Bare-clause-refused
+pub returns-in_ok-judged_font-in-Verdict-clause-given : goal.returns-in_ok-judged_font-in-Verdict-clause-given
 unfolding asked
-returns-in-Bare-clause-refused g c = IfOk-weaker c.bare_verdict.result _ _ (λ v refused some. rw c.in-Bare.is (rw (← c.deref.ensures, ← c.word_or_empty.ensures) (refused some))) c.bare_verdict.ensures.refused
+returns-in_ok-judged_font-in-Verdict-clause-given g c =
+    let font = c.in_ok-judged_font-in-Verdict.field-0 in
+    let given = c.in_ok-judged_font-in-Verdict.ensures.given in
+    rw c.in-Verdict.is (record {
+      given = (font.bytes.items, given);
+      safe = λ none. (font.bytes.items, safe_by c.in-Verdict.profile font.bytes.items font.verdict given none);
+      refused = λ some. (font.bytes.items, refused_by c.in-Verdict.profile font.bytes.items font.verdict given some);
+      none = tt;
+    })
 
-pub returns-in-Verdict-clause-refused : goal.returns-in-Verdict-clause-refused
+pub returns-in-Find-clause-given : goal.returns-in-Find-clause-given
 unfolding asked
-returns-in-Verdict-clause-refused g c = IfOk-weaker c.file_verdict.result _ _ (λ v refused some. rw c.in-Verdict.is (refused some)) c.file_verdict.ensures.refused
+returns-in-Find-clause-given g c = IfOk-weaker c.find_verdict.result _ _ (λ v is. rw c.in-Find.is (rw (← c.deref-in-Find.ensures, ← c.deref-in-Find-2.ensures) is)) c.find_verdict.ensures.given
 
-pub returns-in-Find-clause-safe : goal.returns-in-Find-clause-safe
+pub returns-in-Find-clause-faults : goal.returns-in-Find-clause-faults
 unfolding asked
-returns-in-Find-clause-safe g c = IfOk-weaker c.find_verdict.result _ _ (λ v safe none. rw c.in-Find.is (safe none)) c.find_verdict.ensures.safe
+returns-in-Find-clause-faults g c = IfErr-weaker c.find_verdict.result _ _ (λ told is. rw c.in-Find.is (rw (← c.deref-in-Find.ensures, ← c.deref-in-Find-2.ensures) is)) c.find_verdict.ensures.faults
 
-pub returns-in-Find-clause-refused : goal.returns-in-Find-clause-refused
+pub returns-in-Check-clause-given : goal.returns-in-Check-clause-given
 unfolding asked
-returns-in-Find-clause-refused g c = IfOk-weaker c.find_verdict.result _ _ (λ v refused some. rw c.in-Find.is (refused some)) c.find_verdict.ensures.refused
+returns-in-Check-clause-given g c = IfOk-weaker c.check_verdict.result _ _ (λ v is. rw c.in-Check.is (rw (← c.deref-in-Check.ensures, ← c.deref-in-Check-2.ensures) is)) c.check_verdict.ensures.given
 
-pub returns-in-Check-clause-safe : goal.returns-in-Check-clause-safe
+pub returns-in-Check-clause-faults : goal.returns-in-Check-clause-faults
 unfolding asked
-returns-in-Check-clause-safe g c = IfOk-weaker c.check_verdict.result _ _ (λ v safe none. rw c.in-Check.is (safe none)) c.check_verdict.ensures.safe
-
-pub returns-in-Check-clause-refused : goal.returns-in-Check-clause-refused
-unfolding asked
-returns-in-Check-clause-refused g c = IfOk-weaker c.check_verdict.result _ _ (λ v font some. rw c.in-Check.is font) c.check_verdict.ensures.font
+returns-in-Check-clause-faults g c = IfErr-weaker c.check_verdict.result _ _ (λ told is. rw c.in-Check.is is) c.check_verdict.ensures.faults
 
 pub unreachable-requires : goal.unreachable-requires
 unfolding asked
@@ -46,52 +53,9 @@ unreachable-requires g c = elim c.in-Scan.is [
   ]
 ]
 
-pub returns-in-Bare-clause-faults : goal.returns-in-Bare-clause-faults
+pub returns-in_err-judged_font-in-Verdict-clause-faults : goal.returns-in_err-judged_font-in-Verdict-clause-faults
 unfolding asked
-returns-in-Bare-clause-faults g c = IfErr-weaker c.bare_verdict.result _ _ (λ told is. rw c.in-Bare.is (rw (← c.deref.ensures, ← c.word_or_empty.ensures) is)) c.bare_verdict.ensures.faults
-
-pub returns-in-Bare-clause-none : goal.returns-in-Bare-clause-none
-unfolding asked
-returns-in-Bare-clause-none g c = on_ok_weaker c.bare_verdict.result (λ none. rw c.in-Bare.is (rw (← c.deref.ensures, ← c.word_or_empty.ensures) none)) c.bare_verdict.ensures.none
-
-pub returns-in-Verdict-clause-faults : goal.returns-in-Verdict-clause-faults
-unfolding asked
-returns-in-Verdict-clause-faults g c =
-    IfErr-weaker c.file_verdict.result _ _ (λ told is. rw c.in-Verdict.is (is.0, is.1)) c.file_verdict.ensures.faults
-
-pub returns-in-Verdict-clause-none : goal.returns-in-Verdict-clause-none
-unfolding asked
-returns-in-Verdict-clause-none g c = rw c.in-Verdict.is (nothing_said c.file_verdict.result)
-
-pub returns-in-Find-clause-faults : goal.returns-in-Find-clause-faults
-unfolding asked
-returns-in-Find-clause-faults g c =
-    IfErr-weaker c.find_verdict.result _ _ (λ told is. rw c.in-Find.is (rw (← c.deref-in-Find.ensures, ← c.deref-in-Find-2.ensures) is)) c.find_verdict.ensures.faults
-
-pub returns-in-Find-clause-none : goal.returns-in-Find-clause-none
-unfolding asked
-returns-in-Find-clause-none g c = on_ok_weaker c.find_verdict.result (λ none. rw c.in-Find.is (rw (← c.deref-in-Find.ensures, ← c.deref-in-Find-2.ensures) none)) c.find_verdict.ensures.none
-
-pub returns-in-Check-clause-faults : goal.returns-in-Check-clause-faults
-unfolding asked
-returns-in-Check-clause-faults g c = IfErr-weaker c.check_verdict.result _ _ (λ told is. rw c.in-Check.is (is.0, is.1)) c.check_verdict.ensures.faults
-
-pub returns-in-Check-clause-none : goal.returns-in-Check-clause-none
-unfolding asked
-returns-in-Check-clause-none g c = rw c.in-Check.is (nothing_said c.check_verdict.result)
-
-pub returns-in-Bare-clause-given : goal.returns-in-Bare-clause-given
-unfolding asked
-returns-in-Bare-clause-given g c = IfOk-weaker c.bare_verdict.result _ _ (λ v is. rw c.in-Bare.is (rw (← c.deref.ensures, ← c.word_or_empty.ensures) is)) c.bare_verdict.ensures.given
-
-pub returns-in-Verdict-clause-given : goal.returns-in-Verdict-clause-given
-unfolding asked
-returns-in-Verdict-clause-given g c = IfOk-weaker c.file_verdict.result _ _ (λ v is. rw c.in-Verdict.is is) c.file_verdict.ensures.given
-
-pub returns-in-Find-clause-given : goal.returns-in-Find-clause-given
-unfolding asked
-returns-in-Find-clause-given g c = IfOk-weaker c.find_verdict.result _ _ (λ v is. rw c.in-Find.is is) c.find_verdict.ensures.given
-
-pub returns-in-Check-clause-given : goal.returns-in-Check-clause-given
-unfolding asked
-returns-in-Check-clause-given g c = IfOk-weaker c.check_verdict.result _ _ (λ v is. rw c.in-Check.is is) c.check_verdict.ensures.given
+returns-in_err-judged_font-in-Verdict-clause-faults g c =
+    let verdict = c.in-Verdict in
+    let fault = c.in_err-judged_font-in-Verdict in
+    rw verdict.is (no_verdict (asked (Verdict verdict.font verdict.profile verdict.is_quiet)) c.from_residual.result fault.field-0.0 c.from_residual.ensures.1 (fault.ensures.faults, fault.ensures.unwritten))

@@ -3,7 +3,8 @@ use Rattle.std.proofs.lemmas.Result.{IfOk-weaker}
 use Rattle.tt_font.specs.Reading.{FontData}
 use Rattle.hintcheck.specs.Explanations.{TellsProgram}
 use Rattle.hintcheck_programs.specs.Representation.ProgramOrder.{stage_of}
-use Rattle.hintcheck.proofs.ExplanationLemmas.{ended_failures, next_told}
+use Rattle.hintcheck.proofs.AnswerLemmas.{unwritten_failures}
+use Rattle.hintcheck.proofs.ExplanationLemmas.{next_told}
 use Rattle.hintcheck.proofs.explanation.explain_judged.Goals as goal
 
 pub returns-clause-tells : goal.returns-clause-tells
@@ -16,4 +17,4 @@ returns-clause-tells g c =
     (c.tell_next.ensures.answered x next)
 
 pub returns-in_err-refused-clause-failures : goal.returns-in_err-refused-clause-failures
-returns-in_err-refused-clause-failures g c = ended_failures c.in_err-refused.field-0.0 c.from_residual.result _ c.from_residual.ensures.1 c.in_err-refused.ensures.faults
+returns-in_err-refused-clause-failures g c = unwritten_failures c.in_err-refused.field-0.0 c.from_residual.result _ c.from_residual.ensures.1 c.in_err-refused.ensures.unwritten

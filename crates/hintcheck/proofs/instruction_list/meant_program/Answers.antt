@@ -6,8 +6,8 @@ use Rattle.hintcheck.specs.Listing.{Calls}
 use Rattle.hintcheck.proofs.NameLemmas.{glyph_called}
 use Rattle.hintcheck.proofs.instruction_list.meant_program.Goals as goal
 
-pub returns-clause-called : goal.returns-clause-called
-returns-clause-called c =
+pub returns : goal.returns
+returns c =
     let first : IfSome c.glyph_named.result (IsFirstNamed (post_of c.args.bytes.now) c.args.word.now) =
     subst (λ post. IfSome c.glyph_named.result (IsFirstNamed post c.args.word.now)) c.in_ok-names.ensures.post c.glyph_named.ensures.first in
     let same : c.map.result ≡ option_map name.Glyph c.glyph_named.result = search rules in

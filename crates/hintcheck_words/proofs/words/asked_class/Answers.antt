@@ -1,4 +1,4 @@
-use Rattle.std.proofs.Common.{◌∙◌, ap, codes, List, Option, ℕ}
+use Rattle.std.proofs.Common.{◌∙◌, ap, codes, List, Option, Some, ℕ}
 use Rattle.std.specs.Option.{option_map_or}
 use Rattle.clap.specs.Words.{found_of}
 use Rattle.clap.proofs.WalkLemmas.{first_value-rows}
@@ -8,7 +8,7 @@ use Rattle.hintcheck_words.proofs.words.asked_class.Goals as goal
 
 pub returns-in-Some : goal.returns-in-Some
 returns-in-Some c =
-    c.class_named.ensures ∙ ap (λ (word : Option (List ℕ)). option_map_or fail_on_named word Refused) (c.in-Some.ensures ∙ first_value-rows (found_of c.args.values.now) (codes "CLASS"))
+    c.class_named.ensures ∙ ap (λ (word : Option (List ℕ)). option_map_or fail_on_named word (Some Refused)) (c.in-Some.ensures ∙ first_value-rows (found_of c.args.values.now) (codes "CLASS"))
 
 pub returns-in-None : goal.returns-in-None
-returns-in-None c = ap (λ (word : Option (List ℕ)). option_map_or fail_on_named word Refused) (c.in-None.ensures ∙ first_value-rows (found_of c.args.values.now) (codes "CLASS"))
+returns-in-None c = ap (λ (word : Option (List ℕ)). option_map_or fail_on_named word (Some Refused)) (c.in-None.ensures ∙ first_value-rows (found_of c.args.values.now) (codes "CLASS"))

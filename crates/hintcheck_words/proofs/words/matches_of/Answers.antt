@@ -1,11 +1,11 @@
 use Rattle.std.proofs.Common.{rules, ◌∙◌, ap, sym, subst}
 use Rattle.clap.specs.Words.{subcommand_rows_of, App}
-use Rattle.hintcheck_words.specs.Requests.{IsOutOfMemory, MeetsSubcommand, faults_in}
+use Rattle.hintcheck_words.specs.Requests.{IsOutOfMemory, MeetsSubcommand}
 use Rattle.clap.proofs.CallerLemmas.{subcommand_required}
 use Rattle.clap.proofs.SimpleLemmas.{plain_fields}
 use Rattle.hintcheck_words.specs.CommandLine.{hintcheck}
-use Rattle.hintcheck_words.proofs.Line.{fault_is, kind_among, meets_one}
 use Rattle.hintcheck_words.proofs.Meanings.{met_is, rows_met, takes_is}
+use Rattle.hintcheck_words.proofs.Names.{asks, fault_is}
 use Rattle.hintcheck_words.proofs.words.matches_of.Goals as goal
 
 pub returns-in_err-command-clause-refused : goal.returns-in_err-command-clause-refused
@@ -24,7 +24,7 @@ returns-in-Ok-clause-meets c =
     let p = rows_met m has in
     let is_met = met_is _ _ (subcommand_rows_of m) c.in_ok-command.ensures (λ s. (c.in-Ok.ensures.matches s).1) in
     let faultless = fault_is _ _ c.in_ok-command.ensures c.in-Ok.ensures.kinds in
-    subst MeetsSubcommand (sym p.1) (meets_one _ p.0.0 p.0.1 faultless (sym is_met ∙ p.1))
+    subst MeetsSubcommand (sym p.1) (asks _ p.0.0 p.0.1 faultless (sym is_met ∙ p.1))
 
 pub returns-in-OutOfMemory-clause-refused : goal.returns-in-OutOfMemory-clause-refused
 unfolding IsOutOfMemory
@@ -33,11 +33,3 @@ returns-in-OutOfMemory-clause-refused c = λ taken. tt
 pub returns-clause-refused : goal.returns-clause-refused
 unfolding IsOutOfMemory
 returns-clause-refused c = λ taken. c.in_default.not-OutOfMemory (c.kind.ensures ∙ c.in-Err.ensures.passes (takes_is _ _ c.in_ok-command.ensures taken))
-
-pub returns-in-Ok-clause-faults : goal.returns-in-Ok-clause-faults
-unfolding faults_in
-returns-in-Ok-clause-faults c = fault_is _ _ c.in_ok-command.ensures c.in-Ok.ensures.kinds
-
-pub returns-clause-faults : goal.returns-clause-faults
-unfolding faults_in
-returns-clause-faults c = kind_among _ _ c.in-Err.error c.in_ok-command.ensures c.in-Err.ensures.kinds (λ memory. c.in_default.not-OutOfMemory (c.kind.ensures ∙ memory))

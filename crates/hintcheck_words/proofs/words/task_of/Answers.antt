@@ -4,50 +4,29 @@ use Rattle.hintcheck_words.specs.Requests.{Request, asked, request_of, requests}
 use Rattle.hintcheck_words.proofs.Meanings.{differs}
 use Rattle.hintcheck_words.proofs.words.task_of.Goals as goal
 
-pub bare_task-requires : goal.bare_task-requires
-bare_task-requires c = c.requires.of_bare c.in-bare.is
-
 pub returns-in-bare : goal.returns-in-bare
 unfolding request_of requests
 returns-in-bare c = IfOk-weaker c.bare_task.result _ _ (λ t h. rw c.in-bare.is (ap (λ (r : Request). Some r) (sym h))) c.bare_task.ensures
-
-pub verdict_task-requires : goal.verdict_task-requires
-verdict_task-requires c = c.requires.of_verdict c.in-verdict.is
 
 pub returns-in-verdict : goal.returns-in-verdict
 unfolding request_of requests
 returns-in-verdict c = IfOk-weaker c.verdict_task.result _ _ (λ t h. rw c.in-verdict.is (ap (λ (r : Request). Some r) (sym h))) c.verdict_task.ensures
 
-pub scan_task-requires : goal.scan_task-requires
-scan_task-requires c = c.requires.of_scan c.in-scan.is
-
 pub returns-in-scan : goal.returns-in-scan
 unfolding request_of requests
 returns-in-scan c = IfOk-weaker c.scan_task.result _ _ (λ t h. rw c.in-scan.is (ap (λ (r : Request). Some r) (sym h))) c.scan_task.ensures
-
-pub explain_task-requires : goal.explain_task-requires
-explain_task-requires c = c.requires.of_explain c.in-explain.is
 
 pub returns-in-explain : goal.returns-in-explain
 unfolding request_of requests
 returns-in-explain c = IfOk-weaker c.explain_task.result _ _ (λ t h. rw c.in-explain.is (ap (λ (r : Request). Some r) (sym h))) c.explain_task.ensures
 
-pub find_task-requires : goal.find_task-requires
-find_task-requires c = c.requires.of_find c.in-find.is
-
 pub returns-in-find : goal.returns-in-find
 unfolding request_of requests
 returns-in-find c = IfOk-weaker c.find_task.result _ _ (λ t h. rw c.in-find.is (ap (λ (r : Request). Some r) (sym h))) c.find_task.ensures
 
-pub check_task-requires : goal.check_task-requires
-check_task-requires c = c.requires.of_check c.in-check.is
-
 pub returns-in-check : goal.returns-in-check
 unfolding request_of requests
 returns-in-check c = IfOk-weaker c.check_task.result _ _ (λ t h. rw c.in-check.is (ap (λ (r : Request). Some r) (sym h))) c.check_task.ensures
-
-pub list_task-requires : goal.list_task-requires
-list_task-requires c = c.requires.of_list c.in-list.is
 
 pub returns-in-list : goal.returns-in-list
 unfolding request_of requests
@@ -61,5 +40,5 @@ pub unreachable-requires : goal.unreachable-requires
 unfolding request_of requests
 unreachable-requires c =
     let d = c.in_default in
-    let none = rw (differs _ _ d.not-bare, differs _ _ d.not-verdict, differs _ _ d.not-scan, differs _ _ d.not-explain, differs _ _ d.not-find, differs _ _ d.not-check, differs _ _ d.not-list, differs _ _ d.not-upgrade) at c.requires.known in
+    let none = rw (differs _ _ d.not-bare, differs _ _ d.not-verdict, differs _ _ d.not-scan, differs _ _ d.not-explain, differs _ _ d.not-find, differs _ _ d.not-check, differs _ _ d.not-list, differs _ _ d.not-upgrade) at c.requires in
     cc

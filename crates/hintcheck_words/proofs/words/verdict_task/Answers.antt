@@ -13,4 +13,4 @@ pub returns : goal.returns
 unfolding asked verdict_request
 returns c =
     let absent : flag_in (rows_of (found_of c.args.values.now)) (codes "JSON") ≡ false = sym c.is_given.ensures ∙ c.if-is_given.false in
-    rw (absent, c.in_ok-text.ensures, c.asked_profile.ensures) refl
+    rw (absent, c.in_ok-text.ensures, c.asked_profile.ensures, c.is_given-2.ensures) refl

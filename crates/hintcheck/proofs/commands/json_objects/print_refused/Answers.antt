@@ -1,9 +1,12 @@
-use Rattle.std.specs.Prelude.{option_map}
-use Rattle.hintcheck.proofs.WrittenObjects.{refused_written}
+use Rattle.std.proofs.Common.{◌∙◌, refl}
+use Rattle.hintcheck.proofs.ScannedLines.{only_both, only_nothing}
 use Rattle.hintcheck.proofs.commands.json_objects.print_refused.Goals as goal
 
-pub returns-clause-written : goal.returns-clause-written
-returns-clause-written g c =
-    let contents = g.O.Sink.contents in
-    refused_written (option_map (λ name. name.now) c.args.called) c.args.refused.now (contents c.args.out.now) (contents c.write.new.self) (contents c.print_glyph.new.out) (contents c.print_place_and_reason.new.out)
-    c.in_ok-write.ensures.written c.in_ok-print_glyph.ensures.written c.in_ok-print_place_and_reason.ensures.written
+pub loop-one-init : goal.loop-one-init
+loop-one-init g c = record { kept = only_nothing (g.O.Sink.contents c.args.out.now); failures = refl }
+
+pub loop-one-preserved : goal.loop-one-preserved
+loop-one-preserved g c = record {
+  kept = only_both (g.O.Sink.contents c.args.out.now) _ _ c.loop-one.invariant.kept c.write.ensures.kept;
+  failures = c.in_ok-write.ensures.failures ∙ c.loop-one.invariant.failures;
+}

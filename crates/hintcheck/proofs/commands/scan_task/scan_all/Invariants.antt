@@ -1,12 +1,11 @@
 use Rattle.std.proofs.Common.{◌≡◌, map, take}
 use Rattle.std.specs.Prelude.{string_bytes}
-use Rattle.hintcheck.specs.MeansSafe.{TellsFonts}
-use Rattle.hintcheck.specs.Representation.Expectations.{NotesScan, expected}
+use Rattle.hintcheck.specs.Representation.Known.{is_known_by}
+use Rattle.hintcheck.specs.Scans.{PrintsScan}
 use Rattle.hintcheck.proofs.commands.scan_task.scan_all.Given as goal
 
 abbrev pub invariant-loop-font : goal.invariant-loop-font
 invariant-loop-font g l = record {
-  tells : TellsFonts l.options (map (λ s. string_bytes s) (take l.font-index l.fonts)) l.greatest;
-  printed : NotesScan l.options (map (λ s. string_bytes s) (take l.font-index l.fonts)) l.greatest (g.O.Sink.contents l.fn.out) (g.O.Sink.contents l.out) (expected l.fn.expectation) (expected l.expectation);
+  printed : PrintsScan l.options (is_known_by l.known) (map (λ s. string_bytes s) (take l.font-index l.fonts)) l.greatest (g.O.Sink.contents l.fn.out) (g.O.Sink.contents l.out);
   failures : g.O.Sink.failures l.out ≡ g.O.Sink.failures l.fn.out;
 }

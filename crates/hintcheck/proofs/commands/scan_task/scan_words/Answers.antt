@@ -1,25 +1,19 @@
-use Rattle.std.proofs.Common.{◌≡◌, List, ℕ}
+use Rattle.std.proofs.Common.{inl, inr, refl}
 use Rattle.std.specs.Prelude.{map, option_map, string_bytes}
 use Rattle.std.proofs.lemmas.Result.{IfOk-weaker}
-use Rattle.hintcheck_words.specs.declared.words.FontWords.{FontWords}
-use Rattle.hintcheck_words.specs.declared.words.FontWords.TheVariants.{Fonts, Lists}
-use Rattle.hintcheck.specs.MeansSafe.{IsRefusedScan, IsSafeScan}
-use Rattle.hintcheck.specs.ScannedNames.{HoldsOfNames}
+use Rattle.hintcheck.proofs.ScanLemmas.{scan_answered}
 use Rattle.hintcheck.proofs.commands.scan_task.scan_words.Goals as goal
 
--- what holds of the names that lists give
-of_lists : (given : FontWords) (words names : List (List ℕ)) (P : List (List ℕ) → Type 0) → given ≡ Lists → P names → HoldsOfNames given words P
-of_lists Lists words names P is holds = (names, holds)
-of_lists Fonts words names P is holds = absurd cc
+pub returns-in-Fonts-clause-answer : goal.returns-in-Fonts-clause-answer
+returns-in-Fonts-clause-answer g c =
+    let contents = g.O.Sink.contents in
+    let words = map (λ s. string_bytes s) c.args.words.now in
+    IfOk-weaker c.scan_fonts.result _ _ (λ status p. scan_answered words words c.args.options (option_map (λ s. string_bytes s) c.args.expected.now) status (contents c.args.out.now) (contents c.scan_fonts.new.out) (inl (c.in-Fonts.is, refl)) p)
+    c.scan_fonts.ensures.printed
 
-pub returns-in_ok-fonts-in-Lists-clause-safe : goal.returns-in_ok-fonts-in-Lists-clause-safe
-returns-in_ok-fonts-in-Lists-clause-safe g c =
-    let names = map (λ s. string_bytes s) c.deref.result.now in
-    let expected = option_map (λ s. string_bytes s) c.args.expected.now in
-    IfOk-weaker c.scan_fonts-in-Lists.result _ _ (λ status tells zero. of_lists c.args.options.words _ names (λ ns. IsSafeScan c.args.options ns expected) c.in-Lists.is (tells.safe zero)) c.scan_fonts-in-Lists.ensures.tells
-
-pub returns-in_ok-fonts-in-Lists-clause-refused : goal.returns-in_ok-fonts-in-Lists-clause-refused
-returns-in_ok-fonts-in-Lists-clause-refused g c =
-    let names = map (λ s. string_bytes s) c.deref.result.now in
-    let expected = option_map (λ s. string_bytes s) c.args.expected.now in
-    IfOk-weaker c.scan_fonts-in-Lists.result _ _ (λ status tells one. of_lists c.args.options.words _ names (λ ns. IsRefusedScan c.args.options ns expected) c.in-Lists.is (tells.refused one)) c.scan_fonts-in-Lists.ensures.tells
+pub returns-in_ok-fonts-in-Lists-clause-answer : goal.returns-in_ok-fonts-in-Lists-clause-answer
+returns-in_ok-fonts-in-Lists-clause-answer g c =
+    let contents = g.O.Sink.contents in
+    let words = map (λ s. string_bytes s) c.args.words.now in
+    IfOk-weaker c.scan_fonts-in-Lists.result _ _ (λ status p. scan_answered words (map (λ s. string_bytes s) c.deref.result.now) c.args.options (option_map (λ s. string_bytes s) c.args.expected.now) status (contents c.args.out.now) (contents c.scan_fonts-in-Lists.new.out) (inr c.in-Lists.is) p)
+    c.scan_fonts-in-Lists.ensures.printed

@@ -35,7 +35,7 @@ none_kept (Some xs) known buffer eb eh = ap (λ (b : List ℕ). Some (xs ++ b)) 
 pub returns-clause-written : goal.returns-clause-written
 returns-clause-written g c =
     written_through _ _ _ _ _ _ _
-    (none_ahead _ _ _ c.in-Ok.ensures.ahead (rw c.in-Ok.ensures.source (rw c.new.ensures.inner refl)))
-    (rw c.new-sink.ensures.inner (none_kept _ _ _ c.in-Ok-with_capacity.ensures.empty (rw c.in-Ok-with_capacity.ensures.inner refl)))
+    (none_ahead _ _ _ c.in_ok-source.ensures.ahead (rw c.in_ok-source.ensures.source (rw c.new.ensures.inner refl)))
+    (rw c.new-sink.ensures.inner (none_kept _ _ _ c.in-Ok.ensures.empty (rw c.in-Ok.ensures.inner refl)))
     c.in_ok-count.ensures.written
     (let k = c.in_ok-new.ensures.written in rw c.into_inner.ensures at k)
