@@ -1,6 +1,7 @@
 # make: proves and builds hintcheck, where that isn't done. make check: runs all checks, `rt ci` among them, whose last line is the last one here too.
 # make try: runs the program without a proof on a font of examples/, or on WORDS. make quick CRATE=NAME: proves one crate and those below it, and runs
-# its tests. make clean: removes all that was built, and what the prover keeps of it in this checkout.
+# its tests. make pages: lists all definitions with their sentences, in the file `out/definitions.md`, and all contracts with the edits that break
+# them, in `out/contracts.md`. make clean: removes all that was built, and what the prover keeps of it in this checkout.
 # make install: puts the program, its manual page and completions under PREFIX.
 # make install-library: proves and builds the library for C and C++, and puts it, its header and a pkg-config file there.
 # make dist, make deb: packs what `rt ci` has passed as an archive, or a Debian package, in the folder `out`.
@@ -16,7 +17,7 @@ archive = crates/hintcheck_c/out/libhintcheck.a
 # What `make try` runs the program on.
 WORDS = verdict examples/certificates/call-underflows.ttf
 
-.PHONY: all check try quick clean library install install-library uninstall dist deb
+.PHONY: all check try quick pages clean library install install-library uninstall dist deb
 
 all:
 	./hintcheck --build
@@ -30,6 +31,10 @@ try:
 quick:
 	@test -n "$(CRATE)" || { echo "make quick CRATE=NAME: a crate of crates.txt" >&2; exit 2; }
 	bench/build.py --tests $(CRATE)
+
+pages:
+	@bench/definitions.py
+	@bench/contracts.py
 
 clean:
 	rm -rf crates/*/out out

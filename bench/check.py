@@ -67,10 +67,11 @@ class Result(typing.NamedTuple):
 
 WITHOUT_PROOF = [
     Check("pages", "pages.py"),
-    Check("contracts", "contracts.py"),
+    Check("contracts", "contracts.py --check"),
     Check("definitions", "specs.py"),
     Check("no opcode outside the table", "opcodes.py"),
     Check("heads of files", "files.py"),
+    Check("comments of definitions", "definitions.py --check"),
     Check("reasons", "reasons.py"),
     Check("test vectors", "vectors.py"),
     Check("second checker on the cases", "independent_cases.py"),

@@ -2,10 +2,11 @@
 """Checks that each module of definitions is either meaning or representation.
 
 Usage: bench/specs.py
-A module in `specs/` itself is meaning: a clause of a public function cites it, or another such module needs it, and docs/DEFINITIONS.md leads
-through it. A module in `specs/Representation/` says how the code keeps what the others speak of: no clause of a public function cites it, and
-no module of meaning imports it. The lemma of a closed definition is named by the one function whose contract shows it. What differs is
-printed, and the exit status is then 1.
+A module in `specs/` itself is meaning: a clause of a public function cites it, or another such module needs it. A module in
+`specs/Representation/` says how the code keeps what the others speak of: no clause of a public function cites it, and no module of meaning
+imports it. docs/DEFINITIONS.md leads through all modules of meaning of tt_code and tt_font and through some of the others, each after those
+that it imports; the modules, definitions and functions that it names are there. bench/definitions.py lists all modules. The lemma of a closed
+definition is named by the one function whose contract shows it. What differs is printed, and the exit status is then 1.
 """
 
 import pathlib
@@ -18,6 +19,12 @@ import contracts
 TOP = pathlib.Path(__file__).resolve().parent.parent
 PAGE = TOP / "docs/DEFINITIONS.md"
 FOLDER = "Representation"
+# The crates of which the page names all modules of meaning.
+READ_WHOLE = ("tt_code", "tt_font")
+# A module as the page names it: by its file, with the crate where that isn't the one of the section's head.
+ON_PAGE = re.compile(r"`(?:(\w+)/specs/)?(\w+)\.antt`")
+# A definition or a function as the page names it: a capital begins it, or words are joined in it. Arguments may follow.
+WORD = re.compile(r"`([A-Z]\w+|[a-z]+(?:_\w+)+)(?: [\w ]+)?`")
 # The road through a font, which other crates go too: its clauses say how the code keeps what is known, and users don't call it.
 SHARED = re.compile(r"Programs::|Judge::|Finding::|(?:cut|list_outcome|refused|refused_glyph)$")
 # The lemmas that show closed definitions, each with the file of the one function that may name it.
@@ -86,10 +93,29 @@ def needed(cited: typing.Iterable[Module]) -> set[Module]:
     return found
 
 
-def sections() -> dict[str, str]:
-    """The page's text for each crate. A section's head names one or more of them before its colon."""
-    heads = re.findall(r"^## ([\w, ]+):[^\n]*\n(.*?)(?=^## |\Z)", PAGE.read_text(), re.M | re.S)
-    return {crate: text for crates, text in heads for crate in crates.split(", ")}
+def sections() -> list[tuple[str, str]]:
+    """The page's sections: the first word of each head, and the text."""
+    return re.findall(r"^## (\w+)[^\n]*\n(.*?)(?=^## |\Z)", PAGE.read_text(), re.M | re.S)
+
+
+def names() -> set[str]:
+    """The definitions of all crates, their modules, and the functions."""
+    files = TOP.glob("crates/*/src/**/*.rt")
+    return contracts.definitions() | {name for file in files for name in re.findall(r"\bfn (\w+)", file.read_text())}
+
+
+def faults_of_page(meaning: set[Module]) -> typing.Iterator[str]:
+    """What is wrong with the page. A module that it names twice has a part that needs less than the other: the last place counts."""
+    named = [Module(crate or head, name) for head, text in sections() for crate, name in ON_PAGE.findall(text)]
+    yield from (f"{PAGE.name} names {module}, which isn't there" for module in named if module not in meaning)
+    yield from (f"{module} isn't in {PAGE.name}" for module in sorted(meaning - set(named)) if module.crate in READ_WHOLE)
+    last = {module: at for at, module in enumerate(named)}
+    for module in sorted(meaning & set(named)):
+        later = sorted(other for other in imported_by(module) & set(named) if other not in named[: last[module]])
+        yield from (f"{PAGE.name} names {module} before {other}, which it imports" for other in later)
+    known = names()
+    words = {word for _, text in sections() for word in WORD.findall(text)}
+    yield from (f"{PAGE.name} names {word}, which isn't there" for word in sorted(words - known))
 
 
 def openings() -> typing.Iterator[str]:
@@ -111,10 +137,7 @@ def faults() -> typing.Iterator[str]:
     for module in sorted(meaning):
         yield from (f"{module} imports {other}" for other in sorted(imported_by(module)) if other.is_representation)
     yield from (f"{module} is cited by no public clause, and needed by none that is" for module in sorted(meaning - needed(cited)))
-    page = sections()
-    for module in sorted(meaning):
-        if f"`{module.name}`" not in page.get(module.crate, ""):
-            yield f"{module} isn't in {PAGE.name}"
+    yield from faults_of_page(meaning)
 
 
 def main() -> int:
