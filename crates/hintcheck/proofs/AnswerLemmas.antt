@@ -3,7 +3,7 @@ use Rattle.std.proofs.Common.{◌≡◌, ◌≢◌, ◌≤◌, ℕ, List, [], Op
 use Rattle.std.specs.Prelude.{unwrap_or}
 use Rattle.std.specs.Io.KnownBytes.{Appends}
 use Rattle.hintcheck_report.specs.ReasonNumbers.{IsReasonWord}
-use Rattle.hintcheck_words.specs.declared.words.Detail.{Detail}
+use Rattle.hintcheck_words.specs.declared.words.ListOptions.{ListOptions}
 use Rattle.hintcheck_words.specs.declared.words.ExplainOptions.{ExplainOptions}
 use Rattle.hintcheck_words.specs.declared.words.Profile.{Profile}
 use Rattle.hintcheck_words.specs.declared.words.TaskFault.{TaskFault}
@@ -12,10 +12,13 @@ use Rattle.hintcheck.specs.Representation.Answers.{IsAnswered, IsExplained, IsNo
 use Rattle.hintcheck.specs.CommandFaults.{HasNoFault, IsFaultOfGlyph, IsFaultOfPrinting, IsFaultOfRequest, IsFaultOfTask, IsReported, SpellNoFault, TellsNoTask, no_memory, not_taken}
 use Rattle.hintcheck.specs.Commands.{IsForVerdict, IsNoWriteFault, TellsFailure, status_of}
 use Rattle.hintcheck.specs.Listing.{HoldListedProgram, HoldToldProgram, HoldUnlistedProgram}
-use Rattle.hintcheck.specs.MeansSafe.{HoldRefusedBy, HoldSafeBy, SpellRefusedBy, SpellSafeBy, SpellVerdictBy}
-use Rattle.hintcheck.specs.Printed.{Prints, PrintsVerdict, asks_last_line, profile_of}
+use Rattle.hintcheck.specs.MeansSafe.{HoldRefusedBy, HoldSafeBy, IsBareVerdict, IsRefusedBareBy, IsSafeBareBy, SpellBare}
+use Rattle.hintcheck.specs.Printed.{Prints, PrintsVerdict, asks_last_line}
 use Rattle.hintcheck.specs.Texts.{told_text}
+use Rattle.hintcheck_fonts.specs.declared.request.Request.{Request as VerdictRequest}
+use Rattle.hintcheck_fonts.specs.declared.request.Judged.{Judged}
 use Rattle.hintcheck_programs.specs.Verdicts.{Judgement}
+use Rattle.tt_font.specs.Reading.{GlyphData}
 use Rattle.hintcheck.specs.declared.commands.faults.CommandFault.{CommandFault}
 use Rattle.hintcheck.specs.declared.commands.faults.CommandFault.TheVariants as fault
 
@@ -47,30 +50,30 @@ no_task words why status memory (reported, inr (other, usage), gives) = (reporte
 -- where a verdict is asked for, its lines are the answer
 prints_for_verdict : (q : Request) (status : ℕ) (old new : Option (List ℕ)) → IsForVerdict q → PrintsVerdict q status old new → Prints q status old new
 prints_for_verdict (bare maxp cvt points contours program profile) status old new for_verdict printed = printed
-prints_for_verdict (verdict font profile is_quiet) status old new for_verdict printed = printed
-prints_for_verdict (find font certificate budget) status old new for_verdict printed = printed
-prints_for_verdict (check font certificate budget) status old new for_verdict printed = printed
-prints_for_verdict (scan fonts options expected) status old new for_verdict printed = absurd for_verdict
+prints_for_verdict (verdict font options) status old new for_verdict printed = printed
+prints_for_verdict (find font certificate options) status old new for_verdict printed = printed
+prints_for_verdict (check font certificate options) status old new for_verdict printed = printed
+prints_for_verdict (scan fonts options texts) status old new for_verdict printed = absurd for_verdict
 prints_for_verdict (explain font program place options) status old new for_verdict printed = absurd for_verdict
-prints_for_verdict (list font program detail) status old new for_verdict printed = absurd for_verdict
-prints_for_verdict (upgrade before after) status old new for_verdict printed = absurd for_verdict
+prints_for_verdict (list font program options) status old new for_verdict printed = absurd for_verdict
+prints_for_verdict (upgrade before after max_bytes) status old new for_verdict printed = absurd for_verdict
 
-pub verdict_answered : (q : Request) (r : Result ℕ CommandFault) (v : Judgement) (old new : Option (List ℕ)) → IsForVerdict q → IsVerdictFor q v → IfOk r (λ status. status ≤ 1) → IfOk r (λ status. status ≡ 0 → v.refused ≡ [])
-    → IfOk r (λ status. status ≡ 1 → v.refused ≢ []) → OnOk r (Appends old new (told_text (asks_last_line q) (profile_of q) v)) → IfOk r (λ status. IsAnswered q status old new)
-verdict_answered q (Err f) v old new asks is few accepted refused written = tt
-verdict_answered q (Ok status) v old new asks is few accepted refused written = record {
+pub verdict_answered : (q : Request) (r : Result ℕ CommandFault) (by : VerdictRequest) (v : Judgement) (old new : Option (List ℕ)) → IsForVerdict q → IsVerdictFor q by v → IfOk r (λ status. status ≤ 1) → IfOk r (λ status. status ≡ 0 → v.refused ≡ [])
+    → IfOk r (λ status. status ≡ 1 → v.refused ≢ []) → OnOk r (Appends old new (told_text (asks_last_line q) by v)) → IfOk r (λ status. IsAnswered q status old new)
+verdict_answered q (Err f) by v old new asks is few accepted refused written = tt
+verdict_answered q (Ok status) by v old new asks is few accepted refused written = record {
   few = omega arith;
   safe = λ zero. is.safe (accepted zero);
   refused = λ one. is.refused (refused one);
   told = λ two. absurd (omega arith);
   none = λ few. is.none;
-  printed = prints_for_verdict q status old new asks (record { judgement = v; given = is.given; accepted = accepted; refused = refused; written = written });
+  printed = prints_for_verdict q status old new asks (record { by = by; judgement = v; given = is.given; accepted = accepted; refused = refused; written = written });
 }
 
-pub list_answered : (font word : List ℕ) (detail : Detail) (bytes : List ℕ) (r : Result ℕ CommandFault) (old new : Option (List ℕ)) → IfOk r (λ status. status ≤ 1) → IfOk r (λ status. status ≡ 0 → HoldListedProgram detail bytes word old new)
-    → IfOk r (λ status. status ≡ 1 → HoldUnlistedProgram bytes word) → IfOk r (λ status. status ≡ 1 → HoldToldProgram bytes word old new) → IfOk r (λ status. IsAnswered (list font word detail) status old new)
-list_answered font word detail bytes (Err f) old new few listed unlisted told = tt
-list_answered font word detail bytes (Ok status) old new few listed unlisted told = record {
+pub list_answered : (font word : List ℕ) (options : ListOptions) (bytes : List ℕ) (r : Result ℕ CommandFault) (old new : Option (List ℕ)) → IfOk r (λ status. status ≤ 1) → IfOk r (λ status. status ≡ 0 → HoldListedProgram options.detail bytes word old new)
+    → IfOk r (λ status. status ≡ 1 → HoldUnlistedProgram bytes word) → IfOk r (λ status. status ≡ 1 → HoldToldProgram bytes word old new) → IfOk r (λ status. IsAnswered (list font word options) status old new)
+list_answered font word options bytes (Err f) old new few listed unlisted told = tt
+list_answered font word options bytes (Ok status) old new few listed unlisted told = record {
   few = omega arith;
   safe = λ zero. tt;
   refused = λ one. (bytes, unlisted one);
@@ -80,11 +83,15 @@ list_answered font word detail bytes (Ok status) old new few listed unlisted tol
 }
 
 -- the verdict on a program, or why there is none, where its word may be left out
-pub bare_for : (maxp : List ℕ) (cvt points contours : ℕ) (word : List ℕ) (program : Option (List ℕ)) (by : Profile) (v : Judgement) → word ≡ unwrap_or program [] → IsVerdictFor (bare maxp cvt points contours (Some word) by) v → IsVerdictFor (bare maxp cvt points contours program by) v
-bare_for maxp cvt points contours word program by v same is = record {
-  given = subst (λ w. SpellVerdictBy by maxp cvt points contours w v) same is.given;
-  safe = λ none. subst (λ w. SpellSafeBy by maxp cvt points contours w) same (is.safe none);
-  refused = λ some. subst (λ w. SpellRefusedBy by maxp cvt points contours w) same (is.refused some);
+bare_of : (maxp : List ℕ) (points contours : ℕ) (word : List ℕ) (program : Option (List ℕ)) (P : List ℕ → GlyphData → Type 0) → word ≡ unwrap_or program [] → SpellBare maxp points contours word P → SpellBare maxp points contours (unwrap_or program []) P
+bare_of maxp points contours word program P same is = subst (λ w. SpellBare maxp points contours w P) same is
+
+pub bare_for : (maxp : List ℕ) (cvt points contours : ℕ) (word : List ℕ) (program : Option (List ℕ)) (profile : Profile) (j : Judged) → word ≡ unwrap_or program [] → IsVerdictFor (bare maxp cvt points contours (Some word) profile) j.by j.verdict
+    → IsVerdictFor (bare maxp cvt points contours program profile) j.by j.verdict
+bare_for maxp cvt points contours word program profile j same is = record {
+  given = bare_of maxp points contours word program (IsBareVerdict profile j.by cvt j.verdict) same is.given;
+  safe = λ none. bare_of maxp points contours word program (IsSafeBareBy profile cvt) same (is.safe none);
+  refused = λ some. bare_of maxp points contours word program (IsRefusedBareBy profile cvt) same (is.refused some);
   none = subst (λ w. SpellNoFault maxp w) same is.none;
 }
 

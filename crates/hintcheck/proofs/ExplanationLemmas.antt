@@ -1,5 +1,5 @@
 -- What is told of a program that is explained, and of the faults.
-use Rattle.std.proofs.Common.{◌≡◌, ◌∙◌, ℕ, IsErrAnd, List, [], Some, Result, Ok, Err, arith, sym, ap, subst}
+use Rattle.std.proofs.Common.{◌≡◌, ◌∙◌, ℕ, IsErrAnd, List, [], Some, Result, Ok, Err, arith, inl, inr, sym, ap, subst}
 use Rattle.std.specs.Prelude.{slice_get}
 use Rattle.tt_code.specs.Cut.{Instruction}
 use Rattle.tt_font.specs.Reading.{FontData, GlyphData, Reads}
@@ -35,9 +35,11 @@ use Rattle.hintcheck_programs.proofs.FontEnds.{least_of}
 use Rattle.hintcheck_programs.proofs.ProgramSteps.{glyph_of}
 use Rattle.hintcheck_programs.proofs.ProgramVerdictLemmas.{HasFlow, accepted_found, found_refusal}
 use Rattle.hintcheck.specs.Listing.{Calls}
-use Rattle.hintcheck.specs.MeansSafe.{HoldExplainedBy}
+use Rattle.hintcheck.specs.MeansSafe.{HoldAcceptedBy, HoldExplainedBy, HoldUnacceptedBy, IsRequestOf}
+use Rattle.hintcheck_fonts.specs.declared.request.Request.{Request}
+use Rattle.hintcheck_fonts.specs.declared.request.Request.TheVariants as request
 use Rattle.hintcheck_words.specs.declared.words.Profile.{Profile}
-use Rattle.hintcheck_words.specs.declared.words.Profile.TheVariants.{Strict, Symbolic}
+use Rattle.hintcheck_words.specs.declared.words.Profile.TheVariants.{Both, Strict, Symbolic}
 use Rattle.hintcheck.specs.declared.commands.faults.CommandFault.{CommandFault}
 
 -- a failed write of an explanation
@@ -113,9 +115,24 @@ pub word_told : (bytes word : List ℕ) (d : FontData) (called : Name) (e : Expl
 word_told bytes word d called explained.Accepted reads text tells = record { font = d; reads = reads; name = called; text = text; accepted = tells }
 word_told bytes word d called (explained.Refused r) reads text tells = record { font = d; reads = reads; name = called; text = text; refused = tells }
 
+-- what is answered of an accepted program, or of one that isn't, by the profile of a request
+accepted_by : (profile : Profile) (by : Request) (bytes word : List ℕ) → IsRequestOf profile by → HoldExplainedBy by bytes word explained.Accepted → HoldAcceptedBy profile bytes word
+accepted_by (Strict most) request.Strict bytes word asked holds = holds
+accepted_by (Strict most) (request.Symbolic steps) bytes word asked holds = absurd asked
+accepted_by (Symbolic most) request.Strict bytes word asked holds = absurd asked
+accepted_by (Symbolic most) (request.Symbolic steps) bytes word asked holds = holds
+accepted_by (Both most) request.Strict bytes word asked holds = inl holds
+accepted_by (Both most) (request.Symbolic steps) bytes word asked holds = inr holds
+
+unaccepted_by : (profile : Profile) (by : Request) (bytes word : List ℕ) (r : Refused) → IsRequestOf profile by → HoldExplainedBy by bytes word (explained.Refused r) → HoldUnacceptedBy profile bytes word
+unaccepted_by (Strict most) request.Strict bytes word r asked holds = (r, holds)
+unaccepted_by (Strict most) (request.Symbolic steps) bytes word r asked holds = absurd asked
+unaccepted_by (Symbolic most) request.Strict bytes word r asked holds = absurd asked
+unaccepted_by (Symbolic most) (request.Symbolic steps) bytes word r asked holds = (r, holds)
+unaccepted_by (Both most) request.Strict bytes word r asked holds = inl (r, holds)
+unaccepted_by (Both most) (request.Symbolic steps) bytes word r asked holds = inr (r, holds)
+
 -- the exit status of what is answered by a profile
-pub explained_by : (profile : Profile) (bytes word : List ℕ) (e : Explained) (status : ℕ) → HoldExplainedBy profile bytes word e → status ≡ status_of_explained e → IsExplained profile word status
-explained_by (Strict points) bytes word explained.Accepted status holds is = record { few = omega arith; accepted = λ zero. (bytes, holds); refused = λ one. absurd (omega arith) }
-explained_by (Symbolic steps) bytes word explained.Accepted status holds is = record { few = omega arith; accepted = λ zero. (bytes, holds); refused = λ one. absurd (omega arith) }
-explained_by (Strict points) bytes word (explained.Refused r) status holds is = record { few = omega arith; accepted = λ zero. absurd (omega arith); refused = λ one. (bytes, (r, holds)) }
-explained_by (Symbolic steps) bytes word (explained.Refused r) status holds is = record { few = omega arith; accepted = λ zero. absurd (omega arith); refused = λ one. (bytes, (r, holds)) }
+pub explained_by : (profile : Profile) (by : Request) (bytes word : List ℕ) (e : Explained) (status : ℕ) → IsRequestOf profile by → HoldExplainedBy by bytes word e → status ≡ status_of_explained e → IsExplained profile word status
+explained_by profile by bytes word explained.Accepted status asked holds is = record { few = omega (arith, is); accepted = λ zero. (bytes, accepted_by profile by bytes word asked holds); refused = λ one. absurd (omega (arith, is, one)) }
+explained_by profile by bytes word (explained.Refused r) status asked holds is = record { few = omega (arith, is); accepted = λ zero. absurd (omega (arith, is, zero)); refused = λ one. (bytes, unaccepted_by profile by bytes word r asked holds) }

@@ -1,9 +1,9 @@
 pub mod AnswerLemmas
-pub mod AskedVerdicts
 pub mod ExplanationLemmas
 pub mod ListingLemmas
 pub mod NameLemmas
 pub mod PrintedLemmas
 pub mod ProgramsBefore
 pub mod ScanLemmas
+pub mod ScannedFileLemmas
 pub mod ScannedLines

@@ -3,18 +3,18 @@ use Rattle.std.proofs.Common.{◌≡◌, ◌∙◌, ℕ, List, [], ◌∷◌, Op
 use Rattle.std.specs.Io.KnownBytes.{Appends}
 use Rattle.std.specs.Prelude.{slice_get}
 use Rattle.tt_setting.specs.declared.name.Name.{Name}
-use Rattle.hintcheck_words.specs.declared.words.Profile.{Profile}
+use Rattle.hintcheck_fonts.specs.declared.request.Request.{Request}
 use Rattle.hintcheck.specs.Texts.{end_line, refused_line}
 use Rattle.hintcheck_programs.specs.Verdicts.{Judgement}
 use Rattle.hintcheck_report.specs.declared.refused.Refused.{Refused}
 
-pub refused_end : (profile : Profile) (name : Name) (v : Judgement) (rs : List Refused) (r : Refused) (old new : Option (List ℕ)) → Some r ≡ slice_get rs 0 → rs ≡ v.refused → r.program ≡ name
-    → Appends old new (refused_line profile (length v.refused) v.programs name) → Appends old new (end_line profile v.programs v.refused)
-refused_end profile name v rs r old new first same is written =
+pub refused_end : (by : Request) (name : Name) (v : Judgement) (rs : List Refused) (r : Refused) (old new : Option (List ℕ)) → Some r ≡ slice_get rs 0 → rs ≡ v.refused → r.program ≡ name
+    → Appends old new (refused_line by (length v.refused) v.programs name) → Appends old new (end_line by v.programs v.refused)
+refused_end by name v rs r old new first same is written =
     subst (Appends old new) (sym (line v.refused (subst (λ (xs : List Refused). Some r ≡ slice_get xs 0) same first))) written
   where
-    line : (xs : List Refused) → Some r ≡ slice_get xs 0 → end_line profile v.programs xs ≡ refused_line profile (length xs) v.programs name
+    line : (xs : List Refused) → Some r ≡ slice_get xs 0 → end_line by v.programs xs ≡ refused_line by (length xs) v.programs name
     line [] e = cc
     line (x ∷ xs) e =
         let first_is : r ≡ x = cc in
-        ap (refused_line profile (length (x ∷ xs)) v.programs) (ap (λ (y : Refused). y.program) (sym first_is) ∙ is)
+        ap (refused_line by (length (x ∷ xs)) v.programs) (ap (λ (y : Refused). y.program) (sym first_is) ∙ is)

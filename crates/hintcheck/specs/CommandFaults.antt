@@ -50,7 +50,10 @@ IsFaultOfGlyph maxp program other = ⊥
 -- why there is no verdict on a font file
 abbrev pub IsFaultOfFontFile : CommandFault → Type 0
 IsFaultOfFontFile (fault.Font f container) = IsFaultOfSomeFont f
-IsFaultOfFontFile (fault.Unopened why) = Unit {0}
+IsFaultOfFontFile (fault.Unopened word why) = Unit {0}
+IsFaultOfFontFile (fault.TooLong word most) = Unit {0}
+IsFaultOfFontFile (fault.Collection f) = Unit {0}
+IsFaultOfFontFile (fault.ManyFaces count) = Unit {0}
 IsFaultOfFontFile fault.Read = Unit {0}
 IsFaultOfFontFile fault.OutOfMemory = Unit {0}
 IsFaultOfFontFile fault.Budget = Unit {0}
@@ -58,7 +61,8 @@ IsFaultOfFontFile other = ⊥
 
 -- why the bytes of a file aren't read
 abbrev pub IsFaultOfReading : CommandFault → Type 0
-IsFaultOfReading (fault.Unopened why) = Unit {0}
+IsFaultOfReading (fault.Unopened word why) = Unit {0}
+IsFaultOfReading (fault.TooLong word most) = Unit {0}
 IsFaultOfReading fault.Read = Unit {0}
 IsFaultOfReading fault.OutOfMemory = Unit {0}
 IsFaultOfReading other = ⊥
@@ -103,19 +107,17 @@ IsFaultOfPrinting other = ⊥
 abbrev pub IsFaultOfRequest : Request → CommandFault → Type 0
 IsFaultOfRequest (bare maxp cvt points contours program profile) reported =
     IsFaultOfGlyph maxp (unwrap_or program []) reported
-IsFaultOfRequest (verdict font profile is_quiet) reported = IsFaultOfFontFile reported
-IsFaultOfRequest (find font certificate budget) reported =
+IsFaultOfRequest (verdict font options) reported = IsFaultOfFontFile reported
+IsFaultOfRequest (find font certificate options) reported =
     IsFaultOfFinding font certificate reported
-IsFaultOfRequest (check font certificate budget) reported = IsFaultOfChecking reported
-IsFaultOfRequest (upgrade old new) reported = IsFaultOfUpgrading old new reported
-IsFaultOfRequest (scan fonts options expected) reported = Unit {0}
-IsFaultOfRequest (explain font program place options) reported = Unit {0}
-IsFaultOfRequest (list font program detail) reported = Unit {0}
+IsFaultOfRequest (check font certificate options) reported = IsFaultOfChecking reported
+IsFaultOfRequest (upgrade old new max_bytes) reported = IsFaultOfUpgrading old new reported
+IsFaultOfRequest other reported = Unit {0}
 
 -- What is printed tells a fault, which gives this exit status: the line or the object of a font file
 -- of a scan, or the object of an explanation, which is left unspecified.
 abbrev pub HasToldFault : Request → ℕ → Type 0
-HasToldFault (scan fonts options expected) status =
+HasToldFault (scan fonts options texts) status =
     (reported : CommandFault) × IsFaultOfFontFile reported × (status_of reported ≡ status)
 HasToldFault (explain font program place options) status = Unit {0}
 HasToldFault other status = ⊥
@@ -124,8 +126,8 @@ HasToldFault other status = ⊥
 abbrev pub HasNoFault : Request → Type 0
 HasNoFault (bare maxp cvt points contours program profile) =
     SpellNoFault maxp (unwrap_or program [])
-HasNoFault (find font certificate budget) = font ≢ certificate
-HasNoFault (upgrade old new) = old ≢ new
+HasNoFault (find font certificate options) = font ≢ certificate
+HasNoFault (upgrade old new max_bytes) = old ≢ new
 HasNoFault other = Unit {0}
 
 -- the request has this fault; or it has none, and its answer isn't printed

@@ -17,6 +17,8 @@ use Rattle.tt_stream.specs.declared.text.PrintFailed.TheVariants as failed
 use Rattle.tt_stream.specs.declared.reads.ReadFault.{ReadFault}
 use Rattle.tt_stream.specs.declared.reads.ReadFault.TheVariants as reading
 use Rattle.hintcheck_words.specs.Requests.{Request, bare, check, explain, find, list, scan, upgrade, verdict}
+use Rattle.tt_collection.specs.declared.fault.CollectionFault.{CollectionFault}
+use Rattle.tt_collection.specs.declared.fault.CollectionFault.TheVariants as collection
 use Rattle.tt_font.specs.declared.fault.FontFault.{FontFault}
 use Rattle.tt_font.specs.declared.fault.FontFault.TheVariants as font
 
@@ -25,11 +27,17 @@ abbrev pub font_status : FontFault → ℕ
 font_status (font.OutOfMemory error) = 3
 font_status other = 2
 
+-- the exit status of a collection's fault: 3 where memory ran out, and otherwise 2
+abbrev pub collection_status : CollectionFault → ℕ
+collection_status (collection.OutOfMemory error) = 3
+collection_status other = 2
+
 -- the exit status: 3 where memory or the budget ran out, and otherwise 2
 abbrev pub status_of : CommandFault → ℕ
 status_of fault.OutOfMemory = 3
 status_of fault.Budget = 3
 status_of (fault.Font font container) = font_status font
+status_of (fault.Collection f) = collection_status f
 status_of other = 2
 
 -- the fault is no failed write
@@ -83,10 +91,10 @@ HasAll left bytes = IfSome left (λ known. bytes ≡ known)
 -- one verdict is asked for, and not a scan, an explanation, a listing or an upgrade
 abbrev pub IsForVerdict : Request → Type 0
 IsForVerdict (bare maxp cvt points contours program profile) = Unit {0}
-IsForVerdict (verdict font profile is_quiet) = Unit {0}
-IsForVerdict (scan fonts options expected) = ⊥
+IsForVerdict (verdict font options) = Unit {0}
+IsForVerdict (scan fonts options texts) = ⊥
 IsForVerdict (explain font program place options) = ⊥
-IsForVerdict (find font certificate budget) = Unit {0}
-IsForVerdict (check font certificate budget) = Unit {0}
-IsForVerdict (list font program detail) = ⊥
-IsForVerdict (upgrade old new) = ⊥
+IsForVerdict (find font certificate options) = Unit {0}
+IsForVerdict (check font certificate options) = Unit {0}
+IsForVerdict (list font program options) = ⊥
+IsForVerdict (upgrade old new max_bytes) = ⊥

@@ -7,14 +7,15 @@ use Rattle.tt_code.specs.declared.reason.ReasonClass.TheVariants.{PossibleFault}
 use Rattle.tt_setting.specs.Names.{text_of}
 use Rattle.hintcheck_words.specs.declared.words.FailOn.{FailOn}
 use Rattle.hintcheck_words.specs.declared.words.FailOn.TheVariants.{Possible}
+use Rattle.hintcheck.specs.FontLabels.{Label, label_text}
 use Rattle.hintcheck.specs.RefusalClasses.{is_same}
 use Rattle.hintcheck_report.specs.declared.refused.Refused.{Refused}
 
--- the line of a refused program of the font file with this name: the number of the reason, the name of
--- the program, and that of the file
-abbrev pub refusal_line : List ℕ → Refused → List ℕ
-refusal_line font r =
-    decimal (number_of r.reason) ++ (codes " " ++ (text_of r.program ++ (codes " " ++ font)))
+-- the line of a refused program of the font file with this label: the number of the reason, the name of
+-- the program, and the label
+abbrev pub refusal_line : Label → Refused → List ℕ
+refusal_line label r = decimal (number_of r.reason)
+    ++ (codes " " ++ (text_of r.program ++ (codes " " ++ label_text label)))
 
 -- whether a scan fails for the refused program: where it fails for possible faults alone, whether this
 -- is one
@@ -26,7 +27,8 @@ fails_for other r = true
 abbrev pub none_known : List ℕ → Bool
 none_known line = false
 
--- whether a scan fails for the refused program of the font file with this name, and its line isn't that
+-- whether a scan fails for the refused program of the font file with this label, and its line isn't that
 -- of a known refusal
-abbrev pub is_unknown : Option FailOn → (List ℕ → Bool) → List ℕ → Refused → Bool
-is_unknown fail_on is_known font r = not (is_known (refusal_line font r)) && fails_for fail_on r
+abbrev pub is_unknown : Option FailOn → (List ℕ → Bool) → Label → Refused → Bool
+is_unknown fail_on is_known label r =
+    not (is_known (refusal_line label r)) && fails_for fail_on r

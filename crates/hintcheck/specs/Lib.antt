@@ -1,6 +1,7 @@
 pub mod CommandFaults
 pub mod Commands
 pub mod Explanations
+pub mod FontLabels
 pub mod JsonObjects
 pub mod KnownRefusals
 pub mod Listing
@@ -10,6 +11,5 @@ pub mod RefusalClasses
 pub mod Representation
 pub mod ScannedNames
 pub mod Scans
-pub mod SymbolicAnswers
 pub mod SymbolicExplanations
 pub mod Texts

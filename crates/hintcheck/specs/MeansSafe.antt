@@ -6,7 +6,7 @@ use Rattle.hintcheck_words.specs.HexWords.{Spells}
 use Rattle.hintcheck_words.specs.declared.words.FailOn.{FailOn}
 use Rattle.hintcheck_words.specs.declared.words.FailOn.TheVariants.{Possible}
 use Rattle.hintcheck_words.specs.declared.words.Profile.{Profile}
-use Rattle.hintcheck_words.specs.declared.words.Profile.TheVariants.{Strict, Symbolic}
+use Rattle.hintcheck_words.specs.declared.words.Profile.TheVariants.{Both, Strict, Symbolic}
 use Rattle.hintcheck_words.specs.declared.words.ScanOptions.{ScanOptions}
 use Rattle.hintcheck_words.specs.Requests.{Request, bare, check, explain, find, is_taken, list, meaning, scan, upgrade, verdict}
 use Rattle.hintcheck.specs.CommandFaults.{MeansNoFault, TellsFault}
@@ -17,69 +17,88 @@ use Rattle.hintcheck_programs.specs.FontPrograms.{IsSafeFont, IsSafeGlyph}
 use Rattle.hintcheck.specs.KnownRefusals.{fails_for, is_unknown}
 use Rattle.hintcheck.specs.Listing.{HoldUnlistedProgram}
 use Rattle.hintcheck_programs.specs.Programs.{HasGoodFamily, IsRefusal}
-use Rattle.hintcheck.specs.ScannedNames.{HoldsOfNames}
+use Rattle.hintcheck.specs.FontLabels.{Label}
+use Rattle.hintcheck.specs.ScannedNames.{HoldsOfScanned}
 use Rattle.hintcheck.specs.SymbolicExplanations.{HoldSymbolicAcceptedProgram, HoldSymbolicExplained, HoldSymbolicRefusedProgram}
-use Rattle.hintcheck.specs.SymbolicAnswers.{SpellGlyph, SpellSymbolicSafeGlyph, SpellSymbolicVerdict}
-use Rattle.hintcheck_fonts.specs.FontAnswers.{HoldRefusedFont, HoldSafeFont, HoldSymbolicRefusedFont, HoldSymbolicSafeFont, IsSymbolicVerdictOn, IsVerdictOn}
+use Rattle.hintcheck_fonts.specs.FontAnswers.{HoldRefusedFont, HoldSafeFont, HoldSymbolicRefusedFont, HoldSymbolicSafeFont, IsVerdictOn}
+use Rattle.hintcheck_fonts.specs.Requests.{IsSafeAsked, IsVerdictAsked as IsVerdictOf}
+use Rattle.hintcheck_fonts.specs.SymbolicVerdicts.{IsSafeAlone}
 use Rattle.hintcheck_programs.specs.Verdicts.{Judgement}
 use Rattle.hintcheck_fonts.specs.declared.request.Request.{Request as VerdictRequest}
 use Rattle.hintcheck_fonts.specs.declared.request.Request.TheVariants as asked
 use Rattle.hintcheck_report.specs.ReasonNumbers.{IsReasonWord}
 use Rattle.hintcheck_report.specs.declared.refused.Refused.{Refused}
 
--- The words spell a `maxp` table and a glyph program, which is safe in a font of only this glyph.
-pub record SpellSafeGlyph (maxp : List ℕ) (cvt points contours : ℕ)
-    (program : List ℕ) : Type 0 where
+-- The words spell a `maxp` table and a glyph program, of which this holds, of a glyph with this many
+-- points and contours.
+pub record SpellBare (maxp : List ℕ) (points contours : ℕ) (program : List ℕ)
+    (P : List ℕ → GlyphData → Type 0) : Type 0 where
   pub table : List ℕ
   pub table_spelled : Spells maxp table
   pub glyph : GlyphData
   pub points_are : glyph.points ≡ points
   pub contours_are : glyph.contours ≡ contours
   pub program_spelled : Spells program glyph.program
-  pub safe : IsSafeGlyph (bare_font table cvt glyph) glyph
+  pub holds : P table glyph
 
--- the words spell a `maxp` table and a glyph program, which is safe by this profile
-abbrev pub SpellSafeBy : Profile → List ℕ → ℕ → ℕ → ℕ → List ℕ → Type 0
-SpellSafeBy (Strict most) maxp cvt points contours program =
-    SpellSafeGlyph maxp cvt points contours program
-SpellSafeBy (Symbolic most) maxp cvt points contours program =
-    SpellSymbolicSafeGlyph maxp cvt points contours program
+-- the glyph's program is safe by this profile, or by one of both, in a font of only this glyph
+abbrev pub IsSafeBareBy : Profile → ℕ → List ℕ → GlyphData → Type 0
+IsSafeBareBy (Strict most) cvt table glyph = IsSafeGlyph (bare_font table cvt glyph) glyph
+IsSafeBareBy (Symbolic most) cvt table glyph = IsSafeAlone (bare_font table cvt glyph) glyph
+IsSafeBareBy (Both most) cvt table glyph = IsSafeGlyph (bare_font table cvt glyph) glyph
+    ⊎ IsSafeAlone (bare_font table cvt glyph) glyph
 
--- the bytes hold a font, whose programs are safe by this profile
+-- the bytes hold a font, whose programs are safe by this profile, or by one of both
 abbrev pub HoldSafeBy : Profile → List ℕ → Type 0
 HoldSafeBy (Strict points) bytes = HoldSafeFont bytes
 HoldSafeBy (Symbolic steps) bytes = HoldSymbolicSafeFont bytes
+HoldSafeBy (Both steps) bytes = HoldSafeFont bytes ⊎ HoldSymbolicSafeFont bytes
 
--- the bytes hold a font, and the word is the name of a program of it that is accepted by this profile
+-- the bytes hold a font, and the word is the name of a program of it that is accepted by this profile,
+-- or by one of both
 abbrev pub HoldAcceptedBy : Profile → List ℕ → List ℕ → Type 0
 HoldAcceptedBy (Strict points) bytes word = HoldAcceptedProgram bytes word
 HoldAcceptedBy (Symbolic steps) bytes word = HoldSymbolicAcceptedProgram bytes word
+HoldAcceptedBy (Both steps) bytes word =
+    HoldAcceptedProgram bytes word ⊎ HoldSymbolicAcceptedProgram bytes word
 
 -- the bytes hold a font, and the word is the name of a program of it, of which this is answered by
--- this profile
-abbrev pub HoldExplainedBy : Profile → List ℕ → List ℕ → Explained → Type 0
-HoldExplainedBy (Strict points) bytes word e = HoldExplained bytes word e
-HoldExplainedBy (Symbolic steps) bytes word e = HoldSymbolicExplained bytes word e
+-- the profile of this request
+abbrev pub HoldExplainedBy : VerdictRequest → List ℕ → List ℕ → Explained → Type 0
+HoldExplainedBy asked.Strict bytes word e = HoldExplained bytes word e
+HoldExplainedBy (asked.Symbolic steps) bytes word e = HoldSymbolicExplained bytes word e
 
--- the verdict is that of this profile on the font that is in the bytes
-abbrev pub IsVerdictBy : Profile → List ℕ → Judgement → Type 0
-IsVerdictBy (Strict points) bytes judgement = IsVerdictOn bytes judgement
-IsVerdictBy (Symbolic steps) bytes judgement = IsSymbolicVerdictOn bytes judgement
-
--- what is asked of a verdict by this profile, the symbolic one with some number of steps
+-- this is asked of a verdict by this profile, of the symbolic one with some number of steps; by both,
+-- it is one or the other
 abbrev pub IsRequestOf : Profile → VerdictRequest → Type 0
-IsRequestOf (Strict most) request = request ≡ asked.Strict
-IsRequestOf (Symbolic most) request = (steps : ℕ) × (request ≡ asked.Symbolic steps)
+IsRequestOf (Strict most) asked.Strict = Unit {0}
+IsRequestOf (Strict most) (asked.Symbolic steps) = ⊥
+IsRequestOf (Symbolic most) asked.Strict = ⊥
+IsRequestOf (Symbolic most) (asked.Symbolic steps) = Unit {0}
+IsRequestOf (Both most) request = Unit {0}
+
+-- by both profiles, a verdict of the strict one is told only where it refuses no program
+abbrev pub IsTold : Profile → VerdictRequest → Judgement → Type 0
+IsTold (Both most) asked.Strict judgement = judgement.refused ≡ []
+IsTold other request judgement = Unit {0}
+
+-- The verdict, for which this was asked, is told by this profile of the font that is in the bytes.
+pub record IsVerdictBy (profile : Profile) (by : VerdictRequest) (bytes : List ℕ)
+    (judgement : Judgement) : Type 0 where
+  pub asked : IsRequestOf profile by
+  pub given : IsVerdictOf by bytes judgement
+  pub told : IsTold profile by judgement
 
 -- The verdict of this profile on the font in the bytes refuses no program that counts. Those that it
 -- refuses are undecided, left out or known: this doesn't tell that they are safe.
 pub record HoldNoneCounted (profile : Profile) (does_count : Refused → Bool)
     (bytes : List ℕ) : Type 0 where
+  pub by : VerdictRequest
   pub judgement : Judgement
-  pub given : IsVerdictBy profile bytes judgement
+  pub given : IsVerdictBy profile by bytes judgement
   pub none : list_any does_count judgement.refused ≡ false
 
--- What status 0 of a scan tells of each font file: some bytes hold a font whose programs are safe
+-- What status 0 of a scan tells of each font file or face: some bytes hold a font whose programs are safe
 -- by this profile; or, where the scan fails for possible faults alone, whose verdict has none.
 abbrev pub HoldPassing : Option FailOn → Profile → List ℕ → Type 0
 HoldPassing (Some Possible) profile bytes =
@@ -89,34 +108,34 @@ HoldPassing other profile bytes = HoldSafeBy profile bytes
 -- What status 0 of a scan tells. With a file of known refusals it tells that each refused program for
 -- which it fails is known, by the line that names it: no contract of the runtime tells which lines
 -- the file has.
-abbrev pub IsSafeScan : ScanOptions → List (List ℕ) → Option (List ℕ) → Type 0
-IsSafeScan options fonts None =
-    All (λ font. (bytes : List ℕ) × HoldPassing options.fail_on options.profile bytes) fonts
-IsSafeScan options fonts (Some file) = (is_known : List ℕ → Bool) × All (λ font. (bytes : List ℕ)
-    × HoldNoneCounted options.profile (is_unknown options.fail_on is_known font) bytes) fonts
+abbrev pub IsSafeScan : ScanOptions → List Label → Option (List ℕ) → Type 0
+IsSafeScan options labels None =
+    All (λ l. (bytes : List ℕ) × HoldPassing options.fail_on options.profile bytes) labels
+IsSafeScan options labels (Some file) = (is_known : List ℕ → Bool) × All (λ l. (bytes : List ℕ)
+    × HoldNoneCounted options.profile (is_unknown options.fail_on is_known l) bytes) labels
 
 -- What is asked for is safe, where it names a profile by that one, and otherwise by the strict one:
 -- the glyph program of `bare`, which has no bytes where its word is left out. For `verdict`, `find`
 -- and `check`, some bytes hold a safe font: no contract of the runtime tells which bytes a file
--- has, so that these can't be named here. For `scan` this holds for each of the names; where it
+-- has, so that these can't be named here. For `scan` this holds for each file and face; where it
 -- fails for possible faults alone, no more than that the verdict on each has none of them; where it
 -- names a file of known refusals, that the verdict on each refuses no others. For `explain`, some
 -- bytes hold a font whose program of this name is accepted; without a name, a safe font, unless the
 -- font's word is the number of a reason. A listing and an upgrade tell nothing of safety.
 abbrev pub IsSafeRequest : Request → Type 0
 IsSafeRequest (bare maxp cvt points contours program profile) =
-    SpellSafeBy profile maxp cvt points contours (unwrap_or program [])
-IsSafeRequest (verdict font profile is_quiet) = (bytes : List ℕ) × HoldSafeBy profile bytes
-IsSafeRequest (scan fonts options expected) =
-    HoldsOfNames options.words fonts (λ names. IsSafeScan options names expected)
+    SpellBare maxp points contours (unwrap_or program []) (IsSafeBareBy profile cvt)
+IsSafeRequest (verdict font options) = (bytes : List ℕ) × HoldSafeBy options.profile bytes
+IsSafeRequest (scan fonts options texts) = HoldsOfScanned options.words fonts texts.name
+    (λ labels. IsSafeScan options labels texts.expected)
 IsSafeRequest (explain font None place options) =
     IsReasonWord font ⊎ ((bytes : List ℕ) × HoldSafeBy options.profile bytes)
 IsSafeRequest (explain font (Some program) place options) =
     (bytes : List ℕ) × HoldAcceptedBy options.profile bytes program
-IsSafeRequest (find font certificate budget) = (bytes : List ℕ) × HoldSafeFont bytes
-IsSafeRequest (check font certificate budget) = (bytes : List ℕ) × HoldSafeFont bytes
-IsSafeRequest (list font program detail) = Unit {0}
-IsSafeRequest (upgrade old new) = Unit {0}
+IsSafeRequest (find font certificate options) = (bytes : List ℕ) × HoldSafeFont bytes
+IsSafeRequest (check font certificate options) = (bytes : List ℕ) × HoldSafeFont bytes
+IsSafeRequest (list font program options) = Unit {0}
+IsSafeRequest (upgrade old new max_bytes) = Unit {0}
 
 -- The words ask for something, which is safe as `IsSafeRequest` says.
 pub record MeansSafe (words : List (List ℕ)) : Type 0 where
@@ -124,35 +143,24 @@ pub record MeansSafe (words : List (List ℕ)) : Type 0 where
   pub meant : meaning words ≡ Some request
   pub safe : IsSafeRequest request
 
--- The words spell a `maxp` table and a glyph program for which no family of abstract states is
--- good, in a font of only this glyph.
-pub record SpellRefusedGlyph (maxp : List ℕ) (cvt points contours : ℕ)
-    (program : List ℕ) : Type 0 where
-  pub table : List ℕ
-  pub table_spelled : Spells maxp table
-  pub glyph : GlyphData
-  pub points_are : glyph.points ≡ points
-  pub contours_are : glyph.contours ≡ contours
-  pub program_spelled : Spells program glyph.program
-  pub none_good : HasGoodFamily (bare_subject table cvt glyph) → ⊥
+-- by the strict profile, no family of abstract states is good for the glyph's program in a font of only
+-- this glyph; that another profile refuses it tells nothing of it
+abbrev pub IsRefusedBareBy : Profile → ℕ → List ℕ → GlyphData → Type 0
+IsRefusedBareBy (Strict most) cvt table glyph = HasGoodFamily (bare_subject table cvt glyph) → ⊥
+IsRefusedBareBy other cvt table glyph = Unit {0}
 
--- the words spell a `maxp` table and a program, which is refused by this profile: by the symbolic
--- one this tells nothing of it
-abbrev pub SpellRefusedBy : Profile → List ℕ → ℕ → ℕ → ℕ → List ℕ → Type 0
-SpellRefusedBy (Strict most) maxp cvt points contours program =
-    SpellRefusedGlyph maxp cvt points contours program
-SpellRefusedBy (Symbolic most) maxp cvt points contours program = SpellGlyph maxp program
-
--- the bytes hold a font, and its verdict by this profile names refused programs
+-- the bytes hold a font, and its verdict by this profile, of both by the symbolic one, names refused
+-- programs
 abbrev pub HoldRefusedBy : Profile → List ℕ → Type 0
 HoldRefusedBy (Strict points) bytes = HoldRefusedFont bytes
-HoldRefusedBy (Symbolic steps) bytes = HoldSymbolicRefusedFont bytes
+HoldRefusedBy other bytes = HoldSymbolicRefusedFont bytes
 
 -- The verdict of this profile on the font in the bytes refuses a program that counts.
 pub record HoldSomeCounted (profile : Profile) (does_count : Refused → Bool)
     (bytes : List ℕ) : Type 0 where
+  pub by : VerdictRequest
   pub judgement : Judgement
-  pub given : IsVerdictBy profile bytes judgement
+  pub given : IsVerdictBy profile by bytes judgement
   pub some : list_any does_count judgement.refused ≡ true
 
 -- What status 1 of a scan tells of a font file: some bytes hold a font whose verdict by this
@@ -167,34 +175,32 @@ HoldFailing other profile bytes = HoldRefusedBy profile bytes
 abbrev pub HoldUnacceptedBy : Profile → List ℕ → List ℕ → Type 0
 HoldUnacceptedBy (Strict points) bytes word = HoldRefusedProgram bytes word
 HoldUnacceptedBy (Symbolic steps) bytes word = HoldSymbolicRefusedProgram bytes word
+HoldUnacceptedBy (Both steps) bytes word =
+    HoldRefusedProgram bytes word ⊎ HoldSymbolicRefusedProgram bytes word
 
 -- The bytes hold a font.
 pub record HoldFont (bytes : List ℕ) : Type 0 where
   pub font : FontData
   pub reads : Reads bytes font
 
--- The words spell a `maxp` table and a glyph program, of which the verdict is this one: it names no
--- refused program exactly where a family of abstract states is good for the glyph program, and
--- otherwise that one, with what refuses it.
-pub record SpellVerdict (maxp : List ℕ) (cvt points contours : ℕ) (program : List ℕ)
-    (judgement : Judgement) : Type 0 where
-  pub table : List ℕ
-  pub table_spelled : Spells maxp table
-  pub glyph : GlyphData
-  pub points_are : glyph.points ≡ points
-  pub contours_are : glyph.contours ≡ contours
-  pub program_spelled : Spells program glyph.program
+-- by the strict profile the verdict names no refused program exactly where a family of abstract states is
+-- good for the glyph's program, and otherwise what refuses it is so; another profile tells nothing more
+abbrev pub IsExactBareBy : Profile → ℕ → List ℕ → GlyphData → List Refused → Type 0
+IsExactBareBy (Strict most) cvt table glyph refused =
+    (refused ≡ [] ↔ HasGoodFamily (bare_subject table cvt glyph))
+    × All (IsRefusal (bare_subject table cvt glyph)) refused
+IsExactBareBy other cvt table glyph refused = Unit {0}
+
+-- The verdict, for which this was asked, is told by this profile of one glyph's program, against the
+-- limits of this table.
+pub record IsBareVerdict (profile : Profile) (by : VerdictRequest) (cvt : ℕ)
+    (judgement : Judgement) (table : List ℕ) (glyph : GlyphData) : Type 0 where
+  pub asked : IsRequestOf profile by
+  pub told : IsTold profile by judgement
   pub one : judgement.programs ≡ 1
   pub few : length judgement.refused ≤ 1
-  pub exact : judgement.refused ≡ [] ↔ HasGoodFamily (bare_subject table cvt glyph)
-  pub refused : All (IsRefusal (bare_subject table cvt glyph)) judgement.refused
-
--- the verdict is that of this profile on the glyph program that the words spell
-abbrev pub SpellVerdictBy : Profile → List ℕ → ℕ → ℕ → ℕ → List ℕ → Judgement → Type 0
-SpellVerdictBy (Strict most) maxp cvt points contours program judgement =
-    SpellVerdict maxp cvt points contours program judgement
-SpellVerdictBy (Symbolic most) maxp cvt points contours program judgement =
-    SpellSymbolicVerdict maxp cvt points contours program judgement
+  pub safe : judgement.refused ≡ [] → IsSafeAsked by (bare_font table cvt glyph) glyph
+  pub exact : IsExactBareBy profile cvt table glyph judgement.refused
 
 -- The verdict counts the programs of the font that is in the bytes; where it names no refused one,
 -- the font is safe. Which ones a check by a certificate refuses isn't said: no contract of the
@@ -205,30 +211,29 @@ pub record IsCheckOn (bytes : List ℕ) (judgement : Judgement) : Type 0 where
   pub programs : judgement.programs ≡ length font.glyphs + 2
   pub safe : judgement.refused ≡ [] → IsSafeFont font
 
--- The verdict is the one that is asked for: on the glyph program of `bare`; and for `verdict`,
--- `find` and `check` on a font that some bytes hold. The others ask for no verdict of this kind.
-abbrev pub IsVerdictAsked : Request → Judgement → Type 0
-IsVerdictAsked (bare maxp cvt points contours program profile) judgement =
-    SpellVerdictBy profile maxp cvt points contours (unwrap_or program []) judgement
-IsVerdictAsked (verdict font profile is_quiet) judgement =
-    (bytes : List ℕ) × IsVerdictBy profile bytes judgement
-IsVerdictAsked (find font certificate budget) judgement =
-    (bytes : List ℕ) × IsVerdictOn bytes judgement
-IsVerdictAsked (check font certificate budget) judgement =
-    (bytes : List ℕ) × IsCheckOn bytes judgement
-IsVerdictAsked (scan fonts options expected) judgement = ⊥
-IsVerdictAsked (explain font program place options) judgement = ⊥
-IsVerdictAsked (list font program detail) judgement = ⊥
-IsVerdictAsked (upgrade old new) judgement = ⊥
+-- The verdict, made as is told, is the one that the words ask for: on the glyph program of `bare`; and for
+-- `verdict`, `find` and `check` on a font that some bytes hold, for the last two by the strict profile.
+-- The others ask for no verdict of this kind.
+abbrev pub IsVerdictAsked : Request → VerdictRequest → Judgement → Type 0
+IsVerdictAsked (bare maxp cvt points contours program profile) by judgement =
+    SpellBare maxp points contours (unwrap_or program [])
+    (IsBareVerdict profile by cvt judgement)
+IsVerdictAsked (verdict font options) by judgement =
+    (bytes : List ℕ) × IsVerdictBy options.profile by bytes judgement
+IsVerdictAsked (find font certificate options) by judgement =
+    (by ≡ asked.Strict) × ((bytes : List ℕ) × IsVerdictOn bytes judgement)
+IsVerdictAsked (check font certificate options) by judgement =
+    (by ≡ asked.Strict) × ((bytes : List ℕ) × IsCheckOn bytes judgement)
+IsVerdictAsked other by judgement = ⊥
 
 -- What status 1 of a scan tells: a font file fails; with a file of known refusals, its verdict refuses
 -- a program for which the scan fails, and which isn't known.
-abbrev pub IsRefusedScan : ScanOptions → List (List ℕ) → Option (List ℕ) → Type 0
-IsRefusedScan options fonts None =
+abbrev pub IsRefusedScan : ScanOptions → List Label → Option (List ℕ) → Type 0
+IsRefusedScan options labels None =
     (bytes : List ℕ) × HoldFailing options.fail_on options.profile bytes
-IsRefusedScan options fonts (Some file) = (is_known : List ℕ → Bool) × (font bytes : List ℕ)
-    × Contains fonts font
-    × HoldSomeCounted options.profile (is_unknown options.fail_on is_known font) bytes
+IsRefusedScan options labels (Some file) = (is_known : List ℕ → Bool) × (label : Label)
+    × (bytes : List ℕ) × Contains labels label
+    × HoldSomeCounted options.profile (is_unknown options.fail_on is_known label) bytes
 
 -- What is asked for is refused: the glyph program of `bare`. For `verdict`, `find` and `scan`, some
 -- bytes hold a font whose verdict names refused programs, for `scan` some for which it fails, and
@@ -238,18 +243,18 @@ IsRefusedScan options fonts (Some file) = (is_known : List ℕ → Bool) × (fon
 -- whose program of this name can't be cut or isn't structured. An upgrade is never refused.
 abbrev pub IsRefusedRequest : Request → Type 0
 IsRefusedRequest (bare maxp cvt points contours program profile) =
-    SpellRefusedBy profile maxp cvt points contours (unwrap_or program [])
-IsRefusedRequest (verdict font profile is_quiet) = (bytes : List ℕ) × HoldRefusedBy profile bytes
-IsRefusedRequest (scan fonts options expected) =
-    HoldsOfNames options.words fonts (λ names. IsRefusedScan options names expected)
+    SpellBare maxp points contours (unwrap_or program []) (IsRefusedBareBy profile cvt)
+IsRefusedRequest (verdict font options) = (bytes : List ℕ) × HoldRefusedBy options.profile bytes
+IsRefusedRequest (scan fonts options texts) = HoldsOfScanned options.words fonts texts.name
+    (λ labels. IsRefusedScan options labels texts.expected)
 IsRefusedRequest (explain font None place options) =
     (bytes : List ℕ) × HoldRefusedBy options.profile bytes
 IsRefusedRequest (explain font (Some program) place options) =
     (bytes : List ℕ) × HoldUnacceptedBy options.profile bytes program
-IsRefusedRequest (find font certificate budget) = (bytes : List ℕ) × HoldRefusedFont bytes
-IsRefusedRequest (check font certificate budget) = (bytes : List ℕ) × HoldFont bytes
-IsRefusedRequest (list font program detail) = (bytes : List ℕ) × HoldUnlistedProgram bytes program
-IsRefusedRequest (upgrade old new) = ⊥
+IsRefusedRequest (find font certificate options) = (bytes : List ℕ) × HoldRefusedFont bytes
+IsRefusedRequest (check font certificate options) = (bytes : List ℕ) × HoldFont bytes
+IsRefusedRequest (list font program options) = (bytes : List ℕ) × HoldUnlistedProgram bytes program
+IsRefusedRequest (upgrade old new max_bytes) = ⊥
 
 -- The words ask for something, which is refused.
 pub record MeansRefused (words : List (List ℕ)) : Type 0 where

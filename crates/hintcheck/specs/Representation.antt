@@ -2,3 +2,4 @@
 -- no public one does.
 pub mod Answers
 pub mod Known
+pub mod ScannedFiles

@@ -1,5 +1,6 @@
--- What a scan prints: a line or an object for each font file, and the exit status that these have together.
-use Rattle.std.specs.Prelude.{◌≡◌, ◌&&◌, ℕ, zero, suc, All, Bool, codes, true, false, flat_map, if◌then◌else◌, List, [], ◌∷◌, ◌++◌, length, map, max, None, Option, Some}
+-- What a scan prints: a line or an object for each font file or face, and the exit status that these have
+-- together.
+use Rattle.std.specs.Prelude.{◌≡◌, ◌&&◌, not, ℕ, zero, suc, All, Bool, codes, true, false, flat_map, if◌then◌else◌, List, [], ◌∷◌, ◌++◌, length, map, max, None, Option, Some}
 use Rattle.std.specs.Char.{is_ascii_control}
 use Rattle.std.specs.Fmt.{decimal}
 use Rattle.std.specs.Io.KnownBytes.{Appends}
@@ -9,37 +10,46 @@ use Rattle.tt_code.specs.declared.reason.ReasonClass.{ReasonClass}
 use Rattle.tt_code.specs.declared.reason.ReasonClass.TheVariants.{PossibleFault, Undecided, LeftOut}
 use Rattle.tt_setting.specs.declared.name.Name.{Name}
 use Rattle.tt_setting.specs.declared.name.Name.TheVariants as name
+use Rattle.hintcheck_words.specs.declared.words.AskedNeeds.{AskedNeeds}
+use Rattle.hintcheck_words.specs.declared.words.AskedNeeds.TheVariants as needs
 use Rattle.hintcheck_words.specs.declared.words.Format.{Format}
 use Rattle.hintcheck_words.specs.declared.words.Format.TheVariants.{Lines, Json}
 use Rattle.hintcheck_words.specs.declared.words.Profile.{Profile}
 use Rattle.hintcheck_words.specs.declared.words.ScanOptions.{ScanOptions}
 use Rattle.hintcheck.specs.Commands.{status_of}
 use Rattle.hintcheck.specs.CommandFaults.{IsFaultOfFontFile}
-use Rattle.hintcheck.specs.JsonObjects.{beginning}
+use Rattle.hintcheck.specs.FontLabels.{Label, face_text}
+use Rattle.hintcheck.specs.JsonObjects.{beginning, profile_name, request_name}
 use Rattle.hintcheck.specs.KnownRefusals.{fails_for, is_unknown, none_known}
 use Rattle.hintcheck.specs.Listing.{hex_digits}
 use Rattle.hintcheck.specs.MeansSafe.{IsVerdictBy}
 use Rattle.hintcheck.specs.RefusalClasses.{class_text, number_of_class}
 use Rattle.hintcheck.specs.Texts.{profile_text}
+use Rattle.hintcheck_fonts.specs.declared.request.Request.{Request as VerdictRequest}
 use Rattle.hintcheck_programs.specs.Verdicts.{Judgement}
 use Rattle.hintcheck.specs.declared.commands.faults.CommandFault.{CommandFault}
 use Rattle.hintcheck_report.specs.declared.refused.Refused.{Refused}
 
--- what comes of a font file: the verdict on the font; or why there is none
+-- what comes of a font file: the verdict on the font, and as what it was asked for; or why there is none
 pub data Answer : Type 0 where
-  judged : Judgement → Answer
+  judged : VerdictRequest → Judgement → Answer
   unread : CommandFault → Answer
 
 -- The verdict is that of this profile on the font in some bytes: no contract of the runtime tells
 -- that they are those of the file. Or the fault is one of a font file.
 abbrev pub IsAnswer : Profile → Answer → Type 0
-IsAnswer profile (judged judgement) = (bytes : List ℕ) × IsVerdictBy profile bytes judgement
+IsAnswer profile (judged by judgement) =
+    (bytes : List ℕ) × IsVerdictBy profile by bytes judgement
 IsAnswer profile (unread reported) = IsFaultOfFontFile reported
 
--- the exit status of a font file alone: of a verdict it is 1 where a refused program counts
+-- the exit status of a verdict that refuses these programs: 1 where one of them counts
+abbrev pub status_of_refused : (Refused → Bool) → List Refused → ℕ
+status_of_refused does_count refused = if list_any does_count refused then 1 else 0
+
+-- the exit status of a font file alone
 abbrev pub status_of_answer : (Refused → Bool) → Answer → ℕ
-status_of_answer does_count (judged judgement) =
-    if list_any does_count judgement.refused then 1 else 0
+status_of_answer does_count (judged by judgement) =
+    status_of_refused does_count judgement.refused
 status_of_answer does_count (unread reported) = status_of reported
 
 -- how many programs do what is left out, where some do
@@ -78,18 +88,19 @@ shown_byte b = if is_ascii_control b then codes "\\x" ++ hex_digits (b ∷ []) e
 
 -- what follows the name of a font file in its line: its verdict, with the profile; of a fault only
 -- that it is one, since its text is left unspecified
-abbrev pub answer_text : Profile → Answer → List ℕ
-answer_text profile (judged judgement) = codes ": "
-    ++ ((summary judgement.programs judgement.refused ++ profile_text profile) ++ codes "\n")
-answer_text profile (unread reported) = codes ": fault: "
+abbrev pub answer_text : Answer → List ℕ
+answer_text (judged by judgement) = codes ": "
+    ++ ((summary judgement.programs judgement.refused ++ profile_text by) ++ codes "\n")
+answer_text (unread reported) = codes ": fault: "
 
--- the line of a font file with this name
-abbrev pub line_of : Profile → List ℕ → Answer → List ℕ
-line_of profile name answer = flat_map shown_byte name ++ answer_text profile answer
+-- the line of a font file with this label
+abbrev pub line_of : Label → Answer → List ℕ
+line_of label answer =
+    (flat_map shown_byte label.file ++ face_text label.face) ++ answer_text answer
 
--- A font file that was scanned: its name, what came of it, and what more is told of it.
+-- A font file that was scanned: its label, what came of it, and what more is told of it.
 pub record Scanned : Type 0 where
-  pub name : List ℕ
+  pub label : Label
   pub answer : Answer
   pub more : List ℕ
 
@@ -106,55 +117,75 @@ names_none (r ∷ rs) = false
 
 -- whether nothing is printed of a font file: where a scan is quiet, of one that is accepted
 abbrev pub is_silent : ScanOptions → Answer → Bool
-is_silent options (judged judgement) = options.is_quiet && names_none judgement.refused
+is_silent options (judged by judgement) = options.is_quiet && names_none judgement.refused
 is_silent options (unread reported) = false
 
+-- the profile in a word: the one whose verdict it is; without a verdict the one that is asked for
+abbrev pub profile_word : Profile → Answer → List ℕ
+profile_word profile (judged by judgement) = request_name by
+profile_word profile (unread reported) = profile_name profile
+
 -- the line of a font file, or the beginning of its object, which tells its exit status
-abbrev pub first_text : ScanOptions → List ℕ → Answer → List ℕ
-first_text options name answer = in_format options.format (line_of options.profile name answer)
-    (beginning name options.profile (status_of_answer (fails_for options.fail_on) answer))
+abbrev pub first_text : ScanOptions → Label → Answer → List ℕ
+first_text options label answer = in_format options.format (line_of label answer)
+    (beginning label (profile_word options.profile answer)
+    (status_of_answer (fails_for options.fail_on) answer))
 
 -- what is printed of a font file: its line, or the beginning of its object, and then more; or nothing
 abbrev pub text_of : ScanOptions → Scanned → List ℕ
 text_of options s =
-    (if is_silent options s.answer then [] else first_text options s.name s.answer) ++ s.more
+    (if is_silent options s.answer then [] else first_text options s.label s.answer) ++ s.more
 
--- what more is told is left unspecified, but where lines alone are asked for, after a verdict's there is
--- nothing
-abbrev pub HasMore : Format → Answer → List ℕ → Type 0
-HasMore Lines (judged judgement) more = more ≡ []
+-- whether this is the form of lines
+abbrev pub are_lines : Format → Bool
+are_lines Lines = true
+are_lines Json = false
+
+-- whether no needs are asked for
+abbrev pub asks_no_needs : AskedNeeds → Bool
+asks_no_needs needs.None = true
+asks_no_needs other = false
+
+-- whether lines alone are asked for
+abbrev pub asks_lines_alone : ScanOptions → Bool
+asks_lines_alone options =
+    (are_lines options.format && not options.has_causes) && asks_no_needs options.needs
+
+-- what more is told is left unspecified, but where lines are alone, after a verdict's there is nothing
+abbrev pub HasMore : Bool → Answer → List ℕ → Type 0
+HasMore true (judged by judgement) more = more ≡ []
 HasMore other answer more = Unit {0}
 
--- What these options ask for was printed of a font file with this name.
-pub record TellsFont (options : ScanOptions) (name : List ℕ) (answer : Answer)
+-- What these options ask for was printed of a font file with this label.
+pub record TellsFont (options : ScanOptions) (is_alone : Bool) (label : Label) (answer : Answer)
     (old new : Option (List ℕ)) : Type 0 where
   pub more : List ℕ
-  pub has : HasMore options.format answer more
+  pub has : HasMore is_alone answer more
   pub written : Appends old new
-      (text_of options (record { name = name; answer = answer; more = more }))
+      (text_of options (record { label = label; answer = answer; more = more }))
 
 -- the greatest exit status of font files, 0 of none, where these refused programs of each count
-abbrev pub greatest_status : (List ℕ → Refused → Bool) → List Scanned → ℕ
+abbrev pub greatest_status : (Label → Refused → Bool) → List Scanned → ℕ
 greatest_status does_count [] = 0
 greatest_status does_count (s ∷ others) =
-    max (status_of_answer (does_count s.name) s.answer) (greatest_status does_count others)
+    max (status_of_answer (does_count s.label) s.answer) (greatest_status does_count others)
 
--- The files with these names were scanned with these options, this is the greatest exit status of
--- them, where refused programs count whose lines aren't known, and their lines or objects were
--- written in the order of the names, where the written bytes are known.
-pub record PrintsScan (options : ScanOptions) (is_known : List ℕ → Bool) (names : List (List ℕ))
-    (status : ℕ) (old new : Option (List ℕ)) : Type 0 where
+-- Font files with these labels were scanned with these options, this is the greatest exit status of
+-- them, where refused programs count whose lines aren't known, and their lines, which are alone or
+-- not, or objects were written in the order of the labels, where the written bytes are known.
+pub record PrintsScan (options : ScanOptions) (is_alone : Bool) (is_known : List ℕ → Bool)
+    (labels : List Label) (status : ℕ) (old new : Option (List ℕ)) : Type 0 where
   pub scanned : List Scanned
-  pub names_are : map (λ s. s.name) scanned ≡ names
+  pub labels_are : map (λ s. s.label) scanned ≡ labels
   pub answers : All (λ s. IsAnswer options.profile s.answer) scanned
-  pub told : All (λ s. HasMore options.format s.answer s.more) scanned
+  pub told : All (λ s. HasMore is_alone s.answer s.more) scanned
   pub greatest : status ≡ greatest_status (is_unknown options.fail_on is_known) scanned
   pub written : Appends old new (flat_map (text_of options) scanned)
 
 -- what a scan prints, with a file of known refusals or without one
-abbrev pub PrintsScanning : ScanOptions → List (List ℕ) → Option (List ℕ) → ℕ
+abbrev pub PrintsScanning : ScanOptions → List Label → Option (List ℕ) → ℕ
     → Option (List ℕ) → Option (List ℕ) → Type 0
-PrintsScanning options names None status old new =
-    PrintsScan options none_known names status old new
-PrintsScanning options names (Some file) status old new =
-    (is_known : List ℕ → Bool) × PrintsScan options is_known names status old new
+PrintsScanning options labels None status old new =
+    PrintsScan options (asks_lines_alone options) none_known labels status old new
+PrintsScanning options labels (Some file) status old new =
+    (is_known : List ℕ → Bool) × PrintsScan options false is_known labels status old new

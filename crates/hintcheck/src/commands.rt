@@ -7,7 +7,7 @@ ghost use Rattle.hintcheck.specs.Representation.Answers.{IsAnswered, IsNoVerdict
 ghost use Rattle.hintcheck.specs.Commands.{IsForVerdict, TellsFailure, status_of};
 ghost use Rattle.hintcheck.specs.CommandFaults.{IsFaultOfTask, MeansNoFault, TellsFault, TellsNoTask};
 ghost use Rattle.hintcheck.specs.MeansSafe.{MeansRefused, MeansSafe};
-ghost use Rattle.hintcheck.specs.Printed.{MeansPrinted, TellsPrinted, asks_last_line as asks_last_line_of, profile_of};
+ghost use Rattle.hintcheck.specs.Printed.{MeansPrinted, TellsPrinted, asks_last_line as asks_last_line_of};
 
 mod bare_task;
 mod cause_lines;
@@ -18,11 +18,15 @@ mod explain_reason;
 pub mod faults;
 mod files;
 mod find_task;
+mod font_bytes;
+mod font_label;
 mod json_objects;
 mod known_refusals;
 mod list_task;
 mod listed_names;
 mod need_lines;
+mod scan_lines;
+mod scan_more;
 mod scan_summary;
 mod scan_task;
 mod shown_names;
@@ -31,16 +35,15 @@ mod verdict_lines;
 mod verdict_task;
 
 use crate::asked_site::asked_site;
-use crate::explanation::ExplainRequest;
 use bare_task::{BareWords, bare_verdict, word_or_empty};
 use check_task::check_verdict;
 use explain_font::explain_of_font;
-use explain_program::explain_of_file;
+use explain_program::{ExplainRequest, explain_of_file};
 use explain_reason::{reason_called, tell_reason};
-use faults::CommandFault;
+use faults::{CommandFault, FileWord};
 use find_task::find_verdict;
-use hintcheck_programs::report::Verdict;
-use hintcheck_words::{ExplainOptions, Profile, Task, TaskFault, read_words};
+use hintcheck_fonts::Judged;
+use hintcheck_words::{ExplainOptions, Task, TaskFault, read_words};
 use list_task::list_of_file;
 use scan_task::scan_words;
 use std::alloc::AllocError;
@@ -48,7 +51,7 @@ use std::rt::Files;
 use tt_stream::Sink;
 use upgrade_task::tell_upgrade;
 use verdict_lines::tell_verdict;
-use verdict_task::judged_font;
+use verdict_task::file_verdict;
 
 /// The exit status where every program is accepted, a certificate is upgraded, or help was asked
 /// for.
@@ -57,32 +60,21 @@ const ACCEPTED: u8 = 0;
 /// The exit status where a program is refused.
 const REFUSED: u8 = 1;
 
-/// Returns the profile by which the verdict that the task asks for is made.
-#[tactic(auto, unfolding(hintcheck_words::specs::Requests::asked))]
-fn profile_of_task(task: &Task) -> Profile
-    ensures { result ≡ profile_of (asked task.now) }
-{
-    match task {
-        Task::Bare { profile, .. } | Task::Verdict { profile, .. } => *profile,
-        _ => Profile::Strict { points: None },
-    }
-}
-
 /// Whether the task asks for the last line of the verdict alone.
 #[tactic(auto, unfolding(hintcheck_words::specs::Requests::asked))]
 fn asks_last_line(task: &Task) -> bool
     ensures { result ≡ asks_last_line_of (asked task.now) }
 {
     match task {
-        Task::Verdict { is_quiet, .. } => *is_quiet,
+        Task::Verdict { options, .. } => options.is_quiet,
         _ => false,
     }
 }
 
 /// Returns the verdict that the task asks for.
-fn verdict_on<R: Files + AllocGlobal>(rt: &R, task: &Task) -> Result<Verdict, CommandFault>
+fn verdict_on<R: Files + AllocGlobal>(rt: &R, task: &Task) -> Result<Judged, CommandFault>
     requires { IsForVerdict (asked task.now) }
-    ensures given { IfOk result (IsVerdictFor (asked task.now)) }
+    ensures given { IfOk result (λ j. IsVerdictFor (asked task.now) j.by j.verdict) }
     ensures faults { IfErr result (IsNoVerdictFor (asked task.now)) }
 {
     match task {
@@ -103,17 +95,17 @@ fn verdict_on<R: Files + AllocGlobal>(rt: &R, task: &Task) -> Result<Verdict, Co
             };
             bare_verdict(rt.alloc(), words, *profile)
         }
-        Task::Verdict { font, profile, .. } => Ok(judged_font(rt, font, *profile)?.verdict),
+        Task::Verdict { font, options } => file_verdict(rt, font, *options),
         Task::Find {
             font,
             certificate,
-            budget,
-        } => find_verdict(rt, font, certificate, *budget),
+            options,
+        } => find_verdict(rt, font, certificate, *options),
         Task::Check {
             font,
             certificate,
-            budget,
-        } => check_verdict(rt, font, certificate, *budget),
+            options,
+        } => check_verdict(rt, font, certificate, *options),
         Task::Scan { .. } | Task::Explain { .. } | Task::List { .. } | Task::Upgrade { .. } => {
             unreachable!()
         }
@@ -162,10 +154,11 @@ fn tell_explanation<R: Files + AllocGlobal, O: Sink>(
 /// no offset, and `OffsetWord` for an offset at which no instruction begins; `ClassWord` where a scan
 /// is to fail for reasons of a class that doesn't exist; `ExpectedWord` and `FontWord` where a font
 /// can't be in a scan with its file of known refusals, and `KnownLine` for the first line of that file
-/// that names none; `Budget` where more points were to be made than `--points` allows;
-/// `CertificateWord` where a font's file is to be its certificate's; `NewWord` where an old
-/// certificate's file is to be the new one's; `Font` for the first fault of the font or of `bare`'s
-/// `maxp`, which may be that memory ran out; `Form`, `NoCertificate`, `Unopened`, `Read`, `File` and
+/// that names none; `NameWord` where a name is given for other than one font; `Budget` where more steps
+/// were to be made than `--max-steps` allows; `CertificateWord` where a font's file is to be its
+/// certificate's; `NewWord` where an old certificate's file is to be the new one's; `Font` for the first
+/// fault of the font or of `bare`'s `maxp`, which may be that memory ran out; `Collection` and
+/// `ManyFaces` for a collection; `Form`, `NoCertificate`, `Unopened`, `TooLong`, `Read`, `File` and
 /// `OutOfMemory`.
 fn do_task<R: Files + AllocGlobal, O: Sink, E: Sink>(
     rt: &R,
@@ -183,8 +176,8 @@ fn do_task<R: Files + AllocGlobal, O: Sink, E: Sink>(
         Task::Scan {
             fonts,
             options,
-            expected,
-        } => scan_words(rt, fonts, *options, expected, out, err),
+            texts,
+        } => scan_words(rt, fonts, *options, texts, out, err),
         Task::Explain {
             font,
             program,
@@ -194,15 +187,14 @@ fn do_task<R: Files + AllocGlobal, O: Sink, E: Sink>(
         Task::List {
             font,
             program,
-            detail,
-        } => list_of_file(rt, font, program, *detail, out),
-        Task::Upgrade { old, new } => tell_upgrade(rt, old, new, out),
-        task => tell_verdict(
-            out,
-            verdict_on(rt, task)?,
-            profile_of_task(task),
-            asks_last_line(task),
-        ),
+            options,
+        } => list_of_file(rt, font, program, *options, out),
+        Task::Upgrade {
+            old,
+            new,
+            max_bytes,
+        } => tell_upgrade(rt, old, new, *max_bytes, out),
+        task => tell_verdict(out, verdict_on(rt, task)?, asks_last_line(task)),
     }
 }
 
@@ -246,7 +238,11 @@ pub fn command<R: Files + AllocGlobal, O: Sink, E: Sink>(
     match read_words(rt.alloc(), words) {
         Ok(task) => match do_task(rt, &task, out, err) {
             Ok(status) => status,
-            Err(fault) => tell(err, &fault),
+            Err(fault) => {
+                let status = tell(err, &fault);
+                tell_note(err, &task, &fault);
+                status
+            }
         },
         Err(fault) => tell_words(fault, out, err),
     }
@@ -286,4 +282,36 @@ fn tell<E: Sink>(err: &mut E, fault: &CommandFault) -> u8
         fault => writeln!(err, "fault: {fault}"),
     };
     fault.status()
+}
+
+/// Returns the name of the file that this word of the task names, if it has the word.
+fn file_named(task: &Task, word: FileWord) -> Option<&str> {
+    let name = match (task, word) {
+        (Task::Scan { texts, .. }, FileWord::Known) => texts.expected.as_ref()?,
+        (Task::Scan { fonts, .. }, FileWord::List(number)) => fonts.get(number)?,
+        (Task::Verdict { font, .. }, FileWord::Font)
+        | (Task::Explain { font, .. }, FileWord::Font)
+        | (Task::List { font, .. }, FileWord::Font)
+        | (Task::Find { font, .. }, FileWord::Font)
+        | (Task::Check { font, .. }, FileWord::Font) => font,
+        (Task::Check { certificate, .. }, FileWord::Certificate) => certificate,
+        (Task::Upgrade { old, .. }, FileWord::Old) => old,
+        _ => return None,
+    };
+    Some(name.as_str())
+}
+
+/// Prints what helps the user with the fault of a task, in a line of its own, if there is something. That
+/// it can't be printed is not told.
+fn tell_note<E: Sink>(err: &mut E, task: &Task, fault: &CommandFault)
+    ensures untold { E.failures err.old ≤ E.failures err.new }
+{
+    let Some(note) = fault.note() else {
+        return;
+    };
+    let name = fault.file_word().and_then(|word| file_named(task, word));
+    let _ = match name {
+        Some(name) => writeln!(err, "note: {name}: {note}"),
+        None => writeln!(err, "note: {note}"),
+    };
 }

@@ -22,12 +22,11 @@ use crate::font_file::font_in;
 use crate::instruction_list::named_program;
 use crate::symbolic_explanation::explain_symbolically;
 use hintcheck_explain::{Asked, Explained, Site, explain, explain_unread};
-use hintcheck_fonts::symbolic_verdict::USUAL_STEPS;
+use hintcheck_fonts::Request;
 use hintcheck_programs::finding::Finding;
 use hintcheck_programs::program::{Search, cut};
 use hintcheck_programs::programs::{FontPrograms, Next, Programs};
 use hintcheck_programs::report::{Name, Outcome, Refused};
-use hintcheck_words::{ExplainOptions, Profile};
 use std::alloc::{AllocError, Global};
 use tt_abs::{Refusal, Setting};
 use tt_family::Budget;
@@ -230,25 +229,25 @@ fn explain_named<O: Sink>(
     explain_judged(alloc, &mut programs, &mut judge, called, site, budget, out)
 }
 
-/// Which program of a font is explained, and how.
+/// Which program of a font is explained, and by which profile.
 #[derive(Clone, Copy)]
-pub(crate) struct ExplainRequest<'a> {
+pub(crate) struct ProgramRequest<'a> {
     /// The word that names the program.
     pub word: &'a str,
     /// Where what is known is asked for, if it is.
     pub site: Option<Site>,
-    /// How it is explained.
-    pub options: ExplainOptions,
+    /// What is asked of the verdict.
+    pub by: Request,
 }
 
 /// Explains one program of the font in these bytes, the one that the word names, by the profile that
 /// is asked for, and returns whether it is accepted; where it isn't checked since the font program or
 /// the CVT program is refused, how that one is refused. With a site the explanation tells what is known
 /// there: at an instruction of the program, or of the font program or the CVT program where this
-/// program calls a function that one defines. By the strict profile at most as many points are made as
+/// program calls a function that one defines. By the strict profile at most as many steps are made as
 /// the budget allows: also for the programs before the named one, and for the searches with greater
 /// limits by which a refused one is explained. By the symbolic one a program is refused for which the
-/// steps that the request allows are too few, or without such a bound those of `verdict_symbolic`.
+/// steps that the request allows are too few.
 ///
 /// # Errors
 /// The faults of `Font::read`; `ProgramName` where the word is the name of none of the font's
@@ -257,28 +256,23 @@ pub(crate) struct ExplainRequest<'a> {
 pub(crate) fn explain_word<O: Sink>(
     alloc: Global,
     font: &[u8],
-    request: ExplainRequest<'_>,
+    request: ProgramRequest<'_>,
     points: &mut Budget,
     out: &mut O,
 ) -> Result<Explained, CommandFault>
     ensures answered { IfOk result
-        (HoldExplainedBy request.entry.options.profile font.now request.entry.word.now) }
+        (HoldExplainedBy request.entry.by font.now request.entry.word.now) }
     ensures failures { TellsFailure result (O.failures out.old) (O.failures out.new) }
 {
-    let ExplainRequest {
-        word,
-        site,
-        options,
-    } = request;
+    let ProgramRequest { word, site, by } = request;
     let read = font_in(alloc, font)?;
     let Some(named) = named_program(alloc, font, &read, word)? else {
         return Err(CommandFault::ProgramName);
     };
     check_site(&read, named.bytes, site)?;
-    match options.profile {
-        Profile::Strict { .. } => explain_named(alloc, &read, named.name, site, points, out),
-        Profile::Symbolic { steps } => {
-            let steps = steps.unwrap_or(USUAL_STEPS);
+    match by {
+        Request::Strict => explain_named(alloc, &read, named.name, site, points, out),
+        Request::Symbolic { steps } => {
             explain_symbolically(alloc, &read, named, site, steps, out)
         }
     }

@@ -29,8 +29,8 @@ impl fmt::Display for Neighbour {
     }
 }
 
-/// What is around an offset of a program at which no instruction begins. Its text follows the
-/// fault's own.
+/// What is around an offset of a program at which no instruction begins. Its text follows another
+/// one.
 #[derive(Clone, Copy, Debug, PartialEq, Eq)]
 pub enum Neighbours {
     /// The last instruction before it, and the first one after it.

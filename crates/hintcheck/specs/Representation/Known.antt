@@ -1,6 +1,8 @@
--- Which lines are those of known refusals, as the code keeps them.
-use Rattle.std.specs.Prelude.{Bool, List, false, true, ℕ}
+-- Which lines are those of known refusals, as the code keeps them, and what is told with a file of them.
+use Rattle.std.specs.Prelude.{Bool, List, false, ℕ}
 use Rattle.std.specs.HashSet.{contains_text}
+use Rattle.hintcheck_words.specs.declared.words.ScanOptions.{ScanOptions}
+use Rattle.hintcheck.specs.Scans.{asks_lines_alone}
 use Rattle.hintcheck.specs.declared.commands.known_refusals.Known.{Known}
 use Rattle.hintcheck.specs.declared.commands.known_refusals.Known.TheVariants as known
 
@@ -8,4 +10,8 @@ use Rattle.hintcheck.specs.declared.commands.known_refusals.Known.TheVariants as
 abbrev pub is_known_by : Known → List ℕ → Bool
 is_known_by known.Nothing line = false
 is_known_by (known.Lines lines) line = contains_text lines line
-is_known_by (known.All file) line = true
+
+-- whether the lines of a scan with these options are alone: no file of known refusals is named either
+abbrev pub are_alone : ScanOptions → Known → Bool
+are_alone options known.Nothing = asks_lines_alone options
+are_alone options (known.Lines lines) = false

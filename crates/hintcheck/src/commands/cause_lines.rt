@@ -1,9 +1,11 @@
-//! The lines that tell the causes for which programs of a font are refused.
+//! The causes for which programs of a font are refused, in lines or as a member of an object.
 
-use super::scan_task::text_of_class;
-use crate::causes::Cause;
+use super::json_objects::{Shown, json_text};
+use super::scan_lines::text_of_class;
+use crate::causes::{Cause, causes_of};
 use crate::glyph_names::called;
-use hintcheck_programs::report::{Name, Place};
+use hintcheck_programs::report::{Name, Place, Refused};
+use serde::Serialize;
 use std::alloc::{AllocError, Global};
 use tt_names::GlyphNames;
 
@@ -69,4 +71,55 @@ pub(super) fn causes_text(
         text.push_str(&line)?;
     }
     Ok(text)
+}
+
+/// A cause, as an object tells it.
+#[derive(Drop, Serialize)]
+struct CauseObject<'a> {
+    /// How many programs are refused for it.
+    programs: usize,
+    /// The program that holds the place, where it is the font program or the CVT program.
+    #[serde(skip_serializing_if = "Option::is_none")]
+    place: Option<Shown<Name>>,
+    /// The place's offset in that program.
+    #[serde(skip_serializing_if = "Option::is_none")]
+    offset: Option<u32>,
+    /// The reason's number.
+    reason: u8,
+    class: &'a str,
+    /// The first of the programs, at most five.
+    first: Vec<Shown<Name>>,
+}
+
+/// Returns the object of a cause.
+fn cause_object(alloc: Global, cause: &Cause) -> Result<CauseObject<'static>, AllocError> {
+    let Place { program, offset } = cause.first.place;
+    let is_shared = !matches!(program, Name::Glyph(_));
+    let mut first = Vec::new(alloc);
+    for name in cause.programs.iter().take(NAMED) {
+        first.push(Shown(*name))?;
+    }
+    Ok(CauseObject {
+        programs: cause.programs.len(),
+        place: is_shared.then_some(Shown(program)),
+        offset: is_shared.then_some(offset),
+        reason: cause.first.reason.number(),
+        class: text_of_class(cause.first.reason),
+        first,
+    })
+}
+
+/// Returns the member of an object that tells the causes for which these programs are refused, with a
+/// comma before it.
+///
+/// # Errors
+/// If memory runs out.
+pub(super) fn causes_member(alloc: Global, refused: &[Refused]) -> Result<String, AllocError> {
+    let causes = causes_of(alloc, refused)?;
+    let mut objects = Vec::new(alloc);
+    for cause in &causes {
+        objects.push(cause_object(alloc, cause)?)?;
+    }
+    let text = json_text(alloc, &objects)?;
+    format!(in alloc; ",\"causes\":{text}")
 }

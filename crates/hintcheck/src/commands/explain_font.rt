@@ -9,12 +9,13 @@ ghost use Rattle.hintcheck.specs.MeansSafe.{HoldRefusedBy, HoldSafeBy};
 
 use super::cause_lines::causes_text;
 use super::faults::CommandFault;
-use super::files::file_bytes;
+use super::font_bytes::named_font;
 use super::verdict_lines::print_last_line;
 use super::{ACCEPTED, REFUSED};
 use crate::causes::causes_of;
-use crate::explanation::{ExplainRequest, explain_word};
-use crate::font_file::{budget_of, verdict_in_budget};
+use crate::explanation::{ProgramRequest, explain_word};
+use crate::font_file::{budget_of, judged_font};
+use hintcheck_fonts::{Judged, Request};
 use hintcheck_programs::report::Name;
 use hintcheck_words::ExplainOptions;
 use std::alloc::Global;
@@ -30,16 +31,16 @@ fn explanation_of(
     alloc: Global,
     font: &[u8],
     called: Name,
-    options: ExplainOptions,
+    by: Request,
     points: &mut Budget,
 ) -> Result<Vec<u8>, CommandFault>
     ensures { IfErr result IsNoWriteFault }
 {
     let word = format!(in alloc; "{called}")?;
-    let request = ExplainRequest {
+    let request = ProgramRequest {
         word: &word,
         site: None,
-        options,
+        by,
     };
     let mut text = Counted::new(Vec::new(alloc));
     match explain_word(alloc, font, request, points, &mut text) {
@@ -59,7 +60,6 @@ fn explain_within<O: Sink>(
     alloc: Global,
     font: &[u8],
     options: ExplainOptions,
-    points: &mut Budget,
     out: &mut O,
 ) -> Result<u8, CommandFault>
     ensures status { IfOk result (λ status. status ≤ 1) }
@@ -67,16 +67,17 @@ fn explain_within<O: Sink>(
     ensures refused { IfOk result (λ status. status ≡ 1 → HoldRefusedBy options.profile font.now) }
     ensures failures { TellsFailure result (O.failures out.old) (O.failures out.new) }
 {
-    let verdict = verdict_in_budget(alloc, font, options.profile, points)?;
+    let Judged { by, verdict } = judged_font(alloc, font, options.profile)?;
     if verdict.accepted() {
-        print_last_line(out, &verdict, options.profile)?;
+        print_last_line(out, &verdict, by)?;
         return Ok(ACCEPTED);
     }
     let causes = causes_of(alloc, verdict.refused())?;
     let lines = causes_text(alloc, font, &causes)?;
     write!(out, "{lines}")?;
     if let Some(cause) = causes.first() {
-        let explanation = explanation_of(alloc, font, cause.first.program, options, points)?;
+        let mut points = budget_of(options.profile.max_steps());
+        let explanation = explanation_of(alloc, font, cause.first.program, by, &mut points)?;
         writeln!(out)?;
         let Ok(()) = write_all(out, &explanation) else {
             return Err(CommandFault::Write);
@@ -85,15 +86,15 @@ fn explain_within<O: Sink>(
     Ok(REFUSED)
 }
 
-/// Prints for which causes programs of the font file with this name are refused by a profile, the
-/// most frequent cause first, and after an empty line the explanation of the first program of that
-/// one; or, where all are accepted, the last line of the verdict. Returns the exit status: 0 where all
-/// are accepted, 1 where one is refused. By the symbolic profile, the search for the verdict and that
-/// for the explanation each make at most as many steps as the profile says.
+/// Prints for which causes programs of the font in the file with this name are refused, the most
+/// frequent cause first, and after an empty line the explanation of the first program of that one; or,
+/// where all are accepted, the last line of the verdict. Returns the exit status: 0 where all are
+/// accepted, 1 where one is refused. The search for the verdict and that for the explanation each make
+/// at most as many steps as the profile says.
 ///
 /// # Errors
-/// `Read` where the file can't be opened or read; the faults of `Font::read`; `Write` exactly where a
-/// write to `out` failed; `OutOfMemory`; `Budget`, where points are bounded and more were to be made.
+/// Those of `named_font`; the faults of `Font::read`; `Write` exactly where a write to `out` failed;
+/// `OutOfMemory`; `Budget`, by the strict profile alone, where steps are bounded and more were to be made.
 pub(super) fn explain_of_font<R: Files + AllocGlobal, O: Sink>(
     rt: &R,
     name: &str,
@@ -105,7 +106,6 @@ pub(super) fn explain_of_font<R: Files + AllocGlobal, O: Sink>(
         (O.contents out.old) (O.contents out.new)) }
     ensures failures { TellsFailure result (O.failures out.old) (O.failures out.new) }
 {
-    let bytes = file_bytes(rt, name)?;
-    let mut points = budget_of(options.profile.points());
-    explain_within(rt.alloc(), &bytes, options, &mut points, out)
+    let font = named_font(rt, name, options.faces, options.max_bytes)?;
+    explain_within(rt.alloc(), &font.bytes, options, out)
 }

@@ -4,18 +4,33 @@
 ghost use Rattle.std.specs.Prelude.{ℕ, IfErr, IfOk, List};
 ghost use Rattle.hintcheck.specs.Representation.Answers.{IsExplained};
 ghost use Rattle.hintcheck.specs.Commands.{IsNoWriteFault, TellsFailure};
-ghost use Rattle.hintcheck.specs.MeansSafe.{HoldExplainedBy};
+ghost use Rattle.hintcheck.specs.MeansSafe.{HoldExplainedBy, IsRequestOf};
 
 use super::faults::CommandFault;
-use super::files::file_bytes;
-use super::json_objects::{json_text, print_beginning, print_fault_object, refused_object};
-use crate::explanation::{ExplainRequest, exit_status, explain_word};
-use crate::font_file::budget_of;
-use hintcheck_explain::Explained;
-use hintcheck_words::Format;
+use super::font_bytes::{FontBytes, named_font};
+use super::font_label::FontLabel;
+use super::json_objects::{
+    json_text, name_of_request, print_beginning, print_fault_object, refused_object,
+};
+use crate::explanation::{ProgramRequest, exit_status, explain_word};
+use crate::font_file::{budget_of, told_by};
+use hintcheck_explain::{Explained, Site};
+use hintcheck_fonts::Request;
+use hintcheck_words::{ExplainOptions, Format};
 use std::alloc::{AllocError, Global};
 use std::rt::Files;
 use tt_stream::{Counted, Sink};
+
+/// Which program of a font file is explained, and how.
+#[derive(Clone, Copy)]
+pub(super) struct ExplainRequest<'a> {
+    /// The word that names the program.
+    pub word: &'a str,
+    /// Where what is known is asked for, if it is.
+    pub site: Option<Site>,
+    /// How it is explained.
+    pub options: ExplainOptions,
+}
 
 /// Explains one program of the font file with this name in lines, and returns the exit status.
 fn explain_in_lines<R: Files + AllocGlobal, O: Sink>(
@@ -28,17 +43,28 @@ fn explain_in_lines<R: Files + AllocGlobal, O: Sink>(
         (IsExplained request.entry.options.profile request.entry.word.now) }
     ensures failures { TellsFailure result (O.failures out.old) (O.failures out.new) }
 {
-    let bytes = file_bytes(rt, name)?;
-    let mut points = budget_of(request.options.profile.points());
-    let explained = explain_word(rt.alloc(), &bytes, request, &mut points, out)?;
+    let ExplainRequest {
+        word,
+        site,
+        options,
+    } = request;
+    let font = named_font(rt, name, options.faces, options.max_bytes)?;
+    let by = told_by(rt.alloc(), &font.bytes, options.profile)?;
+    let mut points = budget_of(options.profile.max_steps());
+    let program = ProgramRequest { word, site, by };
+    let explained = explain_word(rt.alloc(), &font.bytes, program, &mut points, out)?;
     Ok(exit_status(explained))
 }
 
 /// An explanation that was printed to memory.
 #[derive(Drop)]
 struct Explanation {
+    /// The number of the font's face, where its file is a collection.
+    face: Option<u32>,
     /// Whether the program is accepted.
     explained: Explained,
+    /// What was asked of the verdict.
+    by: Request,
     /// The member of its object that tells the refused program; nothing if none is refused.
     refused: String,
     /// The lines.
@@ -77,15 +103,23 @@ fn explanation_of<R: Files + AllocGlobal>(
     name: &str,
     request: ExplainRequest<'_>,
 ) -> Result<Explanation, CommandFault>
-    ensures answered { IfOk result (λ e. (bytes : List ℕ) × HoldExplainedBy
-        request.entry.options.profile bytes request.entry.word.now e.explained) }
+    ensures asked { IfOk result (λ e. IsRequestOf request.entry.options.profile e.by) }
+    ensures answered { IfOk result (λ e. (bytes : List ℕ)
+        × HoldExplainedBy e.by bytes request.entry.word.now e.explained) }
     ensures unwritten { IfErr result IsNoWriteFault }
 {
     let alloc = rt.alloc();
-    let bytes = file_bytes(rt, name)?;
-    let mut points = budget_of(request.options.profile.points());
+    let ExplainRequest {
+        word,
+        site,
+        options,
+    } = request;
+    let FontBytes { bytes, face } = named_font(rt, name, options.faces, options.max_bytes)?;
+    let by = told_by(alloc, &bytes, options.profile)?;
+    let mut points = budget_of(options.profile.max_steps());
     let mut sink = Counted::new(Vec::new(alloc));
-    let explained = match explain_word(alloc, &bytes, request, &mut points, &mut sink) {
+    let program = ProgramRequest { word, site, by };
+    let explained = match explain_word(alloc, &bytes, program, &mut points, &mut sink) {
         Ok(explained) => explained,
         Err(fault) => return Err(of_memory(fault)),
     };
@@ -93,7 +127,9 @@ fn explanation_of<R: Files + AllocGlobal>(
         return Err(CommandFault::Text);
     };
     Ok(Explanation {
+        face,
         explained,
+        by,
         refused: refused_member(alloc, &bytes, explained)?,
         text,
     })
@@ -104,21 +140,20 @@ fn print_explanation<O: Sink>(
     alloc: Global,
     out: &mut O,
     name: &str,
-    request: ExplainRequest<'_>,
+    word: &str,
     told: &Explanation,
 ) -> Result<(), CommandFault>
     ensures failures { TellsFailure result (O.failures out.old) (O.failures out.new) }
 {
-    let word = json_text(alloc, &request.word)?;
+    let word = json_text(alloc, &word)?;
     let texts: Vec<&str> = told.text.lines().collect(alloc)?;
     let lines = json_text(alloc, &texts)?;
-    print_beginning(
-        alloc,
-        out,
-        name,
-        request.options.profile,
-        exit_status(told.explained),
-    )?;
+    let label = FontLabel {
+        file: name,
+        face: told.face,
+    };
+    let status = exit_status(told.explained);
+    print_beginning(alloc, out, label, name_of_request(told.by), status)?;
     let refused = &told.refused;
     writeln!(out, "\"program\":{word},{refused}\"lines\":{lines}}}")?;
     Ok(())
@@ -137,11 +172,12 @@ fn explain_in_object<R: Files + AllocGlobal, O: Sink>(
 {
     match explanation_of(rt, name, request) {
         Ok(told) => {
-            print_explanation(rt.alloc(), out, name, request, &told)?;
+            print_explanation(rt.alloc(), out, name, request.word, &told)?;
             Ok(exit_status(told.explained))
         }
         Err(fault) if fault.is_of_font_file() => {
-            print_fault_object(rt.alloc(), out, name, &fault, request.options.profile)?;
+            let label = FontLabel::of_file(name);
+            print_fault_object(rt.alloc(), out, label, &fault, request.options.profile)?;
             Ok(fault.status())
         }
         Err(fault) => Err(fault),
@@ -153,8 +189,7 @@ fn explain_in_object<R: Files + AllocGlobal, O: Sink>(
 /// the font file's fault, where an object tells one.
 ///
 /// # Errors
-/// In lines `Read` and `Unopened` where the file can't be opened or read, and the faults of
-/// `explain_word`; for an object `ProgramName` and `OffsetWord`, `OutOfMemory` where memory ran out at
+/// In lines those of `named_font` and of `explain_word`; for an object `ProgramName` and `OffsetWord`, `OutOfMemory` where memory ran out at
 /// the object, and `Write` exactly where a write to `out` failed.
 pub(super) fn explain_of_file<R: Files + AllocGlobal, O: Sink>(
     rt: &R,

@@ -12,6 +12,7 @@ use std::error::Error;
 use std::io::ErrorKind;
 use std::{fmt, io};
 use tt_abs::Exhausted;
+use tt_collection::CollectionFault;
 use tt_font::FontFault;
 use tt_stream::{PrintFailed, ReadFault};
 
@@ -21,8 +22,22 @@ const UNREADABLE: u8 = 2;
 /// The exit status where memory or the budget ran out.
 const UNFINISHED: u8 = 3;
 
-/// What a file holds that isn't a font with TrueType outlines, by its first four bytes. Its text
-/// follows the fault's own.
+/// Which word of a command names a file.
+#[derive(Clone, Copy, Debug, PartialEq, Eq)]
+pub enum FileWord {
+    /// That of the font, the first one of several.
+    Font,
+    /// That of the certificate.
+    Certificate,
+    /// That of the old certificate.
+    Old,
+    /// That of the known refusals.
+    Known,
+    /// That of the list with this number, from 0, among those of a scan.
+    List(usize),
+}
+
+/// What a file holds that isn't a font with TrueType outlines, by its first four bytes.
 #[derive(Clone, Copy, Debug, PartialEq, Eq)]
 pub enum Container {
     /// A font with CFF outlines, which have no hint programs of this kind.
@@ -58,16 +73,16 @@ impl Container {
 impl fmt::Display for Container {
     fn fmt<W: fmt::Write>(&self, f: &mut fmt::Formatter<W>) -> fmt::Result {
         match self {
-            Container::Cff => write!(f, ": CFF outlines"),
-            Container::Collection => write!(f, ": a collection"),
-            Container::Woff => write!(f, ": WOFF"),
-            Container::Woff2 => write!(f, ": WOFF2"),
+            Container::Cff => write!(f, "CFF outlines"),
+            Container::Collection => write!(f, "a collection"),
+            Container::Woff => write!(f, "WOFF"),
+            Container::Woff2 => write!(f, "WOFF2"),
             Container::Other => Ok(()),
         }
     }
 }
 
-/// Why a file can't be opened. Its text follows the fault's own.
+/// Why a file can't be opened.
 #[derive(Clone, Copy, Debug, PartialEq, Eq)]
 pub enum Unopened {
     /// No file has the name.
@@ -95,15 +110,16 @@ impl Unopened {
 impl fmt::Display for Unopened {
     fn fmt<W: fmt::Write>(&self, f: &mut fmt::Formatter<W>) -> fmt::Result {
         match self {
-            Unopened::NotFound => write!(f, ": no such file"),
-            Unopened::PermissionDenied => write!(f, ": permission denied"),
-            Unopened::Directory => write!(f, ": a directory"),
+            Unopened::NotFound => write!(f, "no such file"),
+            Unopened::PermissionDenied => write!(f, "permission denied"),
+            Unopened::Directory => write!(f, "a directory"),
             Unopened::Other => Ok(()),
         }
     }
 }
 
-/// Why a command gives no answer: the line for the user, after `fault: `.
+/// Why a command gives no answer. Its text is the line for the user, after `fault: `; what more helps
+/// is in its note.
 #[derive(Debug, Drop)]
 pub enum CommandFault {
     /// The words aren't those of the command line. The text is clap's, and is printed alone.
@@ -125,6 +141,8 @@ pub enum CommandFault {
     /// A font of a scan has a line feed in its name, so that no line of a file of known refusals
     /// can name it.
     FontWord,
+    /// A name is given for the font of a scan that has none or several.
+    NameWord,
     /// The first line of the file of known refusals that names none: its number, counted from 1.
     KnownLine(u64),
     /// The font's file is to be its certificate's.
@@ -134,6 +152,10 @@ pub enum CommandFault {
     /// The first fault of the font's bytes, or of the `maxp` table of `bare`, or that memory ran
     /// out; and what the file holds instead of a font.
     Font(FontFault, Container),
+    /// The fault of a font collection, or of one of its faces.
+    Collection(CollectionFault),
+    /// No face of a collection is named, and there are so many.
+    ManyFaces(u32),
     /// The bytes are no certificate for the font, or, in an upgrade, for any font: the place of
     /// what is wrong.
     Form(u64),
@@ -141,10 +163,12 @@ pub enum CommandFault {
     NoCertificate,
     /// Memory ran out.
     OutOfMemory,
-    /// More points were to be made than may be.
+    /// More steps were to be made than may be.
     Budget,
-    /// A file can't be opened.
-    Unopened(Unopened),
+    /// The file that this word names can't be opened.
+    Unopened(FileWord, Unopened),
+    /// The file that this word names has more bytes than may be read, which are so many.
+    TooLong(FileWord, u64),
     /// A file can't be read.
     Read,
     /// The output can't be written.
@@ -161,44 +185,84 @@ impl fmt::Display for CommandFault {
         match self {
             CommandFault::Usage(text) => write!(f, "{text}"),
             CommandFault::MaxpWord => write!(f, "words: MAXP"),
-            CommandFault::ProgramWord => write!(f, "words: PROGRAM"),
+            CommandFault::ProgramWord | CommandFault::ProgramName => write!(f, "words: PROGRAM"),
+            CommandFault::NoOffset | CommandFault::OffsetWord(_) => write!(f, "words: OFFSET"),
+            CommandFault::ClassWord => write!(f, "words: CLASS"),
+            CommandFault::ExpectedWord => write!(f, "words: FILE"),
+            CommandFault::FontWord => write!(f, "words: FONT"),
+            CommandFault::NameWord => write!(f, "words: NAME"),
+            CommandFault::CertificateWord => write!(f, "words: CERT"),
+            CommandFault::NewWord => write!(f, "words: NEW"),
+            CommandFault::Font(font, _) => {
+                let number = font.number();
+                write!(f, "{number} {font}")
+            }
+            CommandFault::Collection(collection) => {
+                let number = collection.number();
+                write!(f, "{number} {collection}")
+            }
+            CommandFault::ManyFaces(count) => write!(f, "16 collection of {count} faces"),
+            CommandFault::Form(place) => write!(f, "43 certificate form at byte {place}"),
+            CommandFault::NoCertificate => write!(f, "43 certificate form at byte 0"),
+            CommandFault::OutOfMemory => write!(f, "9 out of memory"),
+            CommandFault::Budget => write!(f, "46 budget"),
+            CommandFault::KnownLine(_)
+            | CommandFault::Unopened(..)
+            | CommandFault::TooLong(..)
+            | CommandFault::Read => write!(f, "44 read"),
+            CommandFault::Write | CommandFault::File => write!(f, "45 write"),
+            CommandFault::Text => write!(f, "text"),
+        }
+    }
+}
+
+/// What helps the user with a fault, if there is something: the text after `note: `.
+#[derive(Clone, Copy)]
+pub(super) struct Note<'a>(&'a CommandFault);
+
+impl fmt::Display for Note<'_> {
+    fn fmt<W: fmt::Write>(&self, f: &mut fmt::Formatter<W>) -> fmt::Result {
+        match self.0 {
             CommandFault::ProgramName => {
                 write!(
                     f,
-                    "words: PROGRAM: f, p, g and the number of a glyph, or its name"
+                    "PROGRAM is f, p, g and the number of a glyph, or its name"
                 )
             }
-            CommandFault::NoOffset => {
-                write!(f, "words: OFFSET: a number, alone or after f: or p:")
-            }
-            CommandFault::OffsetWord(told) => write!(f, "words: OFFSET{told}"),
-            CommandFault::ClassWord => write!(f, "words: CLASS"),
-            CommandFault::ExpectedWord => write!(f, "words: FILE: a font of the scan"),
-            CommandFault::FontWord => write!(f, "words: FONT: a line feed in the name"),
+            CommandFault::NoOffset => write!(f, "OFFSET is a number, alone or after f: or p:"),
+            CommandFault::OffsetWord(told) => write!(f, "no instruction begins there{told}"),
+            CommandFault::ClassWord => write!(f, "CLASS is possible"),
+            CommandFault::ExpectedWord => write!(f, "FILE is a font of the scan"),
+            CommandFault::FontWord => write!(f, "a font has a line feed in its name"),
+            CommandFault::NameWord => write!(f, "NAME is for one font"),
             CommandFault::KnownLine(number) => {
-                write!(
-                    f,
-                    "44 FILE line {number}: not a number, a program and a font"
-                )
+                write!(f, "line {number} isn't a number, a program and a font")
             }
-            CommandFault::CertificateWord => {
-                write!(f, "words: CERT: the font would be written over")
+            CommandFault::CertificateWord => write!(f, "the font would be written over"),
+            CommandFault::NewWord => write!(f, "the old certificate would be written over"),
+            CommandFault::Font(_, container) => write!(f, "{container}"),
+            CommandFault::ManyFaces(count) => {
+                let last = count.saturating_sub(1);
+                write!(f, "name one by --face, 0 to {last}")
             }
-            CommandFault::NewWord => write!(f, "words: NEW"),
-            CommandFault::Font(font, container) => {
-                let number = font.number();
-                write!(f, "{number} {font}{container}")
-            }
-            CommandFault::Form(place) => write!(f, "43 certificate form at byte {place}"),
-            CommandFault::NoCertificate => {
-                write!(f, "43 certificate form at byte 0: not a certificate")
-            }
-            CommandFault::OutOfMemory => write!(f, "9 out of memory"),
-            CommandFault::Budget => write!(f, "46 budget"),
-            CommandFault::Unopened(why) => write!(f, "44 read{why}"),
-            CommandFault::Read => write!(f, "44 read"),
-            CommandFault::Write | CommandFault::File => write!(f, "45 write"),
-            CommandFault::Text => write!(f, "text"),
+            CommandFault::NoCertificate => write!(f, "not a certificate"),
+            CommandFault::Unopened(_, why) => write!(f, "{why}"),
+            CommandFault::TooLong(_, most) => write!(f, "more than {most} bytes (--max-bytes)"),
+            _ => Ok(()),
+        }
+    }
+}
+
+/// A fault with what helps in one line, as lines of a scan and objects have it.
+#[derive(Clone, Copy)]
+pub(super) struct WholeFault<'a>(pub &'a CommandFault);
+
+impl fmt::Display for WholeFault<'_> {
+    fn fmt<W: fmt::Write>(&self, f: &mut fmt::Formatter<W>) -> fmt::Result {
+        let fault = self.0;
+        match fault.note() {
+            Some(note) => write!(f, "{fault}: {note}"),
+            None => write!(f, "{fault}"),
         }
     }
 }
@@ -238,6 +302,16 @@ impl From<AllocError> for CommandFault {
 
     fn from(_error: AllocError) -> CommandFault {
         CommandFault::OutOfMemory
+    }
+}
+
+impl From<CollectionFault> for CommandFault {
+    ghost use Rattle.hintcheck.specs.declared.commands.faults.CommandFault.TheVariants.{Collection};
+
+    ghost from_gives = { λ collection fault. fault ≡ Collection collection };
+
+    fn from(collection: CollectionFault) -> CommandFault {
+        CommandFault::Collection(collection)
     }
 }
 
@@ -321,11 +395,46 @@ impl CommandFault {
         matches!(
             self,
             CommandFault::Font(..)
-                | CommandFault::Unopened(_)
+                | CommandFault::Collection(_)
+                | CommandFault::ManyFaces(_)
+                | CommandFault::Unopened(..)
+                | CommandFault::TooLong(..)
                 | CommandFault::Read
                 | CommandFault::OutOfMemory
                 | CommandFault::Budget
         )
+    }
+
+    /// Returns what helps the user with the fault, if there is something.
+    pub(super) fn note(&self) -> Option<Note<'_>> {
+        let has_note = match self {
+            CommandFault::Font(_, container) => *container != Container::Other,
+            CommandFault::Unopened(_, why) => *why != Unopened::Other,
+            CommandFault::ProgramName
+            | CommandFault::NoOffset
+            | CommandFault::OffsetWord(_)
+            | CommandFault::ClassWord
+            | CommandFault::ExpectedWord
+            | CommandFault::FontWord
+            | CommandFault::NameWord
+            | CommandFault::KnownLine(_)
+            | CommandFault::CertificateWord
+            | CommandFault::NewWord
+            | CommandFault::ManyFaces(_)
+            | CommandFault::NoCertificate
+            | CommandFault::TooLong(..) => true,
+            _ => false,
+        };
+        has_note.then_some(Note(self))
+    }
+
+    /// Returns which word names the file that the fault is of, if its note needs that.
+    pub(super) fn file_word(&self) -> Option<FileWord> {
+        match self {
+            CommandFault::Unopened(word, _) | CommandFault::TooLong(word, _) => Some(*word),
+            CommandFault::KnownLine(_) => Some(FileWord::Known),
+            _ => None,
+        }
     }
 
     /// Returns the exit status: 3 where memory or the budget ran out, and otherwise 2.
@@ -336,6 +445,7 @@ impl CommandFault {
         match self {
             CommandFault::OutOfMemory
             | CommandFault::Budget
+            | CommandFault::Collection(CollectionFault::OutOfMemory(_))
             | CommandFault::Font(FontFault::OutOfMemory(_), _) => { UNFINISHED },
             _ => UNREADABLE,
         }

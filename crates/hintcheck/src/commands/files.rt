@@ -7,7 +7,7 @@ ghost use Rattle.std.specs.Io.KnownBytes.{Keeps};
 ghost use Rattle.hintcheck.specs.Commands.{HasAll, IsNoWriteFault};
 ghost use Rattle.hintcheck.specs.CommandFaults.{IsFaultOfChecking, IsFaultOfReading, IsFaultOfRewriting};
 
-use super::faults::{CommandFault, Unopened};
+use super::faults::{CommandFault, FileWord, Unopened};
 use std::alloc::Global;
 use std::fs;
 use std::io::{BufWriter, Read, Write};
@@ -28,17 +28,17 @@ fn is_directory<R: Files>(rt: &R, name: &str) -> bool {
     }
 }
 
-/// Opens the file with this name, to be read.
-pub(super) fn opened<R: Files>(rt: &R, name: &str) -> Result<R::File, CommandFault>
+/// Opens the file with this name, which this word names, to be read.
+pub(super) fn opened<R: Files>(rt: &R, name: &str, word: FileWord) -> Result<R::File, CommandFault>
     ensures unwritten { IfErr result IsNoWriteFault }
     ensures faults { IfErr result IsFaultOfReading }
 {
     if is_directory(rt, name) {
-        return Err(CommandFault::Unopened(Unopened::Directory));
+        return Err(CommandFault::Unopened(word, Unopened::Directory));
     }
     match fs::open(rt, name) {
         Ok(file) => Ok(file),
-        Err(error) => Err(CommandFault::Unopened(Unopened::of(&error))),
+        Err(error) => Err(CommandFault::Unopened(word, Unopened::of(&error))),
     }
 }
 
@@ -64,26 +64,44 @@ pub(super) fn of_certificate<R: Files>(rt: &R, name: &str, fault: CommandFault) 
     }
 }
 
-/// Returns the bytes that are left in the file.
-pub(super) fn read_file<F: Read + Drop>(alloc: Global, file: F) -> Result<Vec<u8>, CommandFault>
+/// Returns the bytes that are left in the file that this word names.
+///
+/// # Errors
+/// `TooLong` where there are more than these: so a device that never ends has an end.
+pub(super) fn read_file<F: Read + Drop>(
+    alloc: Global,
+    file: F,
+    word: FileWord,
+    max_bytes: u64,
+) -> Result<Vec<u8>, CommandFault>
     ensures read { IfOk result (λ bytes. HasAll (F.remaining file) bytes.items) }
     ensures fault { IfErr result IsNoWriteFault }
     ensures faults { IfErr result IsFaultOfReading }
 {
-    let mut source = Counted::new(file);
-    Ok(read_all(alloc, &mut source)?)
+    let mut source = Counted::new(file.take(max_bytes.saturating_add(1)));
+    let bytes = read_all(alloc, &mut source)?;
+    if bytes.len() as u64 > max_bytes {
+        return Err(CommandFault::TooLong(word, max_bytes));
+    }
+    Ok(bytes)
 }
 
-/// Returns the bytes of the file with this name.
+/// Returns the bytes of the file with this name, which this word names, as far as they are at most so
+/// many.
+///
+/// # Errors
+/// `Unopened` and `Read` where the file can't be opened or read; `TooLong`; `OutOfMemory`.
 pub(super) fn file_bytes<R: Files + AllocGlobal>(
     rt: &R,
     name: &str,
+    word: FileWord,
+    max_bytes: u64,
 ) -> Result<Vec<u8>, CommandFault>
     ensures fault { IfErr result IsNoWriteFault }
     ensures faults { IfErr result IsFaultOfReading }
 {
-    let file = opened(rt, name)?;
-    read_file(rt.alloc(), file)
+    let file = opened(rt, name, word)?;
+    read_file(rt.alloc(), file, word, max_bytes)
 }
 
 /// Returns the writer's file, once it has all that was written.

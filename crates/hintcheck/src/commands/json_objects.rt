@@ -3,27 +3,33 @@
 ghost use Rattle.std.specs.Prelude.{◌≡◌, IfOk, OnOk, string_bytes};
 ghost use Rattle.std.specs.Io.KnownBytes.{Appends};
 ghost use Rattle.json.specs.Print.{quoted};
-ghost use Rattle.tt_stream.specs.Streams.{AppendsOnly};
+ghost use Rattle.tt_stream.specs.Streams.{AppendsOnly, CountsPrintFailure};
 ghost use Rattle.hintcheck.specs.Commands.{TellsFailure, status_of};
-ghost use Rattle.hintcheck.specs.JsonObjects.{beginning, profile_name};
+ghost use Rattle.hintcheck.specs.JsonObjects.{beginning, face_member as face_member_of, profile_name, request_name};
+ghost use Rattle.hintcheck.specs.Representation.ScannedFiles.{label_of};
 ghost use Rattle.hintcheck_explain.specs.Texts.{WritesFirst};
 
-use super::faults::CommandFault;
-use super::scan_task::text_of_class;
+use super::cause_lines::causes_member;
+use super::faults::{CommandFault, WholeFault};
+use super::font_label::FontLabel;
+use super::need_lines::needs_member;
+use super::scan_lines::text_of_class;
+use super::scan_task::ScannedFont;
 use crate::glyph_names::called;
-use hintcheck_programs::report::{Name, Refused, Verdict};
-use hintcheck_words::Profile;
+use hintcheck_fonts::Request;
+use hintcheck_programs::report::{Name, Refused};
+use hintcheck_words::{Profile, ScanOptions};
 use serde::{Described, Serialize, Serializer};
 use serde_json::Value;
 use std::alloc::{AllocError, Global};
 use std::fmt::Display;
 use tt_code::Reason;
 use tt_names::GlyphNames;
-use tt_stream::Sink;
+use tt_stream::{PrintFailed, Sink};
 
 /// A value that is written as a string, in its own words.
 #[derive(Drop)]
-struct Shown<T>(T);
+pub(super) struct Shown<T>(pub T);
 
 impl<T> Described for Shown<T> {}
 
@@ -76,35 +82,59 @@ fn quoted_text(alloc: Global, text: &str) -> Result<String, AllocError>
     Value::String(copy).to_string(alloc)
 }
 
-/// Returns the profile in a word.
-fn name_of_profile(profile: Profile) -> &'static str
+/// Returns the profile that is asked for, in a word.
+pub(super) fn name_of_profile(profile: Profile) -> &'static str
     ensures { result.now ≡ profile_name profile }
 {
     match profile {
         Profile::Strict { .. } => "strict",
         Profile::Symbolic { .. } => "symbolic",
+        Profile::Both { .. } => "both",
     }
 }
 
-/// Prints how the object of a font file begins: its name, by which profile it is checked, and the
-/// exit status.
+/// Returns the profile whose verdict it is, in a word.
+pub(super) fn name_of_request(by: Request) -> &'static str
+    ensures { result.now ≡ request_name by }
+{
+    match by {
+        Request::Strict => "strict",
+        Request::Symbolic { .. } => "symbolic",
+    }
+}
+
+/// Prints the member that tells the number of a face, where there is one.
+fn print_face<O: Sink>(out: &mut O, face: Option<u32>) -> Result<(), PrintFailed>
+    ensures written { OnOk result
+        (Appends (O.contents out.old) (O.contents out.new) (face_member_of face)) }
+    ensures failures { CountsPrintFailure result (O.failures out.old) (O.failures out.new) }
+{
+    match face {
+        Some(number) => write!(out, ",\"face\":{number}"),
+        None => Ok(()),
+    }
+}
+
+/// Prints how the object of a font file begins: the tool, the label, the profile in a word, and the exit
+/// status.
 pub(super) fn print_beginning<O: Sink>(
     alloc: Global,
     out: &mut O,
-    name: &str,
-    profile: Profile,
+    label: FontLabel<'_>,
+    profile: &str,
     status: u8,
 ) -> Result<(), CommandFault>
     ensures written { OnOk result (Appends (O.contents out.old) (O.contents out.new)
-        (beginning name.now profile status)) }
+        (beginning (label_of label.entry) profile.now status)) }
     ensures failures { TellsFailure result (O.failures out.old) (O.failures out.new) }
 {
-    let file = quoted_text(alloc, name)?;
-    let profile = name_of_profile(profile);
+    let file = quoted_text(alloc, label.file)?;
     write!(
         out,
-        "{{\"version\":1,\"file\":{file},\"profile\":\"{profile}\",\"status\":{status},"
+        "{{\"version\":1,\"tool\":{{\"name\":\"hintcheck\",\"version\":\"0.9.0\"}},\"file\":{file}"
     )?;
+    print_face(out, label.face)?;
+    write!(out, ",\"profile\":\"{profile}\",\"status\":{status},")?;
     Ok(())
 }
 
@@ -156,57 +186,91 @@ fn print_refused<O: Sink>(
     Ok(())
 }
 
-/// Prints the object of a font file with these bytes and this verdict, which gives the exit status.
+/// Returns the members of an object that tell what more is asked for of a font, each with a comma before
+/// it.
+fn more_members(
+    alloc: Global,
+    font: ScannedFont<'_>,
+    options: ScanOptions,
+) -> Result<String, AllocError> {
+    let mut text = String::new(alloc);
+    if options.has_causes {
+        text.push_str(&causes_member(alloc, font.judged.verdict.refused())?)?;
+    }
+    text.push_str(&needs_member(alloc, font.bytes, font.judged.by, options.needs)?)?;
+    Ok(text)
+}
+
+/// Prints the object of a font file, whose verdict gives this exit status.
 pub(super) fn print_verdict_object<O: Sink>(
     alloc: Global,
     out: &mut O,
-    name: &str,
-    bytes: &[u8],
-    verdict: &Verdict,
-    profile: Profile,
+    font: ScannedFont<'_>,
+    options: ScanOptions,
     status: u8,
 ) -> Result<(), CommandFault>
-    ensures written { OnOk result (WritesFirst (beginning name.now profile status)
+    ensures written { OnOk result (WritesFirst (beginning (label_of font.entry.label)
+        (request_name font.entry.judged.now.by) status)
         (O.contents out.old) (O.contents out.new)) }
     ensures failures { TellsFailure result (O.failures out.old) (O.failures out.new) }
 {
+    let verdict = &font.judged.verdict;
     let programs = verdict.programs();
-    print_beginning(alloc, out, name, profile, status)?;
+    let more = more_members(alloc, font, options)?;
+    print_beginning(
+        alloc,
+        out,
+        font.label,
+        name_of_request(font.judged.by),
+        status,
+    )?;
     write!(out, "\"programs\":{programs},\"refused\":[")?;
-    print_refused(alloc, out, bytes, verdict.refused())?;
-    writeln!(out, "]}}")?;
+    print_refused(alloc, out, font.bytes, verdict.refused())?;
+    writeln!(out, "]{more}}}")?;
     Ok(())
+}
+
+/// Returns the number of the fault, if a font file can have it.
+fn fault_number(fault: &CommandFault) -> Option<u8> {
+    match fault {
+        CommandFault::Font(font, _) => Some(font.number()),
+        CommandFault::Collection(collection) => Some(collection.number()),
+        CommandFault::ManyFaces(_) => Some(16),
+        CommandFault::Unopened(..) | CommandFault::TooLong(..) | CommandFault::Read => Some(44),
+        CommandFault::OutOfMemory => Some(9),
+        CommandFault::Budget => Some(46),
+        _ => None,
+    }
 }
 
 /// Returns the number and the text of the fault, if a font file can have it.
 fn fault_object(alloc: Global, fault: &CommandFault) -> Result<Option<FaultObject>, AllocError> {
-    let (number, text) = match fault {
-        CommandFault::Font(font, container) => {
-            (font.number(), format!(in alloc; "{font}{container}")?)
-        }
-        CommandFault::Unopened(why) => (44, format!(in alloc; "read{why}")?),
-        CommandFault::Read => (44, String::from_str(alloc, "read")?),
-        CommandFault::OutOfMemory => (9, String::from_str(alloc, "out of memory")?),
-        CommandFault::Budget => (46, String::from_str(alloc, "budget")?),
-        _ => return Ok(None),
+    let Some(number) = fault_number(fault) else {
+        return Ok(None);
+    };
+    let whole = format!(in alloc; "{}", WholeFault(fault))?;
+    // The number is a member of its own.
+    let text = match whole.split_once(' ') {
+        Some((_number, text)) => String::from_str(alloc, text)?,
+        None => whole,
     };
     Ok(Some(FaultObject { number, text }))
 }
 
-/// Prints the object of a font file with this fault.
+/// Prints the object of a font file with this fault, for which a verdict of this profile was asked.
 pub(super) fn print_fault_object<O: Sink>(
     alloc: Global,
     out: &mut O,
-    name: &str,
+    label: FontLabel<'_>,
     fault: &CommandFault,
     profile: Profile,
 ) -> Result<(), CommandFault>
-    ensures written { OnOk result (WritesFirst (beginning name.now profile (status_of fault.now))
-        (O.contents out.old) (O.contents out.new)) }
+    ensures written { OnOk result (WritesFirst (beginning (label_of label.entry)
+        (profile_name profile) (status_of fault.now)) (O.contents out.old) (O.contents out.new)) }
     ensures failures { TellsFailure result (O.failures out.old) (O.failures out.new) }
 {
     let told = json_text(alloc, &fault_object(alloc, fault)?)?;
-    print_beginning(alloc, out, name, profile, fault.status())?;
+    print_beginning(alloc, out, label, name_of_profile(profile), fault.status())?;
     writeln!(out, "\"fault\":{told}}}")?;
     Ok(())
 }

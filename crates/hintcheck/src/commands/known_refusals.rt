@@ -1,15 +1,19 @@
-//! Which refused programs of a scan are known: those whose lines a file holds, or all, where the file
-//! doesn't exist and is written with them.
+//! Which refused programs of a scan are known: those whose lines a file holds; and the files that hold
+//! such lines.
 
-ghost use Rattle.std.specs.Prelude.{◌≡◌, ◌<◌, ℕ, IfErr, IfOk, List, None, false, length, string_bytes};
+ghost use Rattle.std.specs.Prelude.{◌≡◌, ◌<◌, IfErr, IfOk, None, length, string_bytes};
 ghost use Rattle.hintcheck.specs.Commands.{IsNoWriteFault};
 ghost use Rattle.hintcheck.specs.KnownRefusals.{refusal_line};
-ghost use Rattle.hintcheck.specs.Representation.Known.{is_known_by};
+ghost use Rattle.hintcheck.specs.Representation.Known.{are_alone, is_known_by};
+ghost use Rattle.hintcheck.specs.Representation.ScannedFiles.{label_of};
+ghost use Rattle.hintcheck.specs.declared.commands.known_refusals.Known.TheVariants.{Nothing};
 
-use super::faults::{CommandFault, Unopened};
-use super::files::{file_numbers, is_same_file, opened, read_file};
+use super::faults::{CommandFault, FileWord};
+use super::files::{file_bytes, file_numbers, is_same_file};
+use super::font_label::FontLabel;
 use crate::instruction_list::{read_name, read_number};
 use hintcheck_programs::report::Refused;
+use hintcheck_words::{AskedNeeds, Format, ScanOptions};
 use std::alloc::{AllocError, Global};
 use std::collections::HashSet;
 use std::fs;
@@ -17,13 +21,18 @@ use std::io::Write;
 use std::rt::Files;
 use tt_stream::{Counted, write_all};
 
-/// Returns the line of a refused program of the font file with this name, without its end.
-pub(super) fn line_of(alloc: Global, font: &str, refused: &Refused) -> Result<String, AllocError>
-    ensures { IfOk result (λ line. string_bytes line ≡ refusal_line font.now refused.now) }
+/// Returns the line of a refused program of the font file with this label, without its end.
+pub(super) fn line_of(
+    alloc: Global,
+    label: FontLabel<'_>,
+    refused: &Refused,
+) -> Result<String, AllocError>
+    ensures { IfOk result (λ line.
+        string_bytes line ≡ refusal_line (label_of label.entry) refused.now) }
 {
     let number = refused.reason.number();
     let program = refused.program;
-    format!(in alloc; "{number} {program} {font}")
+    format!(in alloc; "{number} {program} {label}")
 }
 
 /// Whether the text is a line of known refusals: the number of a reason, the name of a program, and
@@ -78,7 +87,8 @@ fn lines_in(alloc: Global, bytes: &[u8]) -> Result<HashSet<String>, CommandFault
     Ok(lines)
 }
 
-/// Checks that the font file with this name can be in a scan with this file of known refusals.
+/// Checks that the font file with this name can be in a scan that reads or writes this file of known
+/// refusals.
 fn check_name<R: Files>(rt: &R, font: &str, file: &str) -> Result<(), CommandFault>
     ensures { IfErr result IsNoWriteFault }
 {
@@ -91,11 +101,30 @@ fn check_name<R: Files>(rt: &R, font: &str, file: &str) -> Result<(), CommandFau
     Ok(())
 }
 
+/// Checks that the font files with these names can be in a scan that reads or writes this file of known
+/// refusals.
+///
+/// # Errors
+/// `ExpectedWord` where the file is one of the font files, as far as that can be known; `FontWord` where
+/// a font file has a line feed in its name, since no line can hold it.
+pub(super) fn check_names<R: Files>(
+    rt: &R,
+    fonts: &[String],
+    file: &str,
+) -> Result<(), CommandFault>
+    ensures { IfErr result IsNoWriteFault }
+{
+    for font in fonts {
+        check_name(rt, font, file)?;
+    }
+    Ok(())
+}
+
 /// Makes the file with this name, and writes the text to it.
 ///
 /// # Errors
 /// `File` where the file can't be made or written.
-fn write_file<R: Files>(rt: &R, name: &str, text: &str) -> Result<(), CommandFault>
+pub(super) fn write_file<R: Files>(rt: &R, name: &str, text: &str) -> Result<(), CommandFault>
     ensures { IfErr result IsNoWriteFault }
 {
     let Ok(file) = fs::create(rt, name) else {
@@ -113,46 +142,35 @@ fn write_file<R: Files>(rt: &R, name: &str, text: &str) -> Result<(), CommandFau
 
 /// Which refused programs of a scan are known.
 #[derive(Drop)]
-pub(super) enum Known<'a> {
+pub(super) enum Known {
     /// None: no file of known refusals is named.
     Nothing,
     /// Those whose lines the file holds.
     Lines(HashSet<String>),
-    /// All, since the file with this name doesn't exist: it is written with their lines.
-    All(&'a str),
 }
 
-impl<'a> Known<'a> {
+impl Known {
     /// Returns which refused programs of these font files are known, by the file with this name, if one
     /// is named.
     ///
     /// # Errors
-    /// `ExpectedWord` where that file is one of the font files, as far as that can be known;
-    /// `FontWord` where a font file has a line feed in its name, since no line can hold it; `KnownLine`
-    /// for the first line that names no refusal; `Unopened`, `Read` and `OutOfMemory`.
+    /// Those of `check_names`; `KnownLine` for the first line that names no refusal; `Unopened`, `TooLong`,
+    /// `Read` and `OutOfMemory`.
     pub(super) fn of<R: Files + AllocGlobal>(
         rt: &R,
         fonts: &[String],
-        file: Option<&'a str>,
-    ) -> Result<Known<'a>, CommandFault>
-        ensures none { IfOk result (λ known. file.entry ≡ None
-            → (line : List ℕ) → is_known_by known line ≡ false) }
+        file: Option<&str>,
+        max_bytes: u64,
+    ) -> Result<Known, CommandFault>
+        ensures none { IfOk result (λ known. file ≡ None → known ≡ Nothing) }
         ensures unwritten { IfErr result IsNoWriteFault }
     {
         let Some(file) = file else {
             return Ok(Known::Nothing);
         };
-        for font in fonts {
-            check_name(rt, font, file)?;
-        }
-        match opened(rt, file) {
-            Ok(source) => {
-                let held = read_file(rt.alloc(), source)?;
-                Ok(Known::Lines(lines_in(rt.alloc(), &held)?))
-            }
-            Err(CommandFault::Unopened(Unopened::NotFound)) => Ok(Known::All(file)),
-            Err(fault) => Err(fault),
-        }
+        check_names(rt, fonts, file)?;
+        let held = file_bytes(rt, file, FileWord::Known, max_bytes)?;
+        Ok(Known::Lines(lines_in(rt.alloc(), &held)?))
     }
 
     /// Whether the refused program with this line is known.
@@ -162,20 +180,28 @@ impl<'a> Known<'a> {
         match self {
             Known::Nothing => false,
             Known::Lines(lines) => lines.contains(line),
-            Known::All(_) => true,
         }
     }
 
-    /// Writes the lines to the file of known refusals, where it doesn't exist.
-    ///
-    /// # Errors
-    /// `File` where the file can't be made or written.
-    pub(super) fn write_missing<R: Files>(&self, rt: &R, lines: &str) -> Result<(), CommandFault>
-        ensures { IfErr result IsNoWriteFault }
+    /// Returns how many lines of known refusals there are, if a file of them is named.
+    pub(super) fn count(&self) -> Option<usize> {
+        match self {
+            Known::Nothing => None,
+            Known::Lines(lines) => Some(lines.len()),
+        }
+    }
+
+    /// Whether lines alone are printed of a font in a scan with these options.
+    pub(super) fn are_alone(&self, options: ScanOptions) -> bool
+        ensures { result ≡ are_alone options self.now }
     {
         match self {
-            Known::All(file) => write_file(rt, file, lines),
-            Known::Nothing | Known::Lines(_) => Ok(()),
+            Known::Nothing => {
+                options.format == Format::Lines
+                    && !options.has_causes
+                    && options.needs == AskedNeeds::None
+            }
+            Known::Lines(_) => false,
         }
     }
 }

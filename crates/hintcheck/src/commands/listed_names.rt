@@ -1,9 +1,9 @@
-//! The names of font files that other files list, a line for each.
+//! The names of font files that other files list, each ended by a line feed or by a NUL.
 
 ghost use Rattle.std.specs.Prelude.{IfErr};
 ghost use Rattle.hintcheck.specs.Commands.{IsNoWriteFault};
 
-use super::faults::CommandFault;
+use super::faults::{CommandFault, FileWord};
 use super::files::file_bytes;
 use std::alloc::{AllocError, Global};
 use std::fmt;
@@ -47,11 +47,16 @@ fn text_of(alloc: Global, name: &[u8]) -> Result<String, AllocError> {
     }
 }
 
-/// Adds the names that these bytes list to the others: one in each line that isn't empty.
-fn add_names(alloc: Global, names: &mut Vec<String>, bytes: &[u8]) -> Result<(), AllocError> {
+/// Adds the names that these bytes list to the others, each up to this byte; an empty one is none.
+fn add_names(
+    alloc: Global,
+    names: &mut Vec<String>,
+    bytes: &[u8],
+    ending: u8,
+) -> Result<(), AllocError> {
     let mut start = 0;
     for end in 0..bytes.len() + 1 {
-        if end < bytes.len() && bytes[end] != b'\n' {
+        if end < bytes.len() && bytes[end] != ending {
             continue;
         }
         if start < end {
@@ -62,21 +67,24 @@ fn add_names(alloc: Global, names: &mut Vec<String>, bytes: &[u8]) -> Result<(),
     Ok(())
 }
 
-/// Returns the names of font files that the files with these names list.
+/// Returns the names of font files that the files with these names list, each up to this byte.
 ///
 /// # Errors
-/// `Unopened` and `Read` where one of them can't be opened or read; `OutOfMemory`.
+/// `Unopened`, `TooLong` and `Read` where one of them can't be opened or read; `OutOfMemory`.
 pub(super) fn listed_names<R: Files + AllocGlobal>(
     rt: &R,
     lists: &[String],
+    ending: u8,
+    max_bytes: u64,
 ) -> Result<Vec<String>, CommandFault>
     ensures { IfErr result IsNoWriteFault }
 {
     let alloc = rt.alloc();
     let mut names = Vec::new(alloc);
-    for list in lists {
-        let bytes = file_bytes(rt, list_called(list))?;
-        add_names(alloc, &mut names, &bytes)?;
+    for (number, list) in lists.iter().enumerate() {
+        let word = FileWord::List(number);
+        let bytes = file_bytes(rt, list_called(list), word, max_bytes)?;
+        add_names(alloc, &mut names, &bytes, ending)?;
     }
     Ok(names)
 }

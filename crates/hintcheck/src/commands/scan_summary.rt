@@ -4,6 +4,7 @@ ghost use Rattle.std.specs.Prelude.{◌≤◌};
 
 use hintcheck_words::Format;
 use std::alloc::{AllocError, Global};
+use std::collections::HashSet;
 use std::fmt;
 use tt_stream::Sink;
 
@@ -18,19 +19,23 @@ pub(super) struct Tally {
     unread: usize,
     /// How many refused programs were known.
     known: usize,
-    /// Their lines, each with its end, where they are to be written.
-    lines: String,
+    /// The lines of these, each once.
+    met: HashSet<String>,
+    /// The lines of all refused programs for which the scan would fail, each with its end, if they are
+    /// to be written.
+    lines: Option<String>,
 }
 
 impl Tally {
-    /// Returns what is told before any font file.
-    pub(super) fn new(alloc: Global) -> Tally {
+    /// Returns what is told before any font file. Lines are kept if they are to be written.
+    pub(super) fn new(alloc: Global, keeps_lines: bool) -> Tally {
         Tally {
             accepted: 0,
             refused: 0,
             unread: 0,
             known: 0,
-            lines: String::new(alloc),
+            met: HashSet::new(alloc),
+            lines: keeps_lines.then_some(String::new(alloc)),
         }
     }
 
@@ -48,33 +53,56 @@ impl Tally {
         self.unread = self.unread.saturating_add(1);
     }
 
-    /// Counts a known refused program.
-    pub(super) fn count_known(&mut self) {
+    /// Counts a known refused program, which has this line.
+    ///
+    /// # Errors
+    /// If memory runs out.
+    pub(super) fn count_known(&mut self, line: String) -> Result<(), AllocError> {
         self.known = self.known.saturating_add(1);
+        match self.met.insert(line) {
+            Ok(_) => Ok(()),
+            Err(_) => Err(AllocError),
+        }
     }
 
-    /// Puts the line of a known refused program among those that are to be written.
+    /// Keeps the line of a refused program for which the scan would fail, if lines are kept.
     ///
     /// # Errors
     /// If memory runs out.
     pub(super) fn add_line(&mut self, line: &str) -> Result<(), AllocError> {
-        self.lines.push_str(line)?;
-        self.lines.push('\n')
+        let Some(lines) = &mut self.lines else {
+            return Ok(());
+        };
+        lines.push_str(line)?;
+        lines.push('\n')
     }
 
-    /// Returns the lines that are to be written.
+    /// Whether lines are kept.
+    pub(super) fn keeps_lines(&self) -> bool {
+        self.lines.is_some()
+    }
+
+    /// Returns the lines that are kept.
     pub(super) fn lines(&self) -> &str {
-        self.lines.as_str()
+        match &self.lines {
+            Some(lines) => lines.as_str(),
+            None => "",
+        }
+    }
+
+    /// Returns how many font files were told, a face of a collection as one.
+    fn fonts(&self) -> usize {
+        self.accepted
+            .saturating_add(self.refused)
+            .saturating_add(self.unread)
     }
 }
 
-/// The line of a scan of this many font files, of which so many refused programs were known, where a
-/// file of known refusals is named.
+/// The line of a scan, in which a file of known refusals has so many lines, if one is named.
 #[derive(Clone, Copy)]
 struct Summary<'a> {
-    fonts: usize,
     tally: &'a Tally,
-    has_file: bool,
+    listed: Option<usize>,
 }
 
 impl fmt::Display for Summary<'_> {
@@ -84,40 +112,37 @@ impl fmt::Display for Summary<'_> {
             refused,
             unread,
             known,
+            met,
             ..
         } = self.tally;
+        let fonts = self.tally.fonts();
+        let word = if fonts == 1 { "font" } else { "fonts" };
         write!(
             f,
-            "{} fonts: {accepted} accepted, {refused} refused, ",
-            self.fonts
+            "{fonts} {word}: {accepted} accepted, {refused} refused, {unread} without an answer"
         )?;
-        write!(f, "{unread} without an answer")?;
-        if self.has_file {
-            write!(f, ", {known} known refusals")?;
-        }
-        Ok(())
+        let Some(listed) = self.listed else {
+            return Ok(());
+        };
+        let word = if *known == 1 { "refusal" } else { "refusals" };
+        let unmet = listed.saturating_sub(met.len());
+        write!(f, ", {known} known {word}, {unmet} of FILE not met")
     }
 }
 
-/// Prints the line of a scan of this many font files, of which so many refused programs were known,
-/// where a file of known refusals is named; except in the form JSON. That it can't be printed is not
-/// told.
+/// Prints the line of a scan, in which a file of known refusals has so many lines, if one is named;
+/// except in the form JSON. That it can't be printed is not told.
 pub(super) fn tell_summary<E: Sink>(
     err: &mut E,
-    fonts: usize,
     tally: &Tally,
-    has_file: bool,
+    listed: Option<usize>,
     format: Format,
 )
     ensures { E.failures err.old ≤ E.failures err.new }
 {
     match format {
-        Format::Lines | Format::Causes | Format::Needs => {
-            let summary = Summary {
-                fonts,
-                tally,
-                has_file,
-            };
+        Format::Lines => {
+            let summary = Summary { tally, listed };
             let _ = writeln!(err, "{summary}");
         }
         Format::Json => {}

@@ -1,134 +1,52 @@
 //! The subcommand `scan`: the verdicts on font files, a line or an object for each.
 
-ghost use Rattle.std.specs.Prelude.{◌≡◌, ◌++◌, ◌∷◌, ◌≤◌, [], codes, IfErr, IfOk, map, OnOk, option_map, string_bytes};
-ghost use Rattle.std.specs.Io.KnownBytes.{Appends};
-ghost use Rattle.tt_code.specs.Refusals.{class_of};
-ghost use Rattle.tt_stream.specs.Streams.{CountsPrintFailure};
-ghost use Rattle.hintcheck_words.specs.Requests.{scan};
+ghost use Rattle.std.specs.Prelude.{◌≡◌, ◌++◌, ◌∷◌, ◌≤◌, [], false, IfErr, IfOk, map, not, OnOk, option_map, string_bytes};
+ghost use Rattle.std.specs.List.{list_any};
+ghost use Rattle.hintcheck_words.specs.declared.words.Format.TheVariants.{Lines};
+ghost use Rattle.hintcheck_words.specs.Requests.{scan, texts_spelled};
 ghost use Rattle.hintcheck.specs.Representation.Answers.{IsAnswered};
 ghost use Rattle.hintcheck.specs.Commands.{IsNoWriteFault, TellsFailure};
+ghost use Rattle.hintcheck.specs.CommandFaults.{IsFaultOfFontFile};
 ghost use Rattle.hintcheck.specs.KnownRefusals.{fails_for, is_unknown};
-ghost use Rattle.hintcheck.specs.RefusalClasses.{class_text, number_of_class};
-ghost use Rattle.hintcheck.specs.Representation.Known.{is_known_by};
-ghost use Rattle.hintcheck.specs.Scans.{PrintsScan, PrintsScanning, TellsFont, answer_text, counts_text, is_silent as is_silent_of, judged, left_out_text, line_of, status_of_answer, unread};
-ghost use Rattle.hintcheck.specs.Texts.{profile_text};
+ghost use Rattle.hintcheck.specs.Representation.Known.{are_alone, is_known_by};
+ghost use Rattle.hintcheck.specs.Representation.ScannedFiles.{ScansFile, ScansFiles, ScansLabels, label_of};
+ghost use Rattle.hintcheck.specs.ScannedNames.{HoldsOfLabels, shown_names};
+ghost use Rattle.hintcheck.specs.Scans.{PrintsScanning, TellsFont, is_silent as is_silent_of, judged as judged_so, names_none, status_of_refused, unread};
 
-use super::cause_lines::causes_text;
-use super::faults::CommandFault;
+use super::faults::{CommandFault, FileWord, WholeFault};
+use super::files::file_bytes;
+use super::font_bytes::font_in_file;
+use super::font_label::FontLabel;
 use super::json_objects::{print_fault_object, print_verdict_object};
-use super::known_refusals::{Known, line_of as refusal_line_of};
+use super::known_refusals::{Known, check_names, line_of as refusal_line_of, write_file};
 use super::listed_names::listed_names;
-use super::need_lines::needs_line;
+use super::scan_lines::{print_label, print_line};
+use super::scan_more::more_text;
 use super::scan_summary::{Tally, tell_summary};
-use super::shown_names::print_shown;
-use super::verdict_lines::end_of_profile;
-use super::verdict_task::{JudgedFont, judged_font};
 use super::{ACCEPTED, REFUSED};
-use crate::causes::causes_of;
-use hintcheck_programs::report::{Name, Refused, Verdict};
-use hintcheck_words::{FailOn, FontWords, Format, Profile, ScanOptions};
-use std::alloc::Global;
+use crate::font_file::judged_font;
+use hintcheck_fonts::Judged;
+use hintcheck_programs::report::{Refused, Verdict};
+use hintcheck_words::{Faces, FailOn, FontWords, Format, ScanOptions, ScanTexts};
+use std::alloc::{AllocError, Global};
 use std::rt::Files;
-use tt_code::{Reason, ReasonClass};
-use tt_stream::{PrintFailed, Sink};
+use tt_code::ReasonClass;
+use tt_collection::{Collection, is_collection};
+use tt_stream::Sink;
 
-/// Returns how many of the refused programs have a reason of this class.
-fn count_of(refused: &[Refused], class: ReasonClass) -> usize
-    ensures { result ≡ number_of_class class refused.now }
-{
-    let mut count = 0;
-    for program in refused {
-        if program.reason.class() == class {
-            count += 1;
-        }
-    }
-    count
+/// How the font files of a scan are checked and told, and which refused programs are known.
+#[derive(Clone, Copy)]
+pub(super) struct Plan<'a> {
+    options: ScanOptions,
+    known: &'a Known,
 }
 
-/// Returns the reason's class in words.
-pub(super) fn text_of_class(reason: Reason) -> &'static str
-    ensures { result.now ≡ class_text (class_of reason) }
-{
-    match reason.class() {
-        ReasonClass::PossibleFault => "possible fault",
-        ReasonClass::Undecided => "undecided",
-        ReasonClass::LeftOut => "left out",
-        ReasonClass::Certificate => "certificate",
-    }
-}
-
-/// Prints how many programs are refused for what the analysis leaves out by choice, if some are.
-fn print_left_out<O: Sink>(out: &mut O, count: usize) -> Result<(), PrintFailed>
-    ensures written { OnOk result
-        (Appends (O.contents out.old) (O.contents out.new) (left_out_text count)) }
-    ensures failures { CountsPrintFailure result (O.failures out.old) (O.failures out.new) }
-{
-    if count == 0 {
-        return Ok(());
-    }
-    write!(out, ", {count} left out")
-}
-
-/// Prints the end of the line of a font of which glyph programs are refused, with how many of them
-/// are refused by this profile as a possible fault, as undecided, and as left out by choice.
-fn print_counts<O: Sink>(
-    out: &mut O,
-    programs: u32,
-    refused: &[Refused],
-    profile: Profile,
-) -> Result<(), PrintFailed>
-    ensures written { OnOk result (Appends (O.contents out.old) (O.contents out.new)
-        (codes ": refused: "
-        ++ ((counts_text programs refused.now ++ profile_text profile) ++ codes "\n"))) }
-    ensures failures { CountsPrintFailure result (O.failures out.old) (O.failures out.new) }
-{
-    let count = refused.len();
-    let possible = count_of(refused, ReasonClass::PossibleFault);
-    let undecided = count_of(refused, ReasonClass::Undecided);
-    let left_out = count_of(refused, ReasonClass::LeftOut);
-    write!(out, ": refused: {count} of {programs} programs ")?;
-    write!(out, "({possible} possible faults, {undecided} undecided")?;
-    print_left_out(out, left_out)?;
-    let end = end_of_profile(profile);
-    writeln!(out, "){end}")
-}
-
-/// Prints what follows a font's name in its line: its verdict, one of this profile.
-fn print_answer<O: Sink>(
-    out: &mut O,
-    verdict: &Verdict,
-    profile: Profile,
-) -> Result<(), PrintFailed>
-    ensures written { OnOk result (Appends (O.contents out.old) (O.contents out.new)
-        (answer_text profile (judged verdict.now))) }
-    ensures failures { CountsPrintFailure result (O.failures out.old) (O.failures out.new) }
-{
-    let programs = verdict.programs();
-    let end = end_of_profile(profile);
-    let Some(first) = verdict.refused().first() else {
-        return writeln!(out, ": accepted: {programs} programs{end}");
-    };
-    let class = text_of_class(first.reason);
-    match first.program {
-        Name::Font => writeln!(out, ": refused: font program ({class}){end}"),
-        Name::Cvt => writeln!(out, ": refused: cvt program ({class}){end}"),
-        Name::Glyph(_) => print_counts(out, programs, verdict.refused(), profile),
-    }
-}
-
-/// Prints the line of a font, whose verdict is one of this profile.
-fn print_line<O: Sink>(
-    out: &mut O,
-    name: &str,
-    verdict: &Verdict,
-    profile: Profile,
-) -> Result<(), PrintFailed>
-    ensures written { OnOk result (Appends (O.contents out.old) (O.contents out.new)
-        (line_of profile name.now (judged verdict.now))) }
-    ensures failures { CountsPrintFailure result (O.failures out.old) (O.failures out.new) }
-{
-    print_shown(out, name)?;
-    print_answer(out, verdict, profile)
+/// A font file that was judged: what it is called, its bytes, and the verdict.
+#[derive(Clone, Copy)]
+pub(super) struct ScannedFont<'a> {
+    pub label: FontLabel<'a>,
+    pub bytes: &'a [u8],
+    pub judged: &'a Judged,
 }
 
 /// Whether a scan fails for the refused program.
@@ -143,7 +61,7 @@ fn does_count(refused: &Refused, fail_on: Option<FailOn>) -> bool
 
 /// Returns the exit status of a verdict: 1 where the scan fails for one of its refused programs.
 fn verdict_status(verdict: &Verdict, fail_on: Option<FailOn>) -> u8
-    ensures { result ≡ status_of_answer (fails_for fail_on) (judged verdict.now) }
+    ensures { result ≡ status_of_refused (fails_for fail_on) verdict.now.refused }
 {
     let mut status = ACCEPTED;
     for refused in verdict.refused() {
@@ -154,257 +72,473 @@ fn verdict_status(verdict: &Verdict, fail_on: Option<FailOn>) -> u8
     status
 }
 
-/// Whether the refused program of the font file with this name counts, and isn't known. One that is
-/// known is counted, and its line noted where it is to be written.
+/// Whether the refused program of the font file with this label counts, and isn't known. One that is
+/// known is counted, and the line of one that counts is kept where lines are to be written.
 fn note_program(
     alloc: Global,
-    name: &str,
+    label: FontLabel<'_>,
     refused: &Refused,
-    fail_on: Option<FailOn>,
-    known: &Known<'_>,
+    plan: Plan<'_>,
     tally: &mut Tally,
 ) -> Result<bool, CommandFault>
-    ensures unknown { IfOk result
-        (λ unknown. unknown ≡ is_unknown fail_on (is_known_by known.now) name.now refused.now) }
+    ensures unknown { IfOk result (λ unknown. unknown ≡ is_unknown plan.entry.options.fail_on
+        (is_known_by plan.entry.known.now) (label_of label.entry) refused.now) }
     ensures unwritten { IfErr result IsNoWriteFault }
 {
-    if !does_count(refused, fail_on) {
+    if !does_count(refused, plan.options.fail_on) {
         return Ok(false);
     }
-    let line = refusal_line_of(alloc, name, refused)?;
-    if !known.has(&line) {
+    let line = refusal_line_of(alloc, label, refused)?;
+    tally.add_line(&line)?;
+    if !plan.known.has(&line) {
         return Ok(true);
     }
-    if let Known::All(_) = known {
-        tally.add_line(&line)?;
-    }
-    tally.count_known();
+    tally.count_known(line)?;
     Ok(false)
 }
 
-/// Returns the exit status of a verdict on the font file with this name: 1 where a refused program
-/// counts that isn't known.
+/// Adds a refused program to others.
+///
+/// # Errors
+/// If memory runs out.
+fn add_refused(others: &mut Vec<Refused>, refused: Refused) -> Result<(), AllocError>
+    ensures { OnOk result (others.new.items ≡ others.old.items ++ refused ∷ []) }
+{
+    Ok(others.push(refused)?)
+}
+
+/// Returns the refused programs of the font file with this label that count and aren't known.
+fn unknown_of(
+    alloc: Global,
+    label: FontLabel<'_>,
+    verdict: &Verdict,
+    plan: Plan<'_>,
+    tally: &mut Tally,
+) -> Result<Vec<Refused>, CommandFault>
+    ensures some { IfOk result (λ unknown. not (names_none unknown.items)
+        ≡ list_any (is_unknown plan.entry.options.fail_on (is_known_by plan.entry.known.now)
+        (label_of label.entry)) verdict.now.refused) }
+    ensures unwritten { IfErr result IsNoWriteFault }
+{
+    let mut unknown = Vec::new(alloc);
+    for refused in verdict.refused() {
+        if note_program(alloc, label, refused, plan, tally)? {
+            add_refused(&mut unknown, *refused)?;
+        }
+    }
+    Ok(unknown)
+}
+
+/// What a scan notes of a verdict.
+#[derive(Drop)]
+struct Noted {
+    /// The exit status: 1 where a refused program counts that isn't known.
+    status: u8,
+    /// These programs, where a file of known refusals is named.
+    unknown: Vec<Refused>,
+}
+
+/// Notes the verdict on the font file with this label.
 fn note_verdict(
     alloc: Global,
-    name: &str,
+    label: FontLabel<'_>,
     verdict: &Verdict,
-    fail_on: Option<FailOn>,
-    known: &Known<'_>,
+    plan: Plan<'_>,
     tally: &mut Tally,
-) -> Result<u8, CommandFault>
-    ensures status { IfOk result (λ status. status
-        ≡ status_of_answer (is_unknown fail_on (is_known_by known.now) name.now)
-        (judged verdict.now)) }
+) -> Result<Noted, CommandFault>
+    ensures status { IfOk result (λ noted. noted.status
+        ≡ status_of_refused (is_unknown plan.entry.options.fail_on
+        (is_known_by plan.entry.known.now) (label_of label.entry)) verdict.now.refused) }
     ensures unwritten { IfErr result IsNoWriteFault }
 {
     tally.count_verdict(verdict.accepted());
-    if let Known::Nothing = known {
-        return Ok(verdict_status(verdict, fail_on));
+    if let Known::Nothing = plan.known
+        && !tally.keeps_lines()
+    {
+        return Ok(Noted {
+            status: verdict_status(verdict, plan.options.fail_on),
+            unknown: Vec::new(alloc),
+        });
     }
-    let mut status = ACCEPTED;
-    for refused in verdict.refused() {
-        if note_program(alloc, name, refused, fail_on, known, tally)? {
-            status = REFUSED;
-        }
-    }
-    Ok(status)
+    let unknown = unknown_of(alloc, label, verdict, plan, tally)?;
+    let status = if unknown.is_empty() {
+        ACCEPTED
+    } else {
+        REFUSED
+    };
+    Ok(Noted { status, unknown })
 }
 
 /// Whether nothing is printed of a font with this verdict: in a quiet scan, of one that is accepted.
-fn is_silent(verdict: &Verdict, options: ScanOptions) -> bool
-    ensures { result ≡ is_silent_of options (judged verdict.now) }
+fn is_silent(judged: &Judged, options: ScanOptions) -> bool
+    ensures { result ≡ is_silent_of options (judged_so judged.now.by judged.now.verdict) }
 {
-    options.is_quiet && verdict.accepted()
+    options.is_quiet && judged.verdict.accepted()
 }
 
-/// Prints what these options ask for of the font file with this name and this verdict.
+/// Prints the line of a font, and after it what more is asked for; of these refused programs it is told
+/// that they aren't known.
+fn tell_lines<O: Sink>(
+    alloc: Global,
+    out: &mut O,
+    font: ScannedFont<'_>,
+    unknown: &[Refused],
+    plan: Plan<'_>,
+) -> Result<(), CommandFault>
+    requires lines { plan.entry.options.format ≡ Lines }
+    requires loud { is_silent_of plan.entry.options
+        (judged_so font.entry.judged.now.by font.entry.judged.now.verdict) ≡ false }
+    ensures written { OnOk result (TellsFont plan.entry.options
+        (are_alone plan.entry.options plan.entry.known.now) (label_of font.entry.label)
+        (judged_so font.entry.judged.now.by font.entry.judged.now.verdict)
+        (O.contents out.old) (O.contents out.new)) }
+    ensures failures { TellsFailure result (O.failures out.old) (O.failures out.new) }
+{
+    print_line(out, font.label, font.judged)?;
+    if plan.known.are_alone(plan.options) {
+        return Ok(());
+    }
+    let told = if plan.known.count().is_some() {
+        unknown
+    } else {
+        &[]
+    };
+    let more = more_text(alloc, font, plan.options, told)?;
+    Ok(write!(out, "{more}")?)
+}
+
+/// Prints what is asked for of a font file, of which these refused programs aren't known.
 fn tell_judged<O: Sink>(
     alloc: Global,
     out: &mut O,
-    name: &str,
-    font: &JudgedFont,
-    options: ScanOptions,
+    font: ScannedFont<'_>,
+    unknown: &[Refused],
+    plan: Plan<'_>,
 ) -> Result<(), CommandFault>
-    ensures written { OnOk result (TellsFont options name.now (judged font.now.verdict)
+    ensures written { OnOk result (TellsFont plan.entry.options
+        (are_alone plan.entry.options plan.entry.known.now) (label_of font.entry.label)
+        (judged_so font.entry.judged.now.by font.entry.judged.now.verdict)
         (O.contents out.old) (O.contents out.new)) }
     ensures failures { TellsFailure result (O.failures out.old) (O.failures out.new) }
 {
-    let profile = options.profile;
-    let verdict = &font.verdict;
-    if is_silent(verdict, options) {
+    if is_silent(font.judged, plan.options) {
         return Ok(());
     }
-    match options.format {
-        Format::Lines => Ok(print_line(out, name, verdict, profile)?),
-        Format::Causes => {
-            print_line(out, name, verdict, profile)?;
-            let causes = causes_of(alloc, verdict.refused())?;
-            let lines = causes_text(alloc, &font.bytes, &causes)?;
-            Ok(write!(out, "{lines}")?)
-        }
-        Format::Needs => {
-            print_line(out, name, verdict, profile)?;
-            let line = needs_line(alloc, &font.bytes, profile)?;
-            Ok(write!(out, "{line}")?)
-        }
+    match plan.options.format {
+        Format::Lines => tell_lines(alloc, out, font, unknown, plan),
         Format::Json => {
-            let status = verdict_status(verdict, options.fail_on);
-            print_verdict_object(alloc, out, name, &font.bytes, verdict, profile, status)
+            let status = verdict_status(&font.judged.verdict, plan.options.fail_on);
+            print_verdict_object(alloc, out, font, plan.options, status)
         }
     }
 }
 
-/// Prints what these options ask for of the font file with this name and this fault.
+/// Prints the fault of the font file with this label.
 fn tell_unread<O: Sink>(
     alloc: Global,
     out: &mut O,
-    name: &str,
+    label: FontLabel<'_>,
     fault: &CommandFault,
-    options: ScanOptions,
+    plan: Plan<'_>,
 ) -> Result<(), CommandFault>
-    ensures written { OnOk result (TellsFont options name.now (unread fault.now)
-        (O.contents out.old) (O.contents out.new)) }
+    ensures written { OnOk result (TellsFont plan.entry.options
+        (are_alone plan.entry.options plan.entry.known.now) (label_of label.entry)
+        (unread fault.now) (O.contents out.old) (O.contents out.new)) }
     ensures failures { TellsFailure result (O.failures out.old) (O.failures out.new) }
 {
-    if let Format::Json = options.format {
-        return print_fault_object(alloc, out, name, fault, options.profile);
+    if let Format::Json = plan.options.format {
+        return print_fault_object(alloc, out, label, fault, plan.options.profile);
     }
-    print_shown(out, name)?;
+    let whole = WholeFault(fault);
+    print_label(out, label)?;
     write!(out, ": fault: ")?;
-    writeln!(out, "{fault}")?;
+    writeln!(out, "{whole}")?;
     Ok(())
 }
 
-/// Prints what is told of the font file with this name, counts it and its known refusals, and returns
-/// its exit status: that of its verdict, or of the fault.
-fn scan_font<R: Files + AllocGlobal, O: Sink>(
-    rt: &R,
-    name: &str,
-    options: ScanOptions,
-    known: &Known<'_>,
+/// Prints and counts the fault of the font file with this label, and returns its exit status.
+fn scan_unread<O: Sink>(
+    alloc: Global,
+    label: FontLabel<'_>,
+    fault: &CommandFault,
+    plan: Plan<'_>,
     tally: &mut Tally,
     out: &mut O,
 ) -> Result<u8, CommandFault>
-    ensures printed { IfOk result (λ status. PrintsScan options (is_known_by known.now)
-        (name.now ∷ []) status (O.contents out.old) (O.contents out.new)) }
+    requires { IsFaultOfFontFile fault.now }
+    ensures printed { IfOk result (λ status. ScansLabels plan.entry (label_of label.entry ∷ [])
+        status (O.contents out.old) (O.contents out.new)) }
     ensures failures { TellsFailure result (O.failures out.old) (O.failures out.new) }
 {
-    match judged_font(rt, name, options.profile) {
-        Ok(font) => {
-            tell_judged(rt.alloc(), out, name, &font, options)?;
-            note_verdict(
-                rt.alloc(),
-                name,
-                &font.verdict,
-                options.fail_on,
-                known,
-                tally,
-            )
-        }
+    tell_unread(alloc, out, label, fault, plan)?;
+    tally.count_fault();
+    Ok(fault.status())
+}
+
+/// Judges the font file with this label and these bytes, prints what is told of it, counts it and its
+/// known refusals, and returns its exit status: that of its verdict, or of the fault.
+fn scan_font<O: Sink>(
+    alloc: Global,
+    label: FontLabel<'_>,
+    bytes: &[u8],
+    plan: Plan<'_>,
+    tally: &mut Tally,
+    out: &mut O,
+) -> Result<u8, CommandFault>
+    ensures printed { IfOk result (λ status. ScansLabels plan.entry (label_of label.entry ∷ [])
+        status (O.contents out.old) (O.contents out.new)) }
+    ensures failures { TellsFailure result (O.failures out.old) (O.failures out.new) }
+{
+    let judged = match judged_font(alloc, bytes, plan.options.profile) {
+        Ok(judged) => judged,
+        Err(fault) => return scan_unread(alloc, label, &fault, plan, tally, out),
+    };
+    let noted = note_verdict(alloc, label, &judged.verdict, plan, tally)?;
+    let font = ScannedFont {
+        label,
+        bytes,
+        judged: &judged,
+    };
+    tell_judged(alloc, out, font, &noted.unknown, plan)?;
+    Ok(noted.status)
+}
+
+/// Scans the face of this number of a collection, which has this name, as `scan_font` does.
+fn scan_face<O: Sink>(
+    alloc: Global,
+    collection: &Collection<'_>,
+    label: FontLabel<'_>,
+    number: u32,
+    plan: Plan<'_>,
+    tally: &mut Tally,
+    out: &mut O,
+) -> Result<u8, CommandFault>
+    ensures printed { IfOk result (λ status. ScansLabels plan.entry (label_of label.entry ∷ [])
+        status (O.contents out.old) (O.contents out.new)) }
+    ensures failures { TellsFailure result (O.failures out.old) (O.failures out.new) }
+{
+    match collection.face(alloc, number) {
+        Ok(font) => scan_font(alloc, label, &font, plan, tally, out),
         Err(fault) => {
-            tell_unread(rt.alloc(), out, name, &fault, options)?;
-            tally.count_fault();
-            Ok(fault.status())
+            let fault = CommandFault::from(fault);
+            scan_unread(alloc, label, &fault, plan, tally, out)
         }
     }
 }
 
-/// Prints what is told of each of the font files with these names, counts them and their known
-/// refusals, and returns the greatest exit status of them.
-fn scan_all<R: Files + AllocGlobal, O: Sink>(
-    rt: &R,
-    fonts: &[String],
-    options: ScanOptions,
-    known: &Known<'_>,
+/// Scans each face of a collection, which has this name, and returns the greatest exit status.
+fn scan_faces<O: Sink>(
+    alloc: Global,
+    collection: &Collection<'_>,
+    name: &str,
+    plan: Plan<'_>,
     tally: &mut Tally,
     out: &mut O,
 ) -> Result<u8, CommandFault>
-    ensures printed { IfOk result (λ status. PrintsScan options (is_known_by known.now)
-        (map (λ s. string_bytes s) fonts.now) status (O.contents out.old) (O.contents out.new)) }
+    ensures printed { IfOk result (λ status. ScansFile plan.entry name.now status
+        (O.contents out.old) (O.contents out.new)) }
     ensures failures { TellsFailure result (O.failures out.old) (O.failures out.new) }
 {
     let mut greatest = ACCEPTED;
-    for font in fonts {
-        let status = scan_font(rt, font, options, known, tally, out)?;
+    for number in 0..collection.face_count() {
+        let label = FontLabel {
+            file: name,
+            face: Some(number),
+        };
+        let status = scan_face(alloc, collection, label, number, plan, tally, out)?;
         greatest = greatest.max(status);
     }
     Ok(greatest)
 }
 
-/// Returns the name of a file that may be named.
-fn name_in(name: &Option<String>) -> Option<&str>
-    ensures { option_map (λ text. text.now) result
-        ≡ option_map (λ s. string_bytes s) name.now }
+/// Scans what the file with this name and these bytes has: itself, the face of it that is asked for, or
+/// each one.
+fn scan_bytes<O: Sink>(
+    alloc: Global,
+    bytes: Vec<u8>,
+    name: &str,
+    plan: Plan<'_>,
+    tally: &mut Tally,
+    out: &mut O,
+) -> Result<u8, CommandFault>
+    ensures printed { IfOk result (λ status. ScansFile plan.entry name.now status
+        (O.contents out.old) (O.contents out.new)) }
+    ensures failures { TellsFailure result (O.failures out.old) (O.failures out.new) }
 {
-    match name {
-        Some(name) => Some(name.as_str()),
+    if plan.options.faces == Faces::All && is_collection(&bytes) {
+        return match Collection::read(&bytes) {
+            Ok(collection) => scan_faces(alloc, &collection, name, plan, tally, out),
+            Err(fault) => {
+                let fault = CommandFault::from(fault);
+                let label = FontLabel::of_file(name);
+                scan_unread(alloc, label, &fault, plan, tally, out)
+            }
+        };
+    }
+    match font_in_file(alloc, bytes, plan.options.faces) {
+        Ok(font) => {
+            let label = FontLabel {
+                file: name,
+                face: font.face,
+            };
+            scan_font(alloc, label, &font.bytes, plan, tally, out)
+        }
+        Err(fault) => {
+            let label = FontLabel::of_file(name);
+            scan_unread(alloc, label, &fault, plan, tally, out)
+        }
+    }
+}
+
+/// Scans the font file `font`, which is told by this name.
+fn scan_file<R: Files + AllocGlobal, O: Sink>(
+    rt: &R,
+    font: &str,
+    name: &str,
+    plan: Plan<'_>,
+    tally: &mut Tally,
+    out: &mut O,
+) -> Result<u8, CommandFault>
+    ensures printed { IfOk result (λ status. ScansFile plan.entry name.now status
+        (O.contents out.old) (O.contents out.new)) }
+    ensures failures { TellsFailure result (O.failures out.old) (O.failures out.new) }
+{
+    match file_bytes(rt, font, FileWord::Font, plan.options.max_bytes) {
+        Ok(bytes) => scan_bytes(rt.alloc(), bytes, name, plan, tally, out),
+        Err(fault) => {
+            let label = FontLabel::of_file(name);
+            scan_unread(rt.alloc(), label, &fault, plan, tally, out)
+        }
+    }
+}
+
+/// Scans each of the font files with these names, and returns the greatest exit status.
+fn scan_all<R: Files + AllocGlobal, O: Sink>(
+    rt: &R,
+    fonts: &[String],
+    plan: Plan<'_>,
+    tally: &mut Tally,
+    out: &mut O,
+) -> Result<u8, CommandFault>
+    ensures printed { IfOk result (λ status. ScansFiles plan.entry
+        (map (λ s. string_bytes s) fonts.now) status (O.contents out.old) (O.contents out.new)) }
+    ensures failures { TellsFailure result (O.failures out.old) (O.failures out.new) }
+{
+    let mut greatest = ACCEPTED;
+    for font in fonts {
+        let status = scan_file(rt, font, font, plan, tally, out)?;
+        greatest = greatest.max(status);
+    }
+    Ok(greatest)
+}
+
+/// Scans the font files with these names; where another name is given, the only one by that.
+///
+/// # Errors
+/// `NameWord` where another name is given, and there isn't one font file.
+fn scan_shown<R: Files + AllocGlobal, O: Sink>(
+    rt: &R,
+    fonts: &[String],
+    name: Option<&str>,
+    plan: Plan<'_>,
+    tally: &mut Tally,
+    out: &mut O,
+) -> Result<u8, CommandFault>
+    ensures printed { IfOk result (λ status. ScansFiles plan.entry
+        (shown_names (option_map (λ n. n.now) name) (map (λ s. string_bytes s) fonts.now)) status
+        (O.contents out.old) (O.contents out.new)) }
+    ensures failures { TellsFailure result (O.failures out.old) (O.failures out.new) }
+{
+    match (name, fonts) {
+        (None, _) => scan_all(rt, fonts, plan, tally, out),
+        (Some(name), [font]) => scan_file(rt, font, name, plan, tally, out),
+        (Some(_), _) => Err(CommandFault::NameWord),
+    }
+}
+
+/// Returns the text, if there is one.
+fn text_in(text: &Option<String>) -> Option<&str>
+    ensures { option_map (λ text. text.now) result
+        ≡ option_map (λ s. string_bytes s) text.now }
+{
+    match text {
+        Some(text) => Some(text.as_str()),
         None => None,
     }
 }
 
-/// Prints a line or an object for each of the font files with these names, in the form Causes with
-/// the lines of its causes, and to `err` a line that counts them, except in the form JSON; returns
-/// the greatest exit status of them: 0 where the scan fails for no program, 1 where it fails for
-/// one, and more where a font file has a fault. It doesn't fail for the refused programs that the file
-/// of known refusals holds, if one is named; where that file doesn't exist, it is written with all for
-/// which the scan would fail. That the counts can't be printed is not told.
+/// Prints a line or an object for each of the font files with these names, or each face, with what more
+/// is asked for, and to `err` a line that counts them, except in the form JSON; returns the greatest
+/// exit status of them: 0 where the scan fails for no program, 1 where it fails for one, and more where
+/// a font file has a fault. It doesn't fail for the refused programs that the file of known refusals
+/// holds, if one is named. The lines of all for which it would fail without that file are written to
+/// another file, if one is named. That the counts can't be printed is not told.
 ///
 /// # Errors
 /// `ClassWord` where the word for which programs the scan is to fail names none, and nothing is
-/// printed then, nor for the faults of `Known::of`; `Write` exactly where a write to `out` failed;
-/// `OutOfMemory` where memory ran out at an object, at causes or at the line of a refused program;
-/// after the last line, `File` where the file of known refusals can't be written.
+/// printed then, nor for the faults of `Known::of` and of `check_names`, nor for `NameWord`; `Write`
+/// exactly where a write to `out` failed; `OutOfMemory` where memory ran out at what is told of a font;
+/// after the last line, `File` where the other file can't be written.
 fn scan_fonts<R: Files + AllocGlobal, O: Sink, E: Sink>(
     rt: &R,
     fonts: &[String],
     options: ScanOptions,
-    expected: &Option<String>,
+    texts: &ScanTexts,
     out: &mut O,
     err: &mut E,
 ) -> Result<u8, CommandFault>
-    ensures printed { IfOk result (λ status.
-        PrintsScanning options (map (λ s. string_bytes s) fonts.now)
-        (option_map (λ s. string_bytes s) expected.now)
-        status (O.contents out.old) (O.contents out.new)) }
+    ensures printed { IfOk result (λ status. HoldsOfLabels
+        (shown_names (texts_spelled texts.now).name (map (λ s. string_bytes s) fonts.now))
+        (λ labels. PrintsScanning options labels (texts_spelled texts.now).expected
+        status (O.contents out.old) (O.contents out.new))) }
     ensures failures { TellsFailure result (O.failures out.old) (O.failures out.new) }
     ensures untold { E.failures err.old ≤ E.failures err.new }
 {
     if options.fail_on.is_none() {
         return Err(CommandFault::ClassWord);
     }
-    let known = Known::of(rt, fonts, name_in(expected))?;
-    let mut tally = Tally::new(rt.alloc());
-    let greatest = scan_all(rt, fonts, options, &known, &mut tally, out)?;
-    tell_summary(err, fonts.len(), &tally, expected.is_some(), options.format);
-    known.write_missing(rt, tally.lines())?;
-    Ok(greatest)
+    let written = text_in(&texts.written);
+    if let Some(file) = written {
+        check_names(rt, fonts, file)?;
+    }
+    let known = Known::of(rt, fonts, text_in(&texts.expected), options.max_bytes)?;
+    let plan = Plan {
+        options,
+        known: &known,
+    };
+    let mut tally = Tally::new(rt.alloc(), written.is_some());
+    let status = scan_shown(rt, fonts, text_in(&texts.name), plan, &mut tally, out)?;
+    tell_summary(err, &tally, known.count(), options.format);
+    if let Some(file) = written {
+        write_file(rt, file, tally.lines())?;
+    }
+    Ok(status)
 }
 
 /// Scans the font files that these words name, or of which they name lists, as `scan_fonts` does.
 ///
 /// # Errors
-/// Before anything is printed `Unopened`, `Read` or `OutOfMemory` where a list can't be read; those of
-/// `scan_fonts`.
+/// Before anything is printed `Unopened`, `TooLong`, `Read` or `OutOfMemory` where a list can't be read;
+/// those of `scan_fonts`.
 pub(super) fn scan_words<R: Files + AllocGlobal, O: Sink, E: Sink>(
     rt: &R,
     words: &[String],
     options: ScanOptions,
-    expected: &Option<String>,
+    texts: &ScanTexts,
     out: &mut O,
     err: &mut E,
 ) -> Result<u8, CommandFault>
     ensures answer { IfOk result (λ status. IsAnswered (scan
-        (map (λ s. string_bytes s) words.now) options
-        (option_map (λ s. string_bytes s) expected.now))
+        (map (λ s. string_bytes s) words.now) options (texts_spelled texts.now))
         status (O.contents out.old) (O.contents out.new)) }
     ensures failures { TellsFailure result (O.failures out.old) (O.failures out.new) }
     ensures untold { E.failures err.old ≤ E.failures err.new }
 {
-    match options.words {
-        FontWords::Fonts => scan_fonts(rt, words, options, expected, out, err),
-        FontWords::Lists => {
-            let fonts = listed_names(rt, words)?;
-            scan_fonts(rt, &fonts, options, expected, out, err)
-        }
-    }
+    let ending = match options.words {
+        FontWords::Fonts => return scan_fonts(rt, words, options, texts, out, err),
+        FontWords::Lines => b'\n',
+        FontWords::Nuls => 0,
+    };
+    let fonts = listed_names(rt, words, ending, options.max_bytes)?;
+    scan_fonts(rt, &fonts, options, texts, out, err)
 }

@@ -9,7 +9,7 @@ ghost use Rattle.hintcheck.specs.Representation.Answers.{IsAnswered};
 ghost use Rattle.hintcheck_certificates.specs.Upgrades.{IsNumberOfPrograms, IsUpgradeOf, UpgradesTo};
 
 use super::ACCEPTED;
-use super::faults::CommandFault;
+use super::faults::{CommandFault, FileWord};
 use super::files::{ROOM, file_numbers, is_same_file, of_certificate, opened, write_rest};
 use hintcheck_certificates::certificate_upgrade::upgrade;
 use std::alloc::Global;
@@ -44,9 +44,14 @@ fn upgrade_file<F: Read + Drop, G: Write + Drop>(
 }
 
 /// Upgrades the certificate in the file with the first name to the file with the second, which is
-/// made or emptied once the first is open, and returns how many sections the certificate has. It is
-/// a fault if both are one file, as far as that can be known.
-fn upgrade_named<R: Files + AllocGlobal>(rt: &R, old: &str, new: &str) -> Result<u32, CommandFault>
+/// made or emptied once the first is open, and returns how many sections the certificate has. Of the
+/// first at most so many bytes are read. It is a fault if both are one file, as far as that can be known.
+fn upgrade_named<R: Files + AllocGlobal>(
+    rt: &R,
+    old: &str,
+    new: &str,
+    max_bytes: u64,
+) -> Result<u32, CommandFault>
     ensures number { IfOk result IsNumberOfPrograms }
     ensures fault { IfErr result IsNoWriteFault }
     ensures faults { IfErr result (IsFaultOfUpgrading old.now new.now) }
@@ -55,30 +60,31 @@ fn upgrade_named<R: Files + AllocGlobal>(rt: &R, old: &str, new: &str) -> Result
     if old == new || is_same_file(file_numbers(rt, old), file_numbers(rt, new)) {
         return Err(CommandFault::NewWord);
     }
-    let file = opened(rt, old)?;
+    let file = opened(rt, old, FileWord::Old)?;
     let Ok(new) = fs::create(rt, new) else {
         return Err(CommandFault::File);
     };
-    match upgrade_file(rt.alloc(), file, new) {
+    match upgrade_file(rt.alloc(), file.take(max_bytes), new) {
         Ok((count, _new)) => Ok(count),
         Err(fault) => Err(of_certificate(rt, old, fault)),
     }
 }
 
-/// Upgrades the certificate in the file with the first name to the file with the second, prints how
-/// many sections it has, and returns the exit status.
+/// Upgrades the certificate in the file with the first name, of which at most so many bytes are read, to
+/// the file with the second, prints how many sections it has, and returns the exit status.
 pub(super) fn tell_upgrade<R: Files + AllocGlobal, O: Sink>(
     rt: &R,
     old: &str,
     new: &str,
+    max_bytes: u64,
     out: &mut O,
 ) -> Result<u8, CommandFault>
-    ensures answer { IfOk result (λ status. IsAnswered (upgrade_of old.now new.now) status
+    ensures answer { IfOk result (λ status. IsAnswered (upgrade_of old.now new.now max_bytes) status
         (O.contents out.old) (O.contents out.new)) }
     ensures failures { TellsFailure result (O.failures out.old) (O.failures out.new) }
-    ensures faults { IfErr result (IsFaultOfTask (upgrade_of old.now new.now)) }
+    ensures faults { IfErr result (IsFaultOfTask (upgrade_of old.now new.now max_bytes)) }
 {
-    let count = upgrade_named(rt, old, new)?;
+    let count = upgrade_named(rt, old, new, max_bytes)?;
     writeln!(out, "upgraded: {count} sections")?;
     Ok(ACCEPTED)
 }

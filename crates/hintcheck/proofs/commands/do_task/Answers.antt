@@ -1,30 +1,29 @@
-use Rattle.std.proofs.Common.{◌≡◌, Bool, OnOk, Option, String, Global, Vec, refl, subst}
+use Rattle.std.proofs.Common.{◌≡◌, ℕ, Bool, OnOk, Option, String, Global, Vec, refl, subst}
 use Rattle.std.specs.Io.KnownBytes.{Appends}
 use Rattle.std.proofs.lemmas.Result.{IfErr-weaker, IfOk-weaker}
 use Rattle.hintcheck_words.specs.Requests.{asked}
-use Rattle.hintcheck_words.specs.declared.words.Detail.{Detail}
 use Rattle.hintcheck_words.specs.declared.words.ExplainOptions.{ExplainOptions}
-use Rattle.hintcheck_words.specs.declared.words.Profile.{Profile}
+use Rattle.hintcheck_words.specs.declared.words.ListOptions.{ListOptions}
 use Rattle.hintcheck_words.specs.declared.words.ScanOptions.{ScanOptions}
+use Rattle.hintcheck_words.specs.declared.words.ScanTexts.{ScanTexts}
 use Rattle.hintcheck_words.specs.declared.words.Task.{Task}
 use Rattle.hintcheck_words.specs.declared.words.Task.TheVariants as task
 use Rattle.hintcheck.specs.Commands.{IsForVerdict}
-use Rattle.hintcheck.specs.Printed.{profile_of}
 use Rattle.hintcheck.specs.Texts.{told_text}
 use Rattle.hintcheck.proofs.AnswerLemmas.{any_fault, printing_fault, verdict_answered}
 use Rattle.hintcheck.proofs.commands.do_task.Goals as goal
 
-for_verdict : (t : Task) → ((fonts : Vec (String Global) Global) (options : ScanOptions) (expected : Option (String Global)) → t ≡ task.Scan fonts options expected → ⊥) → ((font : String Global) (program place : Option (String Global)) (options : ExplainOptions) → t ≡ task.Explain font program place options → ⊥)
-    → ((font program : String Global) (detail : Detail) → t ≡ task.List font program detail → ⊥) → ((old new : String Global) → t ≡ task.Upgrade old new → ⊥) → IsForVerdict (asked t)
+for_verdict : (t : Task) → ((fonts : Vec (String Global) Global) (options : ScanOptions) (texts : ScanTexts) → t ≡ task.Scan fonts options texts → ⊥) → ((font : String Global) (program place : Option (String Global)) (options : ExplainOptions) → t ≡ task.Explain font program place options → ⊥)
+    → ((font program : String Global) (options : ListOptions) → t ≡ task.List font program options → ⊥) → ((old new : String Global) (max_bytes : ℕ) → t ≡ task.Upgrade old new max_bytes → ⊥) → IsForVerdict (asked t)
 unfolding asked
 for_verdict (task.Bare maxp cvt points contours program profile) scan explain other another = tt
-for_verdict (task.Verdict font profile is_quiet) scan explain other another = tt
-for_verdict (task.Scan fonts options expected) scan explain other another = absurd (scan fonts options expected refl)
+for_verdict (task.Verdict font options) scan explain other another = tt
+for_verdict (task.Scan fonts options texts) scan explain other another = absurd (scan fonts options texts refl)
 for_verdict (task.Explain font program place options) scan explain other another = absurd (explain font program place options refl)
-for_verdict (task.Find font certificate budget) scan explain other another = tt
-for_verdict (task.Check font certificate budget) scan explain other another = tt
-for_verdict (task.List font program detail) scan explain other another = absurd (other font program detail refl)
-for_verdict (task.Upgrade old new) scan explain other another = absurd (another old new refl)
+for_verdict (task.Find font certificate options) scan explain other another = tt
+for_verdict (task.Check font certificate options) scan explain other another = tt
+for_verdict (task.List font program options) scan explain other another = absurd (other font program options refl)
+for_verdict (task.Upgrade old new max_bytes) scan explain other another = absurd (another old new max_bytes refl)
 
 pub verdict_on-requires : goal.verdict_on-requires
 verdict_on-requires g c = for_verdict c.args.task.now c.in_default.not-Scan c.in_default.not-Explain c.in_default.not-List c.in_default.not-Upgrade
@@ -35,7 +34,7 @@ returns-in-Scan-clause-answer g c = IfOk-weaker c.scan_words.result _ _ (λ stat
 
 pub returns-in-Scan-clause-faults : goal.returns-in-Scan-clause-faults
 unfolding asked
-returns-in-Scan-clause-faults g c = rw c.in-Scan.is (any_fault (asked (task.Scan c.in-Scan.fonts c.in-Scan.options c.in-Scan.expected)) c.scan_words.result (λ f. tt))
+returns-in-Scan-clause-faults g c = rw c.in-Scan.is (any_fault (asked (task.Scan c.in-Scan.fonts c.in-Scan.options c.in-Scan.texts)) c.scan_words.result (λ f. tt))
 
 pub returns-in-Explain-clause-answer : goal.returns-in-Explain-clause-answer
 unfolding asked
@@ -51,7 +50,7 @@ returns-in-List-clause-answer g c = IfOk-weaker c.list_of_file.result _ _ (λ st
 
 pub returns-in-List-clause-faults : goal.returns-in-List-clause-faults
 unfolding asked
-returns-in-List-clause-faults g c = rw c.in-List.is (any_fault (asked (task.List c.in-List.font c.in-List.program c.in-List.detail)) c.list_of_file.result (λ f. tt))
+returns-in-List-clause-faults g c = rw c.in-List.is (any_fault (asked (task.List c.in-List.font c.in-List.program c.in-List.options)) c.list_of_file.result (λ f. tt))
 
 pub returns-in-Upgrade-clause-answer : goal.returns-in-Upgrade-clause-answer
 unfolding asked
@@ -68,10 +67,9 @@ returns-in_ok-verdict_on-in_default-clause-answer g c =
     let new = contents c.tell_verdict.new.out in
     let d = c.in_default in
     let told = c.tell_verdict.ensures in
-    let v = c.in_ok-verdict_on-in_default.field-0 in
-    verdict_answered (asked c.args.task.now) c.tell_verdict.result v old new (for_verdict c.args.task.now d.not-Scan d.not-Explain d.not-List d.not-Upgrade) c.in_ok-verdict_on-in_default.ensures.given told.status told.accepted told.refused
-    (subst (λ (last : Bool). OnOk c.tell_verdict.result (Appends old new (told_text last (profile_of (asked c.args.task.now)) v))) c.asks_last_line.ensures
-    (subst (λ (by : Profile). OnOk c.tell_verdict.result (Appends old new (told_text c.asks_last_line.result by v))) c.profile_of_task.ensures told.written))
+    let j = c.in_ok-verdict_on-in_default.field-0 in
+    verdict_answered (asked c.args.task.now) c.tell_verdict.result j.by j.verdict old new (for_verdict c.args.task.now d.not-Scan d.not-Explain d.not-List d.not-Upgrade) c.in_ok-verdict_on-in_default.ensures.given told.status told.accepted told.refused
+    (subst (λ (last : Bool). OnOk c.tell_verdict.result (Appends old new (told_text last j.by j.verdict))) c.asks_last_line.ensures told.written)
 
 pub returns-in_ok-verdict_on-in_default-clause-faults : goal.returns-in_ok-verdict_on-in_default-clause-faults
 returns-in_ok-verdict_on-in_default-clause-faults g c = printing_fault (asked c.args.task.now) c.tell_verdict.result c.in_ok-verdict_on-in_default.ensures.given.none c.tell_verdict.ensures.faults

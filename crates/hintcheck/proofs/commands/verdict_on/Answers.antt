@@ -2,34 +2,38 @@ use Rattle.std.proofs.Common.{inl, inr, option_map}
 use Rattle.std.specs.Prelude.{string_bytes}
 use Rattle.std.proofs.lemmas.Result.{IfErr-weaker, IfOk-weaker}
 use Rattle.hintcheck_words.specs.Requests.{asked}
-use Rattle.hintcheck_words.specs.declared.words.Task.TheVariants.{Verdict}
-use Rattle.hintcheck.proofs.AnswerLemmas.{bare_for, no_bare_for, no_verdict}
+use Rattle.hintcheck.proofs.AnswerLemmas.{bare_for, no_bare_for}
 use Rattle.hintcheck.proofs.ScanLemmas.{refused_by, safe_by}
 use Rattle.hintcheck.proofs.commands.verdict_on.Goals as goal
 
 pub returns-in-Bare-clause-given : goal.returns-in-Bare-clause-given
 unfolding asked
-returns-in-Bare-clause-given g c = IfOk-weaker c.bare_verdict.result _ _ (λ v is. rw c.in-Bare.is (bare_for _ _ _ _ _ _ _ v c.word_or_empty.ensures (rw (← c.deref.ensures) is))) c.bare_verdict.ensures.given
+returns-in-Bare-clause-given g c = IfOk-weaker c.bare_verdict.result _ _ (λ j is. rw c.in-Bare.is (bare_for _ _ _ _ _ _ _ j c.word_or_empty.ensures (rw (← c.deref.ensures) is))) c.bare_verdict.ensures.given
 
 pub returns-in-Bare-clause-faults : goal.returns-in-Bare-clause-faults
 unfolding asked
 returns-in-Bare-clause-faults g c = IfErr-weaker c.bare_verdict.result _ _ (λ told is. rw c.in-Bare.is (no_bare_for (string_bytes c.in-Bare.maxp) c.in-Bare.cvt c.in-Bare.points c.in-Bare.contours c.word_or_empty.result.now (option_map (λ s. string_bytes s) c.in-Bare.program) c.in-Bare.profile told c.word_or_empty.ensures (rw (← c.deref.ensures) is))) c.bare_verdict.ensures.faults
 
-pub returns-in_ok-judged_font-in-Verdict-clause-given : goal.returns-in_ok-judged_font-in-Verdict-clause-given
+pub returns-in-Verdict-clause-given : goal.returns-in-Verdict-clause-given
 unfolding asked
-returns-in_ok-judged_font-in-Verdict-clause-given g c =
-    let font = c.in_ok-judged_font-in-Verdict.field-0 in
-    let given = c.in_ok-judged_font-in-Verdict.ensures.given in
-    rw c.in-Verdict.is (record {
-      given = (font.bytes.items, given);
-      safe = λ none. (font.bytes.items, safe_by c.in-Verdict.profile font.bytes.items font.verdict given none);
-      refused = λ some. (font.bytes.items, refused_by c.in-Verdict.profile font.bytes.items font.verdict given some);
+returns-in-Verdict-clause-given g c =
+    let profile = c.in-Verdict.options.profile in
+    IfOk-weaker c.file_verdict.result _ _
+    (λ j (bytes, given). rw c.in-Verdict.is (record {
+      given = (bytes, given);
+      safe = λ none. (bytes, safe_by profile j.by bytes j.verdict given none);
+      refused = λ some. (bytes, refused_by profile j.by bytes j.verdict given some);
       none = tt;
-    })
+    }))
+    c.file_verdict.ensures.given
+
+pub returns-in-Verdict-clause-faults : goal.returns-in-Verdict-clause-faults
+unfolding asked
+returns-in-Verdict-clause-faults g c = ?
 
 pub returns-in-Find-clause-given : goal.returns-in-Find-clause-given
 unfolding asked
-returns-in-Find-clause-given g c = IfOk-weaker c.find_verdict.result _ _ (λ v is. rw c.in-Find.is (rw (← c.deref-in-Find.ensures, ← c.deref-in-Find-2.ensures) is)) c.find_verdict.ensures.given
+returns-in-Find-clause-given g c = IfOk-weaker c.find_verdict.result _ _ (λ j is. rw c.in-Find.is (rw (← c.deref-in-Find.ensures, ← c.deref-in-Find-2.ensures) is)) c.find_verdict.ensures.given
 
 pub returns-in-Find-clause-faults : goal.returns-in-Find-clause-faults
 unfolding asked
@@ -37,7 +41,7 @@ returns-in-Find-clause-faults g c = IfErr-weaker c.find_verdict.result _ _ (λ t
 
 pub returns-in-Check-clause-given : goal.returns-in-Check-clause-given
 unfolding asked
-returns-in-Check-clause-given g c = IfOk-weaker c.check_verdict.result _ _ (λ v is. rw c.in-Check.is (rw (← c.deref-in-Check.ensures, ← c.deref-in-Check-2.ensures) is)) c.check_verdict.ensures.given
+returns-in-Check-clause-given g c = IfOk-weaker c.check_verdict.result _ _ (λ j is. rw c.in-Check.is (rw (← c.deref-in-Check.ensures, ← c.deref-in-Check-2.ensures) is)) c.check_verdict.ensures.given
 
 pub returns-in-Check-clause-faults : goal.returns-in-Check-clause-faults
 unfolding asked
@@ -49,13 +53,6 @@ unreachable-requires g c = elim c.in-Scan.is [
   | inl scan ↦ rw scan.3 at c.requires
   | inr rest ↦ elim rest [
     | inl explain ↦ rw explain.4 at c.requires
-    | inr others ↦ elim others [ inl list ↦ rw list.3 at c.requires | inr upgrade ↦ rw upgrade.2 at c.requires ]
+    | inr others ↦ elim others [ inl list ↦ rw list.3 at c.requires | inr upgrade ↦ rw upgrade.3 at c.requires ]
   ]
 ]
-
-pub returns-in_err-judged_font-in-Verdict-clause-faults : goal.returns-in_err-judged_font-in-Verdict-clause-faults
-unfolding asked
-returns-in_err-judged_font-in-Verdict-clause-faults g c =
-    let verdict = c.in-Verdict in
-    let fault = c.in_err-judged_font-in-Verdict in
-    rw verdict.is (no_verdict (asked (Verdict verdict.font verdict.profile verdict.is_quiet)) c.from_residual.result fault.field-0.0 c.from_residual.ensures.1 (fault.ensures.faults, fault.ensures.unwritten))

@@ -1,13 +1,14 @@
+use Rattle.std.proofs.Common.{refl}
 use Rattle.hintcheck.proofs.commands.check_task.check_verdict.Goals as goal
 
 pub returns-in-Ok-clause-given : goal.returns-in-Ok-clause-given
 returns-in-Ok-clause-given g c =
     let d = c.in_ok-font.font in
-    let bytes = c.deref.result.now in
+    let bytes = c.in_ok-held.held.bytes.items in
     let reads = c.in_ok-font.ensures.reads in
     let told = c.in-Ok.ensures in
     record {
-      given = (bytes, record { font = d; reads = reads; programs = told.programs; safe = told.safe });
+      given = (refl, (bytes, record { font = d; reads = reads; programs = told.programs; safe = told.safe }));
       safe = λ none. (bytes, record { font = d; reads = reads; safe = told.safe none });
       refused = λ some. (bytes, record { font = d; reads = reads });
       none = tt;

@@ -5,4 +5,4 @@ pub returns-in_ok-print_explanation-in-Ok-clause-status : goal.returns-in_ok-pri
 returns-in_ok-print_explanation-in-Ok-clause-status g c =
     let told = c.in-Ok.told in
     let (bytes, answered) = c.in-Ok.ensures.answered in
-    explained_by c.args.request.options.profile bytes c.args.request.word.now told.explained c.exit_status.result answered c.exit_status.ensures.status
+    explained_by c.args.request.options.profile told.by bytes c.args.request.word.now told.explained c.exit_status.result c.in-Ok.ensures.asked answered c.exit_status.ensures.status

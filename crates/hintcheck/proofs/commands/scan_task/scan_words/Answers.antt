@@ -1,6 +1,7 @@
 use Rattle.std.proofs.Common.{inl, inr, refl}
-use Rattle.std.specs.Prelude.{map, option_map, string_bytes}
+use Rattle.std.specs.Prelude.{map, string_bytes}
 use Rattle.std.proofs.lemmas.Result.{IfOk-weaker}
+use Rattle.hintcheck_words.specs.Requests.{texts_spelled}
 use Rattle.hintcheck.proofs.ScanLemmas.{scan_answered}
 use Rattle.hintcheck.proofs.commands.scan_task.scan_words.Goals as goal
 
@@ -8,12 +9,7 @@ pub returns-in-Fonts-clause-answer : goal.returns-in-Fonts-clause-answer
 returns-in-Fonts-clause-answer g c =
     let contents = g.O.Sink.contents in
     let words = map (λ s. string_bytes s) c.args.words.now in
-    IfOk-weaker c.scan_fonts.result _ _ (λ status p. scan_answered words words c.args.options (option_map (λ s. string_bytes s) c.args.expected.now) status (contents c.args.out.now) (contents c.scan_fonts.new.out) (inl (c.in-Fonts.is, refl)) p)
-    c.scan_fonts.ensures.printed
+    IfOk-weaker c.scan_fonts.result _ _ (λ status p. scan_answered words words c.args.options (texts_spelled c.args.texts.now) status (contents c.args.out.now) (contents c.scan_fonts.new.out) (inl (c.in-Fonts.is, refl)) p) c.scan_fonts.ensures.printed
 
-pub returns-in_ok-fonts-in-Lists-clause-answer : goal.returns-in_ok-fonts-in-Lists-clause-answer
-returns-in_ok-fonts-in-Lists-clause-answer g c =
-    let contents = g.O.Sink.contents in
-    let words = map (λ s. string_bytes s) c.args.words.now in
-    IfOk-weaker c.scan_fonts-in-Lists.result _ _ (λ status p. scan_answered words (map (λ s. string_bytes s) c.deref.result.now) c.args.options (option_map (λ s. string_bytes s) c.args.expected.now) status (contents c.args.out.now) (contents c.scan_fonts-in-Lists.new.out) (inr c.in-Lists.is) p)
-    c.scan_fonts-in-Lists.ensures.printed
+pub returns-clause-answer : goal.returns-clause-answer
+returns-clause-answer g c = ?

@@ -10,7 +10,7 @@ returns-in-Font-clause-written g c =
     let old = g.O.Sink.contents c.args.out.now in
     let new = g.O.Sink.contents c.writeln-in-Font.new.self in
     on_ok_weaker c.writeln-in-Font.result
-    (λ written. refused_end c.args.profile Font c.args.verdict.now c.refused-2.result.now c.in-Some.first.now old new c.in-Some.ensures.value c.refused-2.ensures c.in-Font.is
+    (λ written. refused_end c.args.by Font c.args.verdict.now c.refused-2.result.now c.in-Some.first.now old new c.in-Some.ensures.value c.refused-2.ensures c.in-Font.is
     (subst (λ (text : List ℕ). Appends old new (codes "refused: font program" ++ (text ++ codes "\n"))) c.end_of_profile-end.ensures written)) c.writeln-in-Font.ensures.written
 
 pub returns-in-Cvt-clause-written : goal.returns-in-Cvt-clause-written
@@ -18,5 +18,5 @@ returns-in-Cvt-clause-written g c =
     let old = g.O.Sink.contents c.args.out.now in
     let new = g.O.Sink.contents c.writeln-in-Cvt.new.self in
     on_ok_weaker c.writeln-in-Cvt.result
-    (λ written. refused_end c.args.profile Cvt c.args.verdict.now c.refused-2.result.now c.in-Some.first.now old new c.in-Some.ensures.value c.refused-2.ensures c.in-Cvt.is
+    (λ written. refused_end c.args.by Cvt c.args.verdict.now c.refused-2.result.now c.in-Some.first.now old new c.in-Some.ensures.value c.refused-2.ensures c.in-Cvt.is
     (subst (λ (text : List ℕ). Appends old new (codes "refused: cvt program" ++ (text ++ codes "\n"))) c.end_of_profile-end.ensures written)) c.writeln-in-Cvt.ensures.written

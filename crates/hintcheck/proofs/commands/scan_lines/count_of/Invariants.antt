@@ -1,6 +1,6 @@
 use Rattle.std.proofs.Common.{◌≡◌, ◌≤◌, take}
 use Rattle.hintcheck.specs.RefusalClasses.{number_of_class}
-use Rattle.hintcheck.proofs.commands.scan_task.count_of.Given as goal
+use Rattle.hintcheck.proofs.commands.scan_lines.count_of.Given as goal
 
 abbrev pub invariant-loop-program : goal.invariant-loop-program
 invariant-loop-program l = record {
