@@ -77,6 +77,7 @@ WITHOUT_PROOF = [
     Check("second checker on the cases", "independent_cases.py"),
     Check("second checker on whole files", "independent_files.py"),
     Check("order of the first build", "build_order.py"),
+    Check("scripts for continuous integration", "../examples/ci/test_ci.py"),
 ]
 
 
