@@ -21,7 +21,7 @@ use crate::commands::faults::CommandFault;
 use crate::font_file::font_in;
 use crate::instruction_list::named_program;
 use crate::symbolic_explanation::explain_symbolically;
-use hintcheck_explain::{Asked, Explained, Site, explain, explain_unread};
+use hintcheck_explain::{Asked, Details, Explained, Site, explain, explain_unread};
 use hintcheck_fonts::Request;
 use hintcheck_programs::finding::Finding;
 use hintcheck_programs::program::{Search, cut};
@@ -39,6 +39,7 @@ fn explain_in<O: Sink>(
     setting: &Setting<'_>,
     asked: Asked,
     budget: &mut Budget,
+    details: &mut Details,
     out: &mut O,
 ) -> Result<Explained, CommandFault>
     requires ascends { Ascends setting.now.start.now }
@@ -48,7 +49,7 @@ fn explain_in<O: Sink>(
     ensures failures { TellsFailure result (O.failures out.old) (O.failures out.new) }
 {
     setting.range_facts();
-    Ok(explain(alloc, setting, asked, budget, out)?)
+    Ok(explain(alloc, setting, asked, budget, details, out)?)
 }
 
 /// Explains why these bytes can't be cut or aren't structured, as the fault tells, and returns what
@@ -83,6 +84,7 @@ fn tell_next<O: Sink>(
     next: Next<'_>,
     site: Option<Site>,
     budget: &mut Budget,
+    details: &mut Details,
     out: &mut O,
 ) -> Result<Explained, CommandFault>
     requires next { IsNext programs.now.font.now (stage_of programs.now) next }
@@ -102,7 +104,7 @@ fn tell_next<O: Sink>(
                 start: programs.start(),
                 ..programs.setting(next.kind, &program)
             };
-            explain_in(alloc, &started, asked, budget, out)
+            explain_in(alloc, &started, asked, budget, details, out)
         }
         Err(fault) => {
             let refused = explain_uncut(asked, next.bytes, fault, out)?;
@@ -195,6 +197,7 @@ fn explain_judged<'a, O: Sink>(
     called: Name,
     site: Option<Site>,
     budget: &mut Budget,
+    details: &mut Details,
     out: &mut O,
 ) -> Result<Explained, CommandFault>
     requires range { IsFontInRange programs.old.font.now }
@@ -207,7 +210,7 @@ fn explain_judged<'a, O: Sink>(
         return tell_unchecked(refused, out);
     }
     let next = programs.next().unwrap();
-    tell_next(alloc, programs, next, site, budget, out)
+    tell_next(alloc, programs, next, site, budget, details, out)
 }
 
 /// Explains the font's program of this name, and returns whether it is accepted.
@@ -217,6 +220,7 @@ fn explain_named<O: Sink>(
     called: Name,
     site: Option<Site>,
     budget: &mut Budget,
+    details: &mut Details,
     out: &mut O,
 ) -> Result<Explained, CommandFault>
     requires range { IsFontInRange font.now }
@@ -226,7 +230,16 @@ fn explain_named<O: Sink>(
 {
     let mut programs = Programs::new(font);
     let mut judge = Finding::new(alloc, Search::Verdict);
-    explain_judged(alloc, &mut programs, &mut judge, called, site, budget, out)
+    explain_judged(
+        alloc,
+        &mut programs,
+        &mut judge,
+        called,
+        site,
+        budget,
+        details,
+        out,
+    )
 }
 
 /// Which program of a font is explained, and by which profile.
@@ -247,7 +260,8 @@ pub(crate) struct ProgramRequest<'a> {
 /// program calls a function that one defines. By the strict profile at most as many steps are made as
 /// the budget allows: also for the programs before the named one, and for the searches with greater
 /// limits by which a refused one is explained. By the symbolic one a program is refused for which the
-/// steps that the request allows are too few.
+/// steps that the request allows are too few. The details tell a refusal in numbers, where no site is
+/// asked for and something is known at its place.
 ///
 /// # Errors
 /// The faults of `Font::read`; `ProgramName` where the word is the name of none of the font's
@@ -258,6 +272,7 @@ pub(crate) fn explain_word<O: Sink>(
     font: &[u8],
     request: ProgramRequest<'_>,
     points: &mut Budget,
+    details: &mut Details,
     out: &mut O,
 ) -> Result<Explained, CommandFault>
     ensures answered { IfOk result
@@ -271,9 +286,9 @@ pub(crate) fn explain_word<O: Sink>(
     };
     check_site(&read, named.bytes, site)?;
     match by {
-        Request::Strict => explain_named(alloc, &read, named.name, site, points, out),
+        Request::Strict => explain_named(alloc, &read, named.name, site, points, details, out),
         Request::Symbolic { steps } => {
-            explain_symbolically(alloc, &read, named, site, steps, out)
+            explain_symbolically(alloc, &read, named, site, steps, details, out)
         }
     }
 }

@@ -8,7 +8,7 @@ ghost use Rattle.hintcheck.specs.SymbolicExplanations.{TellsSymbolicProgram, fir
 use crate::commands::faults::CommandFault;
 use crate::explanation::{explain_uncut, tell_unchecked};
 use crate::instruction_list::Named;
-use hintcheck_explain::{Asked, Explained, Site, explain_symbolic};
+use hintcheck_explain::{Asked, Details, Explained, Site, explain_symbolic};
 use hintcheck_fonts::symbolic_check::SymbolicCheck;
 use hintcheck_fonts::symbolic_verdict::refused_programs;
 use hintcheck_programs::program::{cut, empty_program};
@@ -92,6 +92,7 @@ fn tell_program<O: Sink>(
     asked: Asked,
     refused: Option<Refused>,
     insight: Option<&Insight>,
+    details: &mut Details,
     out: &mut O,
 ) -> Result<(), CommandFault>
     requires range { IsFontInRange font.now }
@@ -116,7 +117,7 @@ fn tell_program<O: Sink>(
         prep: &prep,
         start: &[],
     };
-    Ok(explain_symbolic(alloc, &setting, asked, refused, insight, out)?)
+    Ok(explain_symbolic(alloc, &setting, asked, refused, insight, details, out)?)
 }
 
 /// Explains a program of the font by the symbolic profile, and returns whether the verdict on the font
@@ -131,6 +132,7 @@ pub(crate) fn explain_symbolically<O: Sink>(
     named: Named<'_>,
     site: Option<Site>,
     steps: u64,
+    details: &mut Details,
     out: &mut O,
 ) -> Result<Explained, CommandFault>
     requires range { IsFontInRange font.now }
@@ -149,12 +151,30 @@ pub(crate) fn explain_symbolically<O: Sink>(
     };
     let insight = judge.take_insight();
     let Some(one) = refused_against(&refused, named.name) else {
-        tell_program(alloc, font, named, asked, None, insight.as_ref(), out)?;
+        tell_program(
+            alloc,
+            font,
+            named,
+            asked,
+            None,
+            insight.as_ref(),
+            details,
+            out,
+        )?;
         return Ok(Explained::Accepted);
     };
     if one.program != named.name {
         return tell_unchecked(one, out);
     }
-    tell_program(alloc, font, named, asked, Some(one), insight.as_ref(), out)?;
+    tell_program(
+        alloc,
+        font,
+        named,
+        asked,
+        Some(one),
+        insight.as_ref(),
+        details,
+        out,
+    )?;
     Ok(Explained::Refused(one))
 }

@@ -65,6 +65,12 @@ fn is_certain(setting: &Setting<'_>, failed: Failed) -> bool {
     }
 }
 
+/// Whether each run that comes to a place with what is known there is sure to fail this test.
+pub(crate) fn is_certain_at(scene: &Scene<'_>, failed: Failed) -> bool {
+    let is_fault = class_of(failed) == ReasonClass::PossibleFault;
+    (is_fault && is_certain(scene.setting, failed)) || is_all_outside(scene, failed)
+}
+
 /// Returns in words the class of the refusal where this test fails, and whether the fault is certain
 /// where a run comes there.
 pub(crate) fn class_at(scene: &Scene<'_>, failed: Failed) -> &'static str {

@@ -72,7 +72,7 @@ pub(crate) fn reason_text(reason: Reason) -> &'static str {
 
 /// Returns the number that is out of range, if that is why this test fails, what the instruction takes
 /// it as, and in which zone.
-fn out_of_range(failed: Failed) -> Option<(i32, Role, ZoneCell)> {
+pub(crate) fn out_of_range(failed: Failed) -> Option<(i32, Role, ZoneCell)> {
     let (number, role) = match failed {
         Failed::NoPoint { zone, number } | Failed::NoReferencePoint { zone, number, .. } => {
             return Some((number, Role::Point, zone));

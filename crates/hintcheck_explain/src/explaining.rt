@@ -8,6 +8,7 @@ ghost use Rattle.hintcheck_explain.specs.Faults.{IsAnsweredFor, TellsFailure};
 
 use crate::accepted::tell_accepted;
 use crate::asked::{Asked, Explained, place_of};
+use crate::details::Details;
 use crate::excerpt::Excerpt;
 use crate::explored_program::ExploredProgram;
 use crate::needs::tell_needs;
@@ -38,7 +39,8 @@ fn tell_site<O: Sink>(
 
 /// Explains a program that could be cut and is structured: how much it takes, or why it is refused.
 /// Where a site is asked for, it tells what is known there, and of a refusal only its place and its
-/// reason. At most as many points are made as the budget allows.
+/// reason. The details tell a refusal in numbers, where no site is asked for. At most as many points are
+/// made as the budget allows.
 ///
 /// # Errors
 /// `Print` where the text wasn't printed; `Exhausted`. No other comes.
@@ -47,6 +49,7 @@ pub fn explain<O: Sink>(
     setting: &Setting<'_>,
     asked: Asked,
     budget: &mut Budget,
+    details: &mut Details,
     out: &mut O,
 ) -> Result<Explained, AnswerFault>
     requires ascends { Ascends setting.now.start.now }
@@ -81,7 +84,7 @@ pub fn explain<O: Sink>(
             match asked.site {
                 Some(site) => tell_site(&subject, site, out)?,
                 None => {
-                    tell_refusal(&subject, Site { spot, offset }, failed, out)?;
+                    tell_refusal(&subject, Site { spot, offset }, failed, details, out)?;
                     tell_needs(alloc, setting, asked.program, failed, budget, out)?;
                 }
             }

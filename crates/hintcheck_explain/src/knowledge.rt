@@ -24,6 +24,16 @@ pub(crate) enum Calls<'a> {
     Symbolic(&'a [OpenCall]),
 }
 
+impl Calls<'_> {
+    /// Returns how many there are.
+    pub(crate) fn len(self) -> usize {
+        match self {
+            Calls::Strict(frames) => frames.len(),
+            Calls::Symbolic(calls) => calls.len(),
+        }
+    }
+}
+
 /// What is known at a place of a program.
 #[derive(Clone, Copy)]
 pub(crate) struct Knowledge<'l, 'a> {
@@ -36,7 +46,7 @@ pub(crate) struct Knowledge<'l, 'a> {
 }
 
 /// Returns a zone's name.
-fn zone_name(zone: ZoneCell) -> &'static str {
+pub(crate) fn zone_name(zone: ZoneCell) -> &'static str {
     match zone {
         ZoneCell::Zero => "twilight",
         ZoneCell::One => "glyph",

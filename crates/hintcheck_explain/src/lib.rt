@@ -8,6 +8,7 @@ mod asked;
 mod cause;
 mod certainty;
 mod describing;
+mod details;
 mod effect_text;
 mod element;
 mod excerpt;
@@ -35,6 +36,7 @@ mod unread;
 mod view;
 
 pub use asked::{Asked, Explained};
+pub use details::{Details, OpenedCall, Operand};
 pub use explaining::explain;
 pub use reason_text::explain_reason;
 pub use symbolic::explain_symbolic;

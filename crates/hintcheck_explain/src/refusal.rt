@@ -4,9 +4,11 @@ ghost use Rattle.hintcheck_explain.specs.Faults.{TellsFailure};
 
 use crate::arrivals::{Arrival, Ways, WaysTo, add_edges};
 use crate::cause::{By, tell_cause, tell_cause_of_program};
+use crate::details::Details;
 use crate::element::Element;
 use crate::excerpt::Excerpt;
 use crate::explored_program::ExploredProgram;
+use crate::knowledge::Calls;
 use crate::origin::{Traced, origin_of};
 use crate::origin_text::OriginText;
 use crate::reached::tell_known;
@@ -115,13 +117,14 @@ fn tell_route<O: Sink>(ways: Ways<'_>, point: PointKey, out: &mut O) -> Result<(
     Ok(())
 }
 
-/// Prints why a program is refused in this case, what is known there, and how the program comes there:
-/// one route to the place, or to each of the two from where stacks of different depths come.
+/// Prints why a program is refused in this case, which the details tell in numbers, what is known there,
+/// and how the program comes there: one route to the place, or to each of the two from where stacks of different depths come.
 fn tell_case<O: Sink>(
     ways: Ways<'_>,
     next: &mut State,
     case: Case<'_>,
     failed: Failed,
+    details: &mut Details,
     out: &mut O,
 ) -> Result<(), AnswerFault>
     ensures failures { TellsFailure result (O.failures out.old) (O.failures out.new) }
@@ -133,6 +136,9 @@ fn tell_case<O: Sink>(
         subject.site(point),
         View::Strict(case.state),
     );
+    let frames = subject.frames(point.0)?;
+    let calls = Calls::Strict(frames.as_slice());
+    *details = Details::of(subject.alloc, subject.name, &scene, failed, calls)?;
     tell_cause(scene, failed, case.meeting, out)?;
     if let Some(element) = Element::unknown(failed, case.state.depth()) {
         tell_origin(ways, next, Traced { point, element }, out)?;
@@ -153,13 +159,14 @@ fn tell_refusal_at<O: Sink>(
     next: &mut State,
     site: Site,
     failed: Failed,
+    details: &mut Details,
     out: &mut O,
 ) -> Result<(), AnswerFault>
     ensures failures { TellsFailure result (O.failures out.old) (O.failures out.new) }
 {
     let subject = ways.subject;
     match case_of(ways, next, site, failed)? {
-        Some(case) => tell_case(ways, next, case, failed, out)?,
+        Some(case) => tell_case(ways, next, case, failed, details, out)?,
         None => tell_cause_of_program(subject.setting, site, failed.reason(), By::Strict, out)?,
     }
     let listing = Excerpt::at(subject.name, subject.setting, site);
@@ -167,7 +174,8 @@ fn tell_refusal_at<O: Sink>(
     Ok(())
 }
 
-/// Explains why a program is refused at a site: with what is known there, where the search has a state.
+/// Explains why a program is refused at a site, and in the details in numbers: with what is known there,
+/// where the search has a state.
 ///
 /// # Errors
 /// `Print` where the text wasn't printed; `Exhausted`. No other comes.
@@ -175,6 +183,7 @@ pub(crate) fn tell_refusal<O: Sink>(
     subject: &ExploredProgram<'_>,
     site: Site,
     failed: Failed,
+    details: &mut Details,
     out: &mut O,
 ) -> Result<(), AnswerFault>
     ensures failures { TellsFailure result (O.failures out.old) (O.failures out.new) }
@@ -186,5 +195,5 @@ pub(crate) fn tell_refusal<O: Sink>(
         subject,
         edges: edges.as_slice(),
     };
-    tell_refusal_at(ways, &mut next, site, failed, out)
+    tell_refusal_at(ways, &mut next, site, failed, details, out)
 }

@@ -6,6 +6,7 @@ ghost use Rattle.hintcheck_explain.specs.Faults.{TellsFailure};
 use crate::accepted::count_instructions;
 use crate::asked::{Asked, place_of};
 use crate::cause::{By, tell_cause, tell_cause_of_program};
+use crate::details::Details;
 use crate::effect_text::tell_effect;
 use crate::element::Element;
 use crate::excerpt::Excerpt;
@@ -151,16 +152,21 @@ fn tell_origin<O: Sink>(
     writeln!(out, "Where the number comes from: {text}")
 }
 
-/// Prints why a program is refused in this state, since this test fails, and what is known there.
+/// Prints why a program is refused in this state, since this test fails, which the details tell in
+/// numbers, and what is known there.
 fn tell_case<O: Sink>(
     searched: Searched<'_>,
     known: &KnownState,
     failed: Failed,
+    details: &mut Details,
     out: &mut O,
 ) -> Result<(), AnswerFault>
     ensures failures { TellsFailure result (O.failures out.old) (O.failures out.new) }
 {
-    tell_cause(scene_of(searched, known), failed, None, out)?;
+    let scene = scene_of(searched, known);
+    let calls = Calls::Symbolic(known.state.calls.as_slice());
+    *details = Details::of(searched.alloc, searched.name, &scene, failed, calls)?;
+    tell_cause(scene, failed, None, out)?;
     tell_origin(searched, known, failed, out)?;
     tell_known(searched, known, out)
 }
@@ -185,6 +191,7 @@ fn site_of(program: Name, refused: Refused) -> Site {
 fn tell_refusal<O: Sink>(
     searched: Searched<'_>,
     refused: Refused,
+    details: &mut Details,
     out: &mut O,
 ) -> Result<(), AnswerFault>
     ensures failures { TellsFailure result (O.failures out.old) (O.failures out.new) }
@@ -193,9 +200,9 @@ fn tell_refusal<O: Sink>(
     let site = site_of(searched.name, refused);
     match searched.refused() {
         Some(state) if state.failed.reason() == reason => {
-            tell_case(searched, &state.known, state.failed, out)?;
+            tell_case(searched, &state.known, state.failed, details, out)?;
         }
-        Some(state) => tell_case(searched, &state.known, Failed::Only(reason), out)?,
+        Some(state) => tell_case(searched, &state.known, Failed::Only(reason), details, out)?,
         None => tell_cause_of_program(searched.setting, site, reason, By::Symbolic, out)?,
     }
     let listing = Excerpt::at(searched.name, searched.setting, site);
@@ -205,7 +212,8 @@ fn tell_refusal<O: Sink>(
 
 /// Explains what the symbolic profile answers for a program that could be cut and is structured: how
 /// much an accepted one takes, or why it is refused. Where a site is asked for, it tells what the
-/// search knows there, and of a refusal only its place and its reason.
+/// search knows there, and of a refusal only its place and its reason. The details tell a refusal in
+/// numbers, where no site is asked for.
 ///
 /// # Errors
 /// `Print` where the text wasn't printed; `Exhausted`. No other comes.
@@ -215,6 +223,7 @@ pub fn explain_symbolic<O: Sink>(
     asked: Asked,
     refused: Option<Refused>,
     insight: Option<&Insight>,
+    details: &mut Details,
     out: &mut O,
 ) -> Result<(), AnswerFault>
     ensures failures { TellsFailure result (O.failures out.old) (O.failures out.new) }
@@ -231,7 +240,7 @@ pub fn explain_symbolic<O: Sink>(
     }
     match (asked.site, refused) {
         (Some(site), _) => tell_site(searched, site, out),
-        (None, Some(refused)) => tell_refusal(searched, refused, out),
+        (None, Some(refused)) => tell_refusal(searched, refused, details, out),
         (None, None) => Ok(()),
     }
 }

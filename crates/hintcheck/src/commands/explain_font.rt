@@ -15,6 +15,7 @@ use super::{ACCEPTED, REFUSED};
 use crate::causes::causes_of;
 use crate::explanation::{ProgramRequest, explain_word};
 use crate::font_file::{budget_of, judged_font};
+use hintcheck_explain::Details;
 use hintcheck_fonts::{Judged, Request};
 use hintcheck_programs::report::Name;
 use hintcheck_words::ExplainOptions;
@@ -42,8 +43,9 @@ fn explanation_of(
         site: None,
         by,
     };
+    let mut details = Details::none(alloc);
     let mut text = Counted::new(Vec::new(alloc));
-    match explain_word(alloc, font, request, points, &mut text) {
+    match explain_word(alloc, font, request, points, &mut details, &mut text) {
         Ok(_) => Ok(text.into_inner()),
         Err(CommandFault::Budget) => Err(CommandFault::Budget),
         // The font was read before, the name is one of its programs', and the text is kept in

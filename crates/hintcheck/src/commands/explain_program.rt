@@ -14,7 +14,7 @@ use super::json_objects::{
 };
 use crate::explanation::{ProgramRequest, exit_status, explain_word};
 use crate::font_file::{budget_of, told_by};
-use hintcheck_explain::{Explained, Site};
+use hintcheck_explain::{Details, Explained, Site};
 use hintcheck_fonts::Request;
 use hintcheck_words::{ExplainOptions, Format};
 use std::alloc::{AllocError, Global};
@@ -52,7 +52,15 @@ fn explain_in_lines<R: Files + AllocGlobal, O: Sink>(
     let by = told_by(rt.alloc(), &font.bytes, options.profile)?;
     let mut points = budget_of(options.profile.max_steps());
     let program = ProgramRequest { word, site, by };
-    let explained = explain_word(rt.alloc(), &font.bytes, program, &mut points, out)?;
+    let mut details = Details::none(rt.alloc());
+    let explained = explain_word(
+        rt.alloc(),
+        &font.bytes,
+        program,
+        &mut points,
+        &mut details,
+        out,
+    )?;
     Ok(exit_status(explained))
 }
 
@@ -82,13 +90,18 @@ fn of_memory(fault: CommandFault) -> CommandFault
     }
 }
 
-/// Returns the member of an object that tells the refused program of the font in these bytes; nothing
-/// if none is refused.
-fn refused_member(alloc: Global, font: &[u8], explained: Explained) -> Result<String, AllocError> {
+/// Returns the member of an object that tells the refused program of the font in these bytes, with these
+/// details; nothing if none is refused.
+fn refused_member(
+    alloc: Global,
+    font: &[u8],
+    explained: Explained,
+    details: &Details,
+) -> Result<String, AllocError> {
     match explained {
         Explained::Accepted => Ok(String::new(alloc)),
         Explained::Refused(refused) => {
-            let object = refused_object(alloc, font, &refused)?;
+            let object = refused_object(alloc, font, &refused, details)?;
             format!(in alloc; "\"refused\":{object},")
         }
     }
@@ -119,7 +132,15 @@ fn explanation_of<R: Files + AllocGlobal>(
     let mut points = budget_of(options.profile.max_steps());
     let mut sink = Counted::new(Vec::new(alloc));
     let program = ProgramRequest { word, site, by };
-    let explained = match explain_word(alloc, &bytes, program, &mut points, &mut sink) {
+    let mut details = Details::none(alloc);
+    let explained = match explain_word(
+        alloc,
+        &bytes,
+        program,
+        &mut points,
+        &mut details,
+        &mut sink,
+    ) {
         Ok(explained) => explained,
         Err(fault) => return Err(of_memory(fault)),
     };
@@ -130,7 +151,7 @@ fn explanation_of<R: Files + AllocGlobal>(
         face,
         explained,
         by,
-        refused: refused_member(alloc, &bytes, explained)?,
+        refused: refused_member(alloc, &bytes, explained, &details)?,
         text,
     })
 }

@@ -16,6 +16,7 @@ use super::need_lines::needs_member;
 use super::scan_lines::text_of_class;
 use super::scan_task::ScannedFont;
 use crate::glyph_names::called;
+use hintcheck_explain::{Details, OpenedCall, Operand};
 use hintcheck_fonts::Request;
 use hintcheck_programs::report::{Name, Refused};
 use hintcheck_words::{Profile, ScanOptions};
@@ -53,6 +54,48 @@ struct RefusedObject<'a> {
     reason: u8,
     name: Shown<Reason>,
     class: &'a str,
+    /// Whether a run that comes to the place is sure to fail there; only in explanations, as the members
+    /// after it.
+    #[serde(skip_serializing_if = "Option::is_none")]
+    certain: Option<bool>,
+    /// The number with which a test fails, if it is one.
+    #[serde(skip_serializing_if = "Option::is_none")]
+    operand: Option<OperandObject>,
+    /// The calls that are open at the place, the outermost first.
+    #[serde(skip_serializing_if = "Option::is_none")]
+    calls: Option<Vec<CallObject>>,
+}
+
+/// A number with which a test fails, as an object tells it.
+#[derive(Drop, Serialize)]
+struct OperandObject {
+    kind: &'static str,
+    /// The number, where it is known.
+    #[serde(skip_serializing_if = "Option::is_none")]
+    number: Option<i64>,
+    /// The least and the greatest number that it may be, where only these are known.
+    #[serde(skip_serializing_if = "Option::is_none")]
+    least: Option<i64>,
+    #[serde(skip_serializing_if = "Option::is_none")]
+    greatest: Option<i64>,
+    #[serde(skip_serializing_if = "Option::is_none")]
+    zone: Option<&'static str>,
+    /// How many there are of what it numbers.
+    #[serde(skip_serializing_if = "Option::is_none")]
+    count: Option<u32>,
+}
+
+/// An open call, as an object tells it.
+#[derive(Drop, Serialize)]
+struct CallObject {
+    /// The program that holds the call, and its offset.
+    place: Shown<Name>,
+    offset: u32,
+    #[serde(skip_serializing_if = "Option::is_none")]
+    function: Option<u16>,
+    /// The program that holds the function's body, and where that begins.
+    body: Shown<Name>,
+    start: u32,
 }
 
 /// The fault of a font file, as an object tells it.
@@ -138,13 +181,9 @@ pub(super) fn print_beginning<O: Sink>(
     Ok(())
 }
 
-/// Returns the object of a refused program, with the name that the font has for its glyph.
-fn object_of(
-    alloc: Global,
-    names: &GlyphNames<'_>,
-    refused: &Refused,
-) -> Result<String, AllocError> {
-    let object = RefusedObject {
+/// Returns a refused program as an object tells it, with the name that the font has for its glyph.
+fn refused_as<'a>(names: &GlyphNames<'a>, refused: &Refused) -> RefusedObject<'a> {
+    RefusedObject {
         program: Shown(refused.program),
         glyph: called(names, refused.program),
         place: Shown(refused.place.program),
@@ -152,17 +191,65 @@ fn object_of(
         reason: refused.reason.number(),
         name: Shown(refused.reason),
         class: text_of_class(refused.reason),
-    };
-    json_text(alloc, &object)
+        certain: None,
+        operand: None,
+        calls: None,
+    }
 }
 
-/// Returns the object of a refused program of the font in these bytes.
+/// Returns the object of a refused program, with the name that the font has for its glyph.
+fn object_of(
+    alloc: Global,
+    names: &GlyphNames<'_>,
+    refused: &Refused,
+) -> Result<String, AllocError> {
+    json_text(alloc, &refused_as(names, refused))
+}
+
+/// Returns an operand as an object tells it.
+fn operand_as(operand: Operand) -> OperandObject {
+    let known = operand.range.filter(|(least, greatest)| least == greatest);
+    let unsure = operand.range.filter(|(least, greatest)| least < greatest);
+    OperandObject {
+        kind: operand.kind,
+        number: known.map(|range| range.0),
+        least: unsure.map(|range| range.0),
+        greatest: unsure.map(|range| range.1),
+        zone: operand.zone,
+        count: operand.count,
+    }
+}
+
+/// Returns open calls as objects tell them.
+fn calls_as(alloc: Global, calls: &[OpenedCall]) -> Result<Vec<CallObject>, AllocError> {
+    let mut objects = Vec::new(alloc);
+    for call in calls {
+        objects.push(CallObject {
+            place: Shown(call.at.program),
+            offset: call.at.offset,
+            function: call.function,
+            body: Shown(call.body.program),
+            start: call.body.offset,
+        })?;
+    }
+    Ok(objects)
+}
+
+/// Returns the object of a refused program of the font in these bytes, with these details.
 pub(super) fn refused_object(
     alloc: Global,
     font: &[u8],
     refused: &Refused,
+    details: &Details,
 ) -> Result<String, AllocError> {
-    object_of(alloc, &GlyphNames::of(alloc, font)?, refused)
+    let names = GlyphNames::of(alloc, font)?;
+    let object = RefusedObject {
+        certain: Some(details.is_certain),
+        operand: details.operand.map(operand_as),
+        calls: Some(calls_as(alloc, &details.calls)?),
+        ..refused_as(&names, refused)
+    };
+    json_text(alloc, &object)
 }
 
 /// Prints the objects of refused programs of the font in these bytes, with commas between them.
