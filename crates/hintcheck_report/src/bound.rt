@@ -17,6 +17,12 @@ pub enum Bound {
     FunctionDefs,
     /// How many control values the table `cvt ` has.
     ControlValues,
+    /// maxTwilightPoints of `maxp`: how many points the twilight zone has.
+    TwilightPoints,
+    /// maxZones of `maxp`: 1 where the twilight zone isn't used, 2 where it is.
+    Zones,
+    /// maxSizeOfInstructions of `maxp`: how many bytes a glyph program may have.
+    SizeOfInstructions,
 }
 
 impl Bound {
@@ -29,6 +35,9 @@ impl Bound {
             Bound::Storage => "maxStorage",
             Bound::FunctionDefs => "maxFunctionDefs",
             Bound::ControlValues => "control values",
+            Bound::TwilightPoints => "maxTwilightPoints",
+            Bound::Zones => "maxZones",
+            Bound::SizeOfInstructions => "maxSizeOfInstructions",
         }
     }
 
@@ -42,6 +51,9 @@ impl Bound {
             Bound::Storage => u32::from(limits.storage),
             Bound::FunctionDefs => u32::from(limits.functions),
             Bound::ControlValues => cvt_count,
+            Bound::TwilightPoints => u32::from(limits.twilight),
+            Bound::Zones => u32::from(limits.zones),
+            Bound::SizeOfInstructions => u32::from(limits.program_size),
         }
     }
 
@@ -63,6 +75,18 @@ impl Bound {
                 ..limits
             },
             Bound::ControlValues => limits,
+            Bound::TwilightPoints => Limits {
+                twilight: number,
+                ..limits
+            },
+            Bound::Zones => Limits {
+                zones: number,
+                ..limits
+            },
+            Bound::SizeOfInstructions => Limits {
+                program_size: number,
+                ..limits
+            },
         }
     }
 
@@ -72,8 +96,13 @@ impl Bound {
         ensures { result ≡ cvt_count_with cvt_count self number }
     {
         match self {
-            Bound::StackElements | Bound::Storage | Bound::FunctionDefs => cvt_count,
             Bound::ControlValues => u32::from(number),
+            Bound::StackElements
+            | Bound::Storage
+            | Bound::FunctionDefs
+            | Bound::TwilightPoints
+            | Bound::Zones
+            | Bound::SizeOfInstructions => cvt_count,
         }
     }
 }
