@@ -1,4 +1,5 @@
 pub mod AnswerLemmas
+pub mod BareLemmas
 pub mod ExplanationLemmas
 pub mod ListingLemmas
 pub mod NameLemmas

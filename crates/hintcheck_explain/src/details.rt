@@ -118,21 +118,36 @@ fn operand_as(scene: &Scene<'_>, role: Role, zone: ZoneCell, range: Option<(i64,
     }
 }
 
-/// Returns the number by which a way, a depth or the loop number fails a test, with the word for it, if
-/// that is what fails.
-fn number_of_way(failed: Failed) -> Option<(&'static str, i64)> {
+/// Returns the depth of the stack with which this test fails, if it is one.
+fn depth_of(failed: Failed) -> Option<u32> {
     match failed {
-        Failed::TooFew { depth } | Failed::TooDeep { depth } | Failed::OtherDepth { depth } => {
-            Some(("depth", i64::from(depth)))
-        }
-        Failed::NoElement { index } => Some(("stack index", i64::from(index))),
-        Failed::NegativeLoop { count } => Some(("loop", i64::from(count))),
-        Failed::NoTarget { by } => Some(("jump", i64::from(by))),
-        Failed::Undefined { number } | Failed::Running { number } => {
-            Some(("function", i64::from(number)))
-        }
+        Failed::TooFew { depth } => Some(depth),
+        Failed::TooDeep { depth } => Some(depth),
+        Failed::OtherDepth { depth } => Some(depth),
         _ => None,
     }
+}
+
+/// Returns the number by which a way, an index of the stack or the loop number fails a test, with the
+/// word for it, if that is what fails.
+fn number_of_way(failed: Failed) -> Option<(&'static str, i32)> {
+    match failed {
+        Failed::NoElement { index } => Some(("stack index", index)),
+        Failed::NegativeLoop { count } => Some(("loop", count)),
+        Failed::NoTarget { by } => Some(("jump", by)),
+        Failed::Undefined { number } => Some(("function", number)),
+        Failed::Running { number } => Some(("function", number)),
+        _ => None,
+    }
+}
+
+/// Returns the depth, or the number by which a way fails a test, with the word for it, if it is one.
+fn plain_number(failed: Failed) -> Option<(&'static str, i64)> {
+    if let Some(depth) = depth_of(failed) {
+        return Some(("depth", i64::from(depth)));
+    }
+    let (kind, number) = number_of_way(failed)?;
+    Some((kind, i64::from(number)))
 }
 
 /// Returns how many there are of what such a number tells.
@@ -165,7 +180,7 @@ fn operand_of(scene: &Scene<'_>, failed: Failed) -> Option<Operand> {
         let known = i64::from(number);
         return Some(operand_as(scene, role, zone, Some((known, known))));
     }
-    if let Some((kind, number)) = number_of_way(failed) {
+    if let Some((kind, number)) = plain_number(failed) {
         return Some(Operand {
             kind,
             range: Some((number, number)),
