@@ -123,8 +123,8 @@ def is_object(line: str) -> bool:
 
 
 def has_form(line: str) -> bool:
-    """Whether a line has one of the forms."""
-    return any(form.fullmatch(line) for form in forms())
+    """Whether a line has one of the forms, after which it may tell the profile."""
+    return any(form.fullmatch(line.removesuffix(" (symbolic)")) for form in forms())
 
 
 def is_well(example: Example, printed: list[str]) -> bool:
