@@ -55,7 +55,7 @@ def faults_of_paths(text: str) -> typing.Iterator[str]:
 def subcommands() -> dict[str, set[str]]:
     """The subcommands with their options, from the comment at the head of CommandLine.antt."""
     head = (TOP / "crates/hintcheck_words/specs/CommandLine.antt").read_text()
-    lines = re.findall(r"^-- +hintcheck (\w+)(.*)$", head, re.M)
+    lines = re.findall(r"^-- +hintcheck (\w+)(.*)$", re.sub(r"\n-- {9}", " ", head), re.M)
     return {name: set(re.findall(r"--\w+", words)) for name, words in lines} | {"help": set()}
 
 

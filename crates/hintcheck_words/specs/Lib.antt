@@ -1,3 +1,4 @@
 pub mod CommandLine
 pub mod HexWords
+pub mod Representation
 pub mod Requests

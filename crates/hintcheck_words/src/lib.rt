@@ -6,6 +6,6 @@ mod words;
 
 pub use hex_words::{WordFault, word_bytes};
 pub use words::{
-    Detail, ExplainOptions, FailOn, FontWords, Format, Profile, ScanOptions, Task, TaskFault,
-    read_words,
+    AskedNeeds, CertificateOptions, Detail, ExplainOptions, Faces, FailOn, FontWords, Format,
+    ListOptions, Profile, ScanOptions, ScanTexts, Task, TaskFault, VerdictOptions, read_words,
 };

@@ -1,0 +1,13 @@
+use Rattle.std.proofs.Common.{◌∙◌, arith, codes}
+use Rattle.std.specs.Str.Parse.{ParsesUnsigned, ExplainsUnsignedError, HasUnsignedDigitsIfOk}
+use Rattle.clap.specs.Words.{found_of, one_of, rows_of}
+use Rattle.clap.proofs.WalkLemmas.{one_text-rows}
+use Rattle.hintcheck_words.proofs.Values.{number_read}
+use Rattle.hintcheck_words.proofs.words.reading.face_number.Goals as goal
+
+pub returns : goal.returns
+returns c =
+    let f = found_of c.args.values.now in
+    let same = one_text-rows f (codes "FACE") in
+    number_read (λ bs r. ParsesUnsigned 32 10 bs r × ExplainsUnsignedError 10 bs r × HasUnsignedDigitsIfOk bs r) 32 4294967295 (one_of (codes "FACE") (rows_of f)) c.get_one.result (omega arith) (omega arith)
+    (λ t r g. g.0) (λ none. c.get_one.ensures.none (same ∙ none)) (λ t some. c.get_one.ensures.value t (same ∙ some))
