@@ -1,5 +1,5 @@
 # make: proves and builds hintcheck, where that isn't done. make check: runs all checks, `rt ci` among them, whose last line is the last one here too.
-# make try: runs the program without a proof on a font of examples/, or on WORDS. make quick CRATE=NAME: proves one crate and those below it, and runs
+# make try: runs the program without a proof on fonts of examples/, or on WORDS. make quick CRATE=NAME: proves one crate and those below it, and runs
 # its tests. make pages: lists all definitions with their sentences, in the file `out/definitions.md`, and all contracts with the edits that break
 # them, in `out/contracts.md`. make clean: removes all that was built, and what the prover keeps of it in this checkout.
 # make install: puts the program, its manual page and completions under PREFIX.
@@ -15,7 +15,7 @@ library = crates/hintcheck_c/out/libhintcheck_c.a
 archive = crates/hintcheck_c/out/libhintcheck.a
 
 # What `make try` runs the program on.
-WORDS = verdict examples/certificates/call-underflows.ttf
+WORDS = scan examples/certificates/call-pops.ttf examples/certificates/call-underflows.ttf
 
 .PHONY: all check try quick pages clean library install install-library uninstall dist deb
 

@@ -3,11 +3,11 @@
 
 Usage: bench/examples.py [PROGRAM]
 PROGRAM is a built hintcheck: crates/hintcheck_cli/out/hintcheck_cli where no other is named. README's examples are the lines of its blocks that
-begin with `$ hintcheck`: what is printed must be the lines that follow, where `...` at the end of a line stands for its rest and, at the end of the
-last one, for further lines too. Those of the manual page are in its section EXAMPLES and show no answer: each line that is printed must have one of
-the forms that the section OUTPUT has, or be an object of JSON. No example may tell a fault. The fonts are looked for below /usr/share/fonts, and
-those of README's answers by their bytes, since another version has other programs. What can't be run since a font isn't there is named. What
-differs is printed, and the exit status is then 1; so it is where no example can be run.
+begin with `$ hintcheck` or `$ ./hintcheck --try`, and have an answer: what is printed must be the lines that follow, where `...` at the end of a line
+stands for its rest and, at the end of the last one, for further lines too. Those of the manual page are in its section EXAMPLES and show no answer:
+each line that is printed must have one of the forms that the section OUTPUT has, or be an object of JSON. No example may tell a fault. The fonts are
+in the folder `examples`, or looked for below /usr/share/fonts, those of README's answers by their bytes, since another version has other programs.
+What can't be run since a font isn't there is named. What differs is printed, and the exit status is then 1; so it is where no example can be run.
 """
 
 import functools
@@ -27,6 +27,8 @@ README, MANUAL = TOP / "README.md", TOP / "docs/hintcheck.1"
 FONTS = pathlib.Path("/usr/share/fonts")
 ALL_FONTS = "*.ttf"
 MOST_SECONDS = 120
+# How README runs the program where it isn't built.
+TRIAL = "./hintcheck --try"
 
 # The fonts whose answers README shows, with the SHA-256 of the version that it means: those of Debian 12's fonts-dejavu-core 2.37,
 # fonts-liberation2 2.1.5 and fonts-go.
@@ -37,7 +39,7 @@ MEANT = {
 }
 
 # The members that each object of JSON has.
-MEMBERS = {"version", "file", "profile", "status"}
+MEMBERS = {"version", "tool", "file", "profile", "status"}
 
 
 class Example(typing.NamedTuple):
@@ -60,10 +62,11 @@ def of_readme() -> list[Example]:
     found: list[Example] = []
     for line in "".join(re.findall(r"^```console\n(.*?)^```", README.read_text(), re.M | re.S)).splitlines():
         if line.startswith("$ "):
-            found.append(Example(README, shlex.split(line[2:], comments=True), []))
+            command = line[2:].replace(TRIAL, "hintcheck")
+            found.append(Example(README, shlex.split(command, comments=True), []))
         else:
             found[-1].shown.append(line)
-    return [example for example in found if example.words[0] == "hintcheck"]
+    return [example for example in found if example.words[0] == "hintcheck" and example.shown]
 
 
 def section(name: str) -> str:
@@ -77,8 +80,10 @@ def of_manual() -> list[Example]:
 
 
 def form(line: str) -> re.Pattern[str]:
-    """What lines have the form of this one of the manual page: words in capitals, single capitals and numbers stand for others."""
+    """What lines have the form of this one of the manual page: words in capitals, single capitals and numbers stand for others, and what is counted
+    may be one."""
     text = re.sub(r"\b(?=[a-f]*\d)[0-9a-f]+\b", "[0-9a-f]+", re.escape(line.strip('"')))
+    text = re.sub(r"\b(font|refusal)s\b", r"\1s?", text)
     return re.compile(re.sub(r"\b[A-Z]\b", r"\\d+", re.sub(r"\b[A-Z]{2,}\b", ".+", text)))
 
 
@@ -118,8 +123,8 @@ def is_object(line: str) -> bool:
 
 
 def has_form(line: str) -> bool:
-    """Whether a line has one of the forms."""
-    return any(form.fullmatch(line) for form in forms())
+    """Whether a line has one of the forms, after which it may tell the profile."""
+    return any(form.fullmatch(line.removesuffix(" (symbolic)")) for form in forms())
 
 
 def is_well(example: Example, printed: list[str]) -> bool:
@@ -155,6 +160,7 @@ def try_page(program: pathlib.Path, examples: list[Example]) -> tuple[int, int]:
     there = fonts(examples)
     with tempfile.TemporaryDirectory() as name:
         folder = pathlib.Path(name)
+        (folder / "examples").symlink_to(TOP / "examples")
         for font, path in there.items():
             (folder / font).symlink_to(path)
         for example in examples:

@@ -33,7 +33,7 @@ KNOWN = {FONTS: FONTS / "certificates.txt", COMMANDS: COMMANDS / "certificate_co
 CHECKED = re.compile(r"(?:run check|check_font) (\S+) (\S+)")
 FINDS = re.compile(r"(?:run find|found) (\S+) (\S+)")
 # What hintcheck writes otherwise is the second name.
-WRITES = re.compile(r"run (?:find|upgrade) (?:--points \d+ )?\S+ (\S+)")
+WRITES = re.compile(r"run (?:find|upgrade) (?:--max-steps \d+ )?\S+ (\S+)")
 # Names of files that are never there.
 MISSING = ("nosuch.cert", "none.ttf")
 
@@ -122,8 +122,9 @@ def shown(data: bytes) -> list[str]:
 
 def checked(names: tuple[str, str], files: dict[str, bytes], library: bool) -> list[str]:
     """What the check of a font tells, as `check_font` or as the command."""
-    if not library and set(names) & set(MISSING):
-        return ["2 ! fault: 44 read: no such file"]
+    missing = [name for name in names if name in MISSING]
+    if missing and not library:
+        return ["2 ! fault: 44 read", f"! note: {missing[0]}: no such file"]
     if not set(names) <= set(files):
         raise Unknown
     try:

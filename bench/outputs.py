@@ -35,14 +35,14 @@ COMMANDS = [
     ["verdict", "--json", ACCEPTED],
     ["scan", ACCEPTED, REFUSED],
     ["scan", "--symbolic", "--causes", REFUSED],
-    ["scan", "--needs", ACCEPTED],
+    ["scan", "--all-needs", ACCEPTED],
     ["list", "--numbers", REFUSED, "g0"],
     ["explain", REFUSED],
     ["explain", ACCEPTED, "g0"],
     ["explain", "28"],
     ["check", ACCEPTED, CERTIFICATE],
 ]
-WRITERS = [["find", ACCEPTED], ["upgrade", OLD]]
+WRITERS = [["find", ACCEPTED], ["upgrade", OLD], ["scan", "--json", REFUSED, "--write-expect"]]
 
 
 class Answer(typing.NamedTuple):

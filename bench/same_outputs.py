@@ -16,24 +16,33 @@ import tempfile
 import typing
 
 # What is asked of each font, in this order: FONT stands for its name, CERT and NEWER for certificates of it, KNOWN for a file of known refusals,
-# which the first command that names it writes, and LIST for a file that lists the font twice and one that isn't there.
+# which the first command that names it writes, and MORE for another one; LIST and NULS for files that list the font twice and one that isn't there,
+# by lines and by NULs.
 COMMANDS = (
     "verdict FONT",
     "verdict --symbolic FONT",
-    "verdict --points 1000 FONT",
+    "verdict --both FONT",
+    "verdict --max-steps 1000 FONT",
+    "verdict --max-bytes 100 FONT",
+    "verdict --face 0 FONT",
     "verdict --json FONT",
     "verdict --json --symbolic FONT",
     "scan FONT nosuch.ttf",
-    "scan --causes FONT",
+    "scan --strict --causes FONT",
     "scan --causes --symbolic --fail-on possible FONT",
     "scan --json --symbolic FONT",
+    "scan --json --causes --needs FONT",
     "scan --needs FONT",
+    "scan --all-needs FONT",
+    "scan --write-expect KNOWN FONT",
     "scan --expect KNOWN FONT",
-    "scan --expect KNOWN --symbolic FONT",
-    "scan --expect KNOWN --fail-on possible --json FONT",
+    "scan --expect KNOWN --strict FONT",
+    "scan --expect KNOWN --write-expect MORE --fail-on possible --json FONT",
+    "scan --name other.ttf FONT",
     "scan --files-from LIST",
-    "scan --files-from --json LIST",
+    "scan --files-from0 --json NULS",
     "explain FONT",
+    "explain --strict FONT",
     "explain --symbolic FONT",
     "explain FONT f",
     "explain --json FONT g3",
@@ -44,16 +53,16 @@ COMMANDS = (
     "find FONT CERT",
     "check FONT CERT",
     "upgrade CERT NEWER",
-    "check --points 1000 FONT NEWER",
+    "check --max-steps 1000 FONT NEWER",
 )
 # A `maxp` table, and programs: none; one that moves a point, one that moves the point whose number is measured, one that pops from an empty stack,
 # one that can't be cut, and a word that spells none.
 MAXP = "0001000000010004000100000000000200040004000200000008004000000000"
 PROGRAMS = ("", "B0002E", "4B2E", "21", "4003", "zz")
-SUBCOMMANDS = ("bare", "verdict", "scan", "explain", "find", "check", "list", "upgrade")
+SUBCOMMANDS = ("scan", "explain", "verdict", "list", "find", "check", "upgrade", "bare")
 # What is asked once: single programs, reasons by their numbers, help, the version, and words that aren't taken.
 ALONE = (
-    *(f"bare {option}{MAXP} 10 4 1 {program}" for program in PROGRAMS for option in ("", "--symbolic ", "--points 2 ")),
+    *(f"bare {option}{MAXP} 10 4 1 {program}" for program in PROGRAMS for option in ("", "--symbolic ", "--both ", "--max-steps 2 ")),
     *(f"explain {number}" for number in range(50)),
     "--help",
     *(f"help {name}" for name in SUBCOMMANDS),
@@ -83,7 +92,9 @@ def answers(program: pathlib.Path, commands: tuple[str, ...], font: pathlib.Path
         if font:
             (room / "font.ttf").write_bytes(font.read_bytes())
         (room / "font.list").write_text("font.ttf\nnosuch.ttf\n\nfont.ttf")
-        names = {"FONT": "font.ttf", "CERT": "font.cert", "NEWER": "newer.cert", "KNOWN": "font.known", "LIST": "font.list"}
+        (room / "font.nuls").write_text("font.ttf\0nosuch.ttf\0\0font.ttf")
+        names = {"FONT": "font.ttf", "CERT": "font.cert", "NEWER": "newer.cert", "KNOWN": "font.known", "MORE": "more.known"}
+        names |= {"LIST": "font.list", "NULS": "font.nuls"}
         for command in commands:
             words = [names.get(word, word) for word in command.split()]
             ran = subprocess.run([program, *words], cwd=room, stdin=subprocess.DEVNULL, capture_output=True, timeout=SECONDS)

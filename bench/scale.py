@@ -24,8 +24,8 @@ import tempfile
 import time
 import typing
 
-# The bound of the strict profile, as in examples/scale/check-each.sh; the symbolic one has the command's own.
-BOUND = ["--points", "20000000"]
+# How each profile is asked: the strict one with the bound of examples/scale/check-each.sh, the symbolic one with the command's own.
+STRICT, SYMBOLIC = ["--strict", "--max-steps", "20000000"], ["--symbolic"]
 SECONDS, KILOBYTES = 60, 1_000_000
 SLOWEST = 8
 MANY = 10_000
@@ -102,14 +102,14 @@ def main() -> int:
     files = (path for folder in words.folders for path in folder.rglob("*") if path.is_file() and not path.is_symlink())
     fonts = sorted(file for file in files if file.suffix.lower() == ".ttf")
     print(f"{len(fonts)} fonts, {sum(font.stat().st_size for font in fonts) / 1e6:.0f} MB")
-    strict, took = all_runs(program, BOUND, fonts, words.processes, until)
+    strict, took = all_runs(program, STRICT, fonts, words.processes, until)
     print(f"strict profile: {took:.1f} s by the clock with {words.processes} processes")
     tell("all", strict)
     tell("with a font program", [one for one in strict if has_font_program(one.font)])
     tell_slowest(strict)
     refused = [one.font for one in strict if one.status == 1]
     random.Random(1).shuffle(refused)
-    symbolic, took = all_runs(program, ["--symbolic"], refused, words.processes, until)
+    symbolic, took = all_runs(program, SYMBOLIC, refused, words.processes, until)
     print(f"symbolic profile: {took:.1f} s by the clock with {words.processes} processes")
     tell(f"of the {len(refused)} that the strict profile refuses, in a random order, as far as the minutes went", symbolic)
     tell_slowest(symbolic)

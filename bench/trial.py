@@ -34,6 +34,12 @@ ROOT, ABOVE, HERE = "hintcheck-root", "hintcheck-above", "hintcheck-here"
 # The names that the toolchain keeps for itself in that folder.
 TAKEN = {"program", "stdin", "stdout", "stderr"}
 
+# The subcommands that write a file, the option that does, those by which names of fonts are read from files, and the option whose value names a file
+# that is read, where they are one word.
+WRITERS, WRITING = {"find", "upgrade"}, {"--write-expect"}
+LISTING = {"--files-from", "--files-from0", "-0"}
+READING = "--expect="
+
 # The toolchain's own lines, after those of the program on standard error: the last one tells whether the program has ended, and one why it hasn't.
 OWN_LINE = re.compile(rb"^(?:interpreter|checked|races|run|rt)[:=].*\n", re.M)
 ENDED = re.compile(rb"^run=ended .*\n\Z", re.M)
@@ -55,16 +61,10 @@ def refuse(text: str) -> None:
 
 def refuse_writing(words: list[str]) -> None:
     """Refuses words that would write a file, and those that name fonts by a list, since these aren't handed over."""
-    writes = "a trial run writes no file, so {} can't be tried; `./hintcheck WORDS` proves the program and does it"
-    if words[:1] in (["find"], ["upgrade"]):
-        refuse(writes.format(f"`{words[0]}`"))
-    options = [word.partition("=")[0] for word in words]
-    if "--expect" in options:
-        at = options.index("--expect")
-        file = words[at].partition("=")[2] or "".join(words[at + 1 : at + 2])
-        if not os.path.isfile(file):
-            refuse(writes.format("`--expect` with a new file"))
-    if "--files-from" in options:
+    options = {word.partition("=")[0] for word in words}
+    for asked in {*words[:1]} & WRITERS or options & WRITING:
+        refuse(f"a trial run writes no file, so `{asked}` can't be tried; `./hintcheck WORDS` proves the program and does it")
+    if options & LISTING:
         refuse("a trial run reads no list of fonts: name the fonts themselves")
 
 
@@ -83,8 +83,14 @@ def put_back(text: bytes) -> bytes:
     return text
 
 
+def separate(word: str) -> list[str]:
+    """A word, or the option and the name of a file that are joined in it."""
+    return [READING.rstrip("="), word.removeprefix(READING)] if word.startswith(READING) else [word]
+
+
 def command_of(words: list[str]) -> list[str]:
     """The toolchain's words for a trial run on these, with the files that they name."""
+    words = [part for word in words for part in separate(word)]
     names = {word: name_of(word) for word in words if os.path.isfile(word)}
     for word in names:
         if "=" in word:

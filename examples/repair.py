@@ -4,19 +4,19 @@
 Usage: repair.py [OPTION..] FONT OUT
     --drop                 take the instructions out of glyphs that no greater number mends
     --drop-all             the same, and where the CVT program is refused take that out, where the font program is, all hints
-    --strict               judge by the strict profile; without it, by the symbolic one
-    --points N             bound each verdict to N steps (100,000,000)
+    --strict               judge by the strict profile alone; without it, where that doesn't accept the font, by the symbolic one
+    --max-steps N          bound each profile to N steps (100,000,000)
     --rounds N             edit at most N times (2), each time by the answer for what the last time wrote
     --hintcheck PROGRAM    the program to ask; without it $HINTCHECK, and without that `hintcheck` on the PATH
 
 What it does, and tells in a line each, as `round 1: maxp: maxStorage 56 to 61, for 30 storage in 12 programs`:
-- It raises a number of `maxp` that programs pass, to the least one with which they don't: maxStackElements, maxStorage, maxFunctionDefs,
-  maxTwilightPoints, maxZones, maxSizeOfInstructions. An interpreter then reserves more; what the programs do stays the same.
+- It raises a number of `maxp` that programs pass, to one that hintcheck calls enough, mostly the least one: maxStackElements, maxStorage,
+  maxFunctionDefs, maxTwilightPoints, maxZones, maxSizeOfInstructions. An interpreter then reserves more; what the programs do stays the same.
 - It adds zeros to `cvt ` where programs use control values that the table doesn't have. FreeType reads a zero there where it isn't pedantic, so
   that glyphs look there as they did. An interpreter that read something else draws them in another way.
 - With --drop it takes instructions out. These glyphs are then drawn without hints: look at them.
-The least numbers are those of the member `needs` of the answer where it has one; otherwise it asks for copies of the font with other numbers, in
-which only some of the refused glyphs have instructions.
+An answer tells the numbers that programs pass, in its member `needs`. Others may come to light once these are raised: so it asks again about a copy
+with greater numbers, until the answer tells no other one.
 
 FONT is never written over, and OUT is written only where something was edited. A font's tool may mend it better: `hintcheck explain FONT` says so
 where it knows the fault. Exit status: 0 where the last answer is that all programs are accepted, 1 where some are refused, 2 where FONT, OUT,
@@ -60,8 +60,8 @@ RAISED_FOR = {
 MOST = dict(RAISED_FOR.values())
 # The tables that only hints need.
 HINT_TABLES = ("fpgm", "prep", "cvt ", "cvar")
-# How many programs a line names; how many glyphs of each cause a search for numbers looks at, and by how many steps at most for each copy.
-NAMED, SAMPLED, TRIED = 5, 20, 3_000_000
+# How many programs a line names.
+NAMED = 5
 
 
 class CannotMend(Exception):
@@ -89,20 +89,27 @@ class Refusal:
 
 @dataclasses.dataclass(frozen=True)
 class Answer:
-    """An answer for a font: the refused programs, how many programs it has, and the numbers that it needs, if the answer tells them."""
+    """An answer for a font: whose it is, the refused programs, how many programs there are, and the numbers that the font needs."""
 
+    profile: str
     refusals: tuple[Refusal, ...]
     programs: int
-    needs: dict[str, int] | None
+    needs: dict[str, int]
+
+    @property
+    def end(self) -> str:
+        """What a line says of the profile."""
+        return " (symbolic)" if self.profile == "symbolic" else ""
 
 
-def needs_of(told: object) -> dict[str, int] | None:
-    """The numbers of a member `needs` by their names here; those that aren't numbers are left out, as where none is great enough."""
-    if not isinstance(told, dict):
-        return None
-    names = {name.replace(" ", "").lower(): name for name in MOST}
-    plain = {key.replace(" ", "").replace("_", "").lower(): value for key, value in told.items()}
-    return {names[key]: value for key, value in plain.items() if key in names and isinstance(value, int)}
+def answer_of(told: dict) -> Answer:
+    """The answer that an object of JSON tells."""
+    if "fault" in told:
+        raise CannotMend(f"fault: {told['fault']['number']} {told['fault']['text']}")
+    members = ("program", "place", "offset", "reason", "name")
+    refusals = tuple(Refusal(*(each[member] for member in members)) for each in told["refused"])
+    needs = {need["name"]: need["enough"] for need in told["needs"]}
+    return Answer(told["profile"], refusals, told["programs"], needs)
 
 
 @dataclasses.dataclass
@@ -110,31 +117,28 @@ class Checker:
     """How hintcheck is asked, and what it has answered, by the bytes of the fonts."""
 
     program: str
-    profile: str
-    points: int
-    answers: dict[tuple[bytes, bool], Answer] = dataclasses.field(default_factory=dict)
+    is_strict: bool
+    max_steps: int
+    answers: dict[bytes, Answer] = dataclasses.field(default_factory=dict)
 
-    def ask(self, file: pathlib.Path, needs: bool = False) -> Answer:
-        """The answer for a font file, with the numbers that it needs where that is asked for and it tells them."""
-        key = (hashlib.sha256(file.read_bytes()).digest(), needs)
+    def ask(self, file: pathlib.Path) -> Answer:
+        """The answer for a font file."""
+        key = hashlib.sha256(file.read_bytes()).digest()
         if key not in self.answers:
-            self.answers[key] = self.ask_anew(file, needs)
+            self.answers[key] = self.ask_anew(file)
         return self.answers[key]
 
-    def ask_anew(self, file: pathlib.Path, needs: bool) -> Answer:
+    def ask_anew(self, file: pathlib.Path) -> Answer:
         """The same, by a run of hintcheck."""
-        words = [self.program, *(["scan", "--needs"] if needs else ["verdict"]), "--json", "--points", str(self.points)]
-        words += ["--symbolic"] if self.profile == "symbolic" else []
+        words = [self.program, "scan", "--json", "--needs", f"--max-steps={self.max_steps}", *["--strict"] * self.is_strict, "--", str(file)]
         try:
-            done = subprocess.run([*words, str(file)], capture_output=True, text=True, check=False)
-            told = json.loads(done.stdout)
+            lines = subprocess.run(words, capture_output=True, text=True, check=False).stdout.splitlines()
+            told = [json.loads(line) for line in lines]
         except (OSError, ValueError) as fault:
             raise CannotMend(f"hintcheck gives no answer: {fault}") from None
-        if "fault" in told:
-            raise CannotMend(f"fault: {told['fault']['number']} {told['fault']['text']}")
-        members = ("program", "place", "offset", "reason", "name")
-        refusals = tuple(Refusal(*(each[member] for member in members)) for each in told["refused"])
-        return Answer(refusals, told["programs"], needs_of(told.get("needs")))
+        if len(told) != 1:
+            raise CannotMend("it is a collection: mend one of its fonts" if told else "hintcheck gives no answer")
+        return answer_of(told[0])
 
 
 # Edits of fonts.
@@ -202,92 +206,6 @@ def write(source: pathlib.Path, edits: Edits, target: pathlib.Path) -> None:
 # What to edit.
 
 
-def is_raisable(refusal: Refusal) -> bool:
-    """Whether a greater number may mend it."""
-    return refusal.reason in RAISED_FOR
-
-
-def least_number(refused: int, most: int, is_enough) -> int:
-    """The least number that is enough, of those above one that isn't up to the greatest, which is: by doubled steps, then by halves."""
-    step, enough = 1, most
-    while refused + step < most:
-        if is_enough(refused + step):
-            enough = refused + step
-            break
-        refused, step = refused + step, 2 * step
-    while enough - refused > 1:
-        middle = (enough + refused) // 2
-        if is_enough(middle):
-            enough = middle
-        else:
-            refused = middle
-    return enough
-
-
-class Search:
-    """Looks for the least numbers with which programs of a font aren't refused any more, on copies of the font."""
-
-    def __init__(self, checker: Checker, font: pathlib.Path, folder: pathlib.Path, refusals: tuple[Refusal, ...]):
-        self.checker = dataclasses.replace(checker, points=min(checker.points, TRIED), answers={})
-        self.trial = folder / "trial.ttf"
-        self.base = self.alone(font, folder / "refused.ttf", self.sample(refusals))
-        with opened(self.base) as base:
-            self.declared = {name: declared(base, name) for name in MOST}
-
-    @staticmethod
-    def sample(refusals: tuple[Refusal, ...]) -> set[int]:
-        """Some glyphs of each cause that a number may mend."""
-        glyphs = collections.defaultdict(list)
-        for refusal in filter(is_raisable, refusals):
-            if refusal.glyph is not None:
-                glyphs[refusal.place if refusal.place in "fp" else "", refusal.offset, refusal.reason].append(refusal.glyph)
-        return {glyph for some in glyphs.values() for glyph in some[:SAMPLED]}
-
-    @staticmethod
-    def alone(font: pathlib.Path, target: pathlib.Path, glyphs: set[int]) -> pathlib.Path:
-        """A copy in which only these glyphs have instructions."""
-        with opened(font) as source:
-            others = set(range(source["maxp"].numGlyphs)) - glyphs
-        write(font, Edits(glyphs=others), target)
-        return target
-
-    def refused(self, numbers: dict[str, int]) -> frozenset[Refusal]:
-        """The refusals with these numbers."""
-        write(self.base, Edits(numbers=numbers), self.trial)
-        return frozenset(self.checker.ask(self.trial).refusals)
-
-    def greatest(self) -> tuple[dict[str, int], frozenset[Refusal]]:
-        """The numbers that programs pass, each as great as it can be, and what is refused with these."""
-        numbers: dict[str, int] = {}
-        refusals = self.refused(numbers)
-        for _ in RAISED_FOR:
-            names = {RAISED_FOR[refusal.reason][0] for refusal in refusals if is_raisable(refusal)}
-            new = {name: MOST[name] for name in names - numbers.keys() if self.declared[name] < MOST[name]}
-            if not new:
-                break
-            numbers |= new
-            refusals = self.refused(numbers)
-        return numbers, refusals
-
-    def least(self) -> dict[str, int]:
-        """The least of these numbers with which no more is refused than with the greatest ones; none where these mend no program."""
-        numbers, refusals = self.greatest()
-        before = {refusal.program for refusal in self.refused({})}
-        if not before - {refusal.program for refusal in refusals}:
-            return {}
-        found = dict(numbers)
-        for name, most in numbers.items():
-
-            def is_enough(number: int, name: str = name) -> bool:
-                return self.refused({**numbers, name: number}) == refusals
-
-            if is_enough(self.declared[name]):
-                del found[name]
-            else:
-                found[name] = least_number(self.declared[name], most, is_enough)
-        return found
-
-
 def reasons_text(refusals) -> str:
     """Which reasons these refusals have, and how many programs."""
     count = len({refusal.program for refusal in refusals})
@@ -310,34 +228,36 @@ class Mender:
     drop_all: bool
     folder: pathlib.Path
 
-    def numbers_for(self, font: pathlib.Path, answer: Answer) -> dict[str, int]:
-        """The numbers to raise, each with the least one that is enough."""
-        if not any(map(is_raisable, answer.refusals)):
-            return {}
-        needs = self.checker.ask(font, needs=True).needs
-        if needs is None:
-            return Search(self.checker, font, self.folder, answer.refusals).least()
+    def raised(self, font: pathlib.Path, first: Answer) -> tuple[dict[str, int], Answer]:
+        """The numbers to raise, each to one that is enough, and the answer for the font with these; none where they mend no program."""
         with opened(font) as source:
-            return {name: min(needs[name], most) for name, most in MOST.items() if needs.get(name, 0) > declared(source, name)}
-
-    def refused_with(self, font: pathlib.Path, numbers: dict[str, int]) -> tuple[Refusal, ...]:
-        """What is refused with these numbers."""
-        trial = self.folder / "raised.ttf"
-        write(font, Edits(numbers=numbers), trial)
-        return self.checker.ask(trial).refusals
+            numbers = {name: declared(source, name) for name in MOST}
+        raised: dict[str, int] = {}
+        answer, trial = first, self.folder / "raised.ttf"
+        for _ in MOST:
+            enough = {name: min(number, MOST[name]) for name, number in answer.needs.items()}
+            new = {name: number for name, number in enough.items() if number > numbers[name]}
+            if not new:
+                break
+            numbers |= new
+            raised |= new
+            write(font, Edits(numbers=raised), trial)
+            answer = self.checker.ask(trial)
+        mended = {refusal.program for refusal in first.refusals} - {refusal.program for refusal in answer.refusals}
+        return (raised, answer) if mended else ({}, first)
 
     def edits_for(self, font: pathlib.Path, answer: Answer) -> Edits:
         """What to change after this answer."""
-        edits = Edits(numbers=self.numbers_for(font, answer))
-        left = self.refused_with(font, edits.numbers) if edits.numbers and self.drop else answer.refusals
-        programs = {refusal.program for refusal in left}
+        numbers, left = self.raised(font, answer)
+        edits = Edits(numbers=numbers)
+        programs = {refusal.program for refusal in left.refusals}
         if self.drop_all and "f" in programs:
             with opened(font) as source:
                 return Edits(glyphs=set(range(source["maxp"].numGlyphs)), tables=set(HINT_TABLES))
         if self.drop_all and "p" in programs:
             edits.tables.add("prep")
         if self.drop:
-            edits.glyphs = {refusal.glyph for refusal in left} - {None}
+            edits.glyphs = {refusal.glyph for refusal in left.refusals} - {None}
         return edits
 
 
@@ -367,9 +287,9 @@ def lines_of(font: pathlib.Path, edits: Edits, answer: Answer) -> list[str]:
 def tell(font: object, answer: Answer) -> None:
     """Prints what an answer says."""
     if not answer.refusals:
-        print(f"{font}: accepted: {answer.programs} programs")
+        print(f"{font}: accepted: {answer.programs} programs{answer.end}")
         return
-    print(f"{font}: refused: {len(answer.refusals)} of {answer.programs} programs")
+    print(f"{font}: refused: {len(answer.refusals)} of {answer.programs} programs{answer.end}")
     causes = collections.Counter((refusal.place if refusal.place in "fp" else "glyph", refusal.reason, refusal.name) for refusal in answer.refusals)
     for (place, reason, name), count in causes.most_common(NAMED):
         where = {"f": "in the font program", "p": "in the CVT program"}.get(place, "in glyph programs")
@@ -378,12 +298,12 @@ def tell(font: object, answer: Answer) -> None:
 
 def mend(words: argparse.Namespace, folder: pathlib.Path) -> int:
     """Mends the font, tells what it did, and returns the exit status."""
-    checker = Checker(words.hintcheck, "strict" if words.strict else "symbolic", words.points)
+    checker = Checker(words.hintcheck, words.strict, words.max_steps)
     mender = Mender(checker, words.drop or words.drop_all, words.drop_all, folder)
-    answer = checker.ask(words.font, needs=True)
+    answer = checker.ask(words.font)
     tell(words.font, answer)
     if any(refusal.reason == 46 for refusal in answer.refusals):
-        print("note: a greater --points may accept the programs that are refused for 46")
+        print("note: a greater --max-steps may accept the programs that are refused for 46")
     current, number = words.font, 0
     while answer.refusals and number < words.rounds:
         edits = mender.edits_for(current, answer)
@@ -413,7 +333,7 @@ def read_words() -> argparse.Namespace:
     parser.add_argument("--drop", action="store_true")
     parser.add_argument("--drop-all", action="store_true")
     parser.add_argument("--strict", action="store_true")
-    parser.add_argument("--points", type=int, default=100_000_000)
+    parser.add_argument("--max-steps", type=int, default=100_000_000)
     parser.add_argument("--rounds", type=int, default=2)
     parser.add_argument("--hintcheck", default=os.environ.get("HINTCHECK") or shutil.which("hintcheck") or "hintcheck")
     parser.add_argument("font", type=pathlib.Path)

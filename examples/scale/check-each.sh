@@ -1,17 +1,19 @@
 #!/bin/sh
-# Checks each font in a process of its own, within limits, and prints the answers: a line of JSON for each, all at the end.
+# Checks each font in a process of its own, within limits, and prints the answers, all at the end: a line of JSON for each, of a collection one for each
+# of its faces.
 # Usage: check-each.sh FONT..
 # Exit status 0: every font has its line, whatever the line says. Any other status: nothing was printed, and the call has to be made again.
 #
 # The lines are those of `hintcheck scan --json`. Where hintcheck was ended before it could answer, the line is this script's:
 # {"file":FONT,"status":124,"ended":"time"}, or "killed" for 137, or "signal N" for 128 + N.
 #
-# HINTCHECK names the program, PROFILE may be --symbolic. BOUND, SECONDS_EACH and KILOBYTES_EACH bound the work, the time and the memory of a font.
+# HINTCHECK names the program, PROFILE may be --strict or --symbolic. BOUND, SECONDS_EACH and KILOBYTES_EACH bound the work, the time and the memory of
+# a font.
 case ${PROFILE-} in
-    --symbolic) usual=1000000000 ;; # as the command
-    *) usual=20000000 ;;            # more than three times what real fonts need
+    --strict) usual=20000000 ;; # more than three times what real fonts need
+    *) usual=1000000000 ;;      # what the symbolic profile has by itself
 esac
-bound="--points ${BOUND:-$usual}" # the one place where this option is named
+bound="--max-steps ${BOUND:-$usual}" # the one place where this option is named
 program=${HINTCHECK:-hintcheck}
 seconds=${SECONDS_EACH:-60}
 kilobytes=${KILOBYTES_EACH:-1000000}
