@@ -37,13 +37,12 @@ pub enum FileWord {
     List(usize),
 }
 
-/// What a file holds that isn't a font with TrueType outlines, by its first four bytes.
+/// What a file holds that is neither a font with TrueType outlines nor a collection, by its first four
+/// bytes.
 #[derive(Clone, Copy, Debug, PartialEq, Eq)]
 pub enum Container {
     /// A font with CFF outlines, which have no hint programs of this kind.
     Cff,
-    /// A collection of fonts.
-    Collection,
     /// A font whose tables are compressed.
     Woff,
     /// A font that is compressed as a whole.
@@ -54,12 +53,10 @@ pub enum Container {
 
 impl Container {
     /// Returns what the file with these bytes holds, by those with which it begins (OpenType
-    /// specification, "Font collections"; WOFF 1.0 and 2.0, "WOFF header").
+    /// specification, "Organization of an OpenType Font"; WOFF 1.0 and 2.0, "WOFF header").
     fn of(bytes: &[u8]) -> Container {
         if bytes.starts_with(b"OTTO") {
             Container::Cff
-        } else if bytes.starts_with(b"ttcf") {
-            Container::Collection
         } else if bytes.starts_with(b"wOFF") {
             Container::Woff
         } else if bytes.starts_with(b"wOF2") {
@@ -74,7 +71,6 @@ impl fmt::Display for Container {
     fn fmt<W: fmt::Write>(&self, f: &mut fmt::Formatter<W>) -> fmt::Result {
         match self {
             Container::Cff => write!(f, "CFF outlines"),
-            Container::Collection => write!(f, "a collection"),
             Container::Woff => write!(f, "WOFF"),
             Container::Woff2 => write!(f, "WOFF2"),
             Container::Other => Ok(()),

@@ -162,7 +162,7 @@ impl Known {
         file: Option<&str>,
         max_bytes: u64,
     ) -> Result<Known, CommandFault>
-        ensures none { IfOk result (λ known. file ≡ None → known ≡ Nothing) }
+        ensures none { IfOk result (λ known. file.entry ≡ None → known ≡ Nothing) }
         ensures unwritten { IfErr result IsNoWriteFault }
     {
         let Some(file) = file else {

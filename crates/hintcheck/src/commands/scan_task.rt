@@ -185,9 +185,9 @@ fn tell_lines<O: Sink>(
     unknown: &[Refused],
     plan: Plan<'_>,
 ) -> Result<(), CommandFault>
-    requires lines { plan.entry.options.format ≡ Lines }
-    requires loud { is_silent_of plan.entry.options
-        (judged_so font.entry.judged.now.by font.entry.judged.now.verdict) ≡ false }
+    requires lines { plan.options.format ≡ Lines }
+    requires loud { is_silent_of plan.options
+        (judged_so font.judged.now.by font.judged.now.verdict) ≡ false }
     ensures written { OnOk result (TellsFont plan.entry.options
         (are_alone plan.entry.options plan.entry.known.now) (label_of font.entry.label)
         (judged_so font.entry.judged.now.by font.entry.judged.now.verdict)
@@ -445,7 +445,7 @@ fn scan_shown<R: Files + AllocGlobal, O: Sink>(
     out: &mut O,
 ) -> Result<u8, CommandFault>
     ensures printed { IfOk result (λ status. ScansFiles plan.entry
-        (shown_names (option_map (λ n. n.now) name) (map (λ s. string_bytes s) fonts.now)) status
+        (shown_names (option_map (λ n. n.now) name.entry) (map (λ s. string_bytes s) fonts.now)) status
         (O.contents out.old) (O.contents out.new)) }
     ensures failures { TellsFailure result (O.failures out.old) (O.failures out.new) }
 {
