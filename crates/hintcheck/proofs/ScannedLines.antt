@@ -14,7 +14,8 @@ use Rattle.hintcheck_words.specs.declared.words.Format.{Format}
 use Rattle.hintcheck_words.specs.declared.words.Format.TheVariants.{Json, Lines}
 use Rattle.hintcheck_words.specs.declared.words.ScanOptions.{ScanOptions}
 use Rattle.hintcheck.specs.FontLabels.{Label}
-use Rattle.hintcheck.specs.JsonObjects.{beginning}
+use Rattle.json.specs.Print.{quoted}
+use Rattle.hintcheck.specs.JsonObjects.{beginning, face_member}
 use Rattle.hintcheck.specs.KnownRefusals.{fails_for, is_unknown}
 use Rattle.hintcheck.specs.RefusalClasses.{number_of_class}
 use Rattle.hintcheck.specs.Scans.{Answer, HasMore, IsAnswer, PrintsScan, Scanned, TellsFont, answer_text, counts_text, greatest_status, is_silent, judged, left_out_text, line_of, names_none, profile_word, status_of_answer, summary, text_of, unread}
@@ -131,6 +132,16 @@ pub tells_object : (options : ScanOptions) (alone : Bool) (label : Label) (answe
 tells_object options false label (judged by v) old new never loud is first = record { more = first.others; has = tt; written = rw (loud, is) first.written }
 tells_object options false label (unread f) old new never loud is first = record { more = first.others; has = tt; written = rw is first.written }
 tells_object options true label answer old new never loud is first = absurd cc
+
+-- the beginning of an object, by its parts
+pub beginning_written : (label : Label) (profile : List ℕ) (status : ℕ) (file : List ℕ) (o p q r : Option (List ℕ)) → file ≡ quoted label.file
+    → Appends o p (codes "{\"version\":1,\"tool\":{\"name\":\"hintcheck\",\"version\":\"0.9.0\"},\"file\":" ++ file) → Appends p q (face_member label.face)
+    → Appends q r (codes ",\"profile\":\"" ++ (profile ++ (codes "\",\"status\":" ++ (decimal status ++ codes ",")))) → Appends o r (beginning label profile status)
+beginning_written label profile status file o p q r file_is first face last =
+    let front : List ℕ = codes "{\"version\":1,\"tool\":{\"name\":\"hintcheck\",\"version\":\"0.9.0\"},\"file\":" in
+    let end : List ℕ = codes ",\"profile\":\"" ++ (profile ++ (codes "\",\"status\":" ++ (decimal status ++ codes ","))) in
+    let text : ((front ++ file) ++ face_member label.face) ++ end ≡ beginning label profile status = rw file_is (simp append_assoc) in
+    subst (Appends o r) text (appends_both o q r _ end (appends_both o p q (front ++ file) (face_member label.face) first face) last)
 
 -- the line of a font of which glyph programs are refused, by its parts, after what is before them
 pub counts_written : (by : Request) (front : List ℕ) (programs possible undecided left : ℕ) (rs : List Refused) (o p q r s : Option (List ℕ)) → possible ≡ number_of_class PossibleFault rs

@@ -15,10 +15,10 @@ use tt_test_fixtures::programs::POPPING;
 use tt_test_fixtures::trials::{Told, Trial, assert_refused};
 
 /// What `scan` counts where the font file is accepted.
-const ONE_ACCEPTED: &[u8] = b"1 fonts: 1 accepted, 0 refused, 0 without an answer\n";
+const ONE_ACCEPTED: &[u8] = b"1 font: 1 accepted, 0 refused, 0 without an answer\n";
 
 /// What `scan` counts where memory ran out at the font file.
-const ONE_UNREAD: &[u8] = b"1 fonts: 0 accepted, 0 refused, 1 without an answer\n";
+const ONE_UNREAD: &[u8] = b"1 font: 0 accepted, 0 refused, 1 without an answer\n";
 
 /// A command that is tried.
 #[derive(Drop)]
@@ -107,8 +107,9 @@ fn fault_of(alloc: Global, file: &str, is_json: bool) -> Result<String, AllocErr
     if !is_json {
         return format!(in alloc; "{file}: fault: 9 out of memory\n");
     }
+    let tool = "\"tool\":{\"name\":\"hintcheck\",\"version\":\"0.9.0\"}";
     let fault = "\"status\":3,\"fault\":{\"number\":9,\"text\":\"out of memory\"}";
-    format!(in alloc; "{{\"version\":1,\"file\":\"{file}\",\"profile\":\"strict\",{fault}}}\n")
+    format!(in alloc; "{{\"version\":1,{tool},\"file\":\"{file}\",\"profile\":\"both\",{fault}}}\n")
 }
 
 /// Returns the name of the file that a word stands for, if it stands for one, or else the word.

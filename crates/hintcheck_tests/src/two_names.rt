@@ -6,9 +6,9 @@ use std::test::Fail;
 use tt_test_fixtures::fonts::{font_of, square};
 
 /// What is told of the second word of these commands.
-const FIND: &str = "fault: words: CERT: the font would be written over\n";
+const FIND: &str = "fault: words: CERT\nnote: the font would be written over\n";
 
-const UPGRADE: &str = "fault: words: NEW\n";
+const UPGRADE: &str = "fault: words: NEW\nnote: the old certificate would be written over\n";
 
 /// Whether the command tells by this line that the second file is the first one, and leaves that as
 /// it is.
