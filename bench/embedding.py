@@ -83,6 +83,20 @@ PRINTED = {
 }
 
 
+def collection(files: list[bytes]) -> bytes:
+    """A font collection of version 1.0 whose faces are these font files, one after the other."""
+    header = struct.pack(">4sII", b"ttcf", 0x10000, len(files))
+    place, faces = len(header) + 4 * len(files), b""
+    for data in files:
+        header += struct.pack(">I", place + len(faces))
+        moved = bytearray(data)
+        for record in range(struct.unpack_from(">H", data, 4)[0]):
+            offset = 12 + 16 * record + 8
+            struct.pack_into(">I", moved, offset, struct.unpack_from(">I", data, offset)[0] + place + len(faces))
+        faces += moved
+    return header + faces
+
+
 def run(words: list[str], **settings) -> subprocess.CompletedProcess:
     """Runs a program, and returns what it printed."""
     return subprocess.run(words, stdout=subprocess.PIPE, stderr=subprocess.STDOUT, text=True, check=False, **settings)
@@ -154,6 +168,7 @@ def fails_calls(programs: dict[str, pathlib.Path], folder: pathlib.Path) -> bool
         "composites.ttf": hostile.font_of_glyphs(COMPOSITES, FUNCTIONS),
         "cvt.ttf": hostile.font_of_glyphs([simple(GOOD)] * 3, FUNCTIONS, prep=REFUSED_CVT_PROGRAM),
         "circle.ttf": hostile.font_of_glyphs([composite([(1, 0)]), composite([(0, 0)])]),
+        "faces.ttc": collection([(folder / name).read_bytes() for name in ("serif.ttf", "broken.ttf")]),
     }
     for name, data in fonts.items():
         (folder / name).write_bytes(data)

@@ -1,20 +1,22 @@
 /* hintcheck: checks the hint programs of TrueType fonts before an interpreter runs them.
  *
- * A font is handed in as bytes, and the answer says whether its font program ('fpgm'), its CVT program ('prep') and each of its glyph
- * programs keep to the limits that its 'maxp' table declares. A hintcheck_request says what is asked: the font, the profile, and how much
- * may be done.
+ * A font is handed in as bytes, or as a face of a font collection, and the answer says whether its font program ('fpgm'), its CVT program
+ * ('prep') and each of its glyph programs keep to the limits that its 'maxp' table declares. A hintcheck_request says what is asked: the
+ * font, the face, the profile, and how much may be done.
  *
  * Where hintcheck_verdict or hintcheck_check answers HINTCHECK_ACCEPTED by the strict profile, no run of any of these programs reaches a
  * fault of the hint machine: no stack underflow, no stack above maxStackElements, no CVT, storage, function, zone, contour or point number
  * out of range, and no step outside the program's bytes. That is proved, for every font and every certificate
- * (crates/hintcheck_c/src/lib.rt, the clauses `accepted`), and so is the rest of the answer, except that `points` and `steps` are how many
- * were made (the clauses `verdict` and `fault`).
+ * (crates/hintcheck_c/src/lib.rt, the clauses `accepted`), and so is the rest of the answer, except that `steps` is how many were made (the
+ * clauses `verdict` and `fault`).
  *
  * hintcheck_verdict also says of each glyph of a font whether it may be drawn with hints, also where some programs are refused: that no run
  * of what is run to draw it reaches a fault is proved too (the clauses `hinted`).
  *
  * The symbolic profile follows values that are computed, and accepts far more fonts. Its acceptance is a theorem too, but about a machine
- * that works more as interpreters do: it keeps control values, and computes exactly. docs/EMBEDDING.md says which premises that adds.
+ * that works more as interpreters do: it keeps control values, and computes exactly. docs/EMBEDDING.md says which premises that adds. Both
+ * profiles can be asked in one call: the strict one first, and the symbolic one where the strict one doesn't accept. The answer tells which
+ * of the two gave it.
  *
  * The proofs are of the library's own functions. The inline functions of this header, which take a request and null pointers and hand on to
  * them, are tested.
@@ -24,9 +26,10 @@
  * C asks, and `refusals`, `may_hint` and `answer` overlap neither each other nor the request, the bytes of the font or those of the
  * certificate. Memory is taken with malloc while a call runs, and given back before it returns. Threads: calls may run at once in several
  * threads, each with its own `refusals`, `may_hint` and `answer`; not from a signal handler, and not in the forked child of a process with
- * threads. Time: by the strict profile a request's limit bounds how often a state is carried on (that no more is counted is proved; that
- * all of the work is counted so is tested), and docs/EMBEDDING.md says which numbers real fonts need, and what time that bounds. By the
- * symbolic profile the limit bounds the search, which is tested.
+ * threads. Time: a request's limit bounds the steps of each profile. A step of the strict profile carries a state on from a place of a
+ * program, and a step of the symbolic profile carries a state over an instruction. docs/EMBEDDING.md says how many steps real fonts need,
+ * and what time that takes. That the strict profile counts no more steps than the limit is proved. That all of its work is counted so, and
+ * that the limit bounds the symbolic search, is tested.
  */
 #ifndef HINTCHECK_H
 #define HINTCHECK_H
@@ -47,9 +50,10 @@ extern "C" {
 enum hintcheck_status {
     HINTCHECK_ACCEPTED = 0,      /* every program keeps to the limits: its hints may be run */
     HINTCHECK_REFUSED = 1,       /* a program is refused: answer->refused says how many */
-    HINTCHECK_FAULT = 2,         /* there is no verdict: no font that can be read (answer->fault is 1 to 8), or no certificate for it (43) */
+    HINTCHECK_FAULT = 2,         /* there is no verdict: no font that can be read (answer->fault is 1 to 8), no such face (10 to 15), or no
+                                  * certificate for the font (43) */
     HINTCHECK_OUT_OF_MEMORY = 3, /* there is no verdict: memory ran out (answer->fault is 9) */
-    HINTCHECK_BUDGET = 4,        /* there is no verdict: more points were to be made than may be (answer->fault is 46) */
+    HINTCHECK_BUDGET = 4,        /* there is no verdict: the strict profile needs more steps than may be made (answer->fault is 46) */
     HINTCHECK_USAGE = 5          /* there is no verdict: what was handed in can't be taken, as each call says */
 };
 
@@ -90,26 +94,27 @@ enum hintcheck_reason {
     HINTCHECK_REASON_KEPT_ENTRY = 47
 };
 
-/* A request's limit: as many points as the font asks for, or as many steps as the searches for its programs come to. */
+/* A request's limit: as many steps as the font asks for. */
 #define HINTCHECK_UNLIMITED UINT64_MAX
 
-/* A request's limit by the symbolic profile: as many steps as the command's search makes for a font at most. */
+/* A request's limit: as many steps as the symbolic profile of the command makes for a font at most. */
 #define HINTCHECK_USUAL_STEPS UINT64_C(1000000000)
 
 /* By which profile a font is checked: what an acceptance by each means is said above. */
 enum hintcheck_profile {
-    HINTCHECK_STRICT = 0,  /* no further premises */
-    HINTCHECK_SYMBOLIC = 1 /* values that are computed are followed: far more fonts are accepted, under further premises */
+    HINTCHECK_STRICT = 0,   /* no further premises */
+    HINTCHECK_SYMBOLIC = 1, /* values that are computed are followed: far more fonts are accepted, under further premises */
+    HINTCHECK_BOTH = 2      /* the strict profile, and where it doesn't accept the font the symbolic one; answer->profile tells which */
 };
 
 /* What is asked. A later version may have more fields, at the end, in which 0 stands for what holds today: initialize the struct, and the
  * fields for which you give nothing are 0. */
 typedef struct hintcheck_request {
-    const uint8_t *font; /* the font's bytes: may be null where there are none */
+    const uint8_t *font; /* the bytes of a font file or of a font collection: may be null where there are none */
     size_t font_length;  /* how many they are */
     uint32_t profile;    /* an enum hintcheck_profile */
-    uint32_t face;       /* the number of a face in a collection of fonts: 0, since no collection is taken so far */
-    uint64_t limit;      /* how many points (HINTCHECK_STRICT) or steps (HINTCHECK_SYMBOLIC) are made at most */
+    uint32_t face;       /* the number of a collection's face, from 0; of a font file 0 */
+    uint64_t limit;      /* how many steps each profile makes at most */
 } hintcheck_request;
 
 /* The numbers of the two programs that no glyph has. */
@@ -130,13 +135,12 @@ typedef struct hintcheck_answer {
     uint32_t status;   /* an enum hintcheck_status */
     uint32_t fault;    /* the fault's number, as docs/REASONS.md lists them; 0 where there is a verdict, and at HINTCHECK_USAGE */
     uint64_t place;    /* at fault 43, the first byte of the certificate that is wrong; otherwise 0 */
-    uint64_t points;   /* by HINTCHECK_STRICT, how many points were made, also where there is no verdict: one each time that a state was
-                        * carried on; otherwise 0 */
-    uint64_t steps;    /* by HINTCHECK_SYMBOLIC, how many steps the search made, also where there is no verdict: one each time that it
-                        * carried a state over an instruction; otherwise 0 */
+    uint64_t steps;    /* how many steps the profile that answers made, also where there is no verdict: how often the strict one carried a
+                        * state on from a place of a program, or the symbolic one carried a state over an instruction */
     uint32_t programs; /* how many programs the font has: its glyphs and 2; 0 where there is no verdict */
     uint32_t refused;  /* how many of them are refused */
     size_t listed;     /* how many of these were written to `refusals`: the first ones, as many as there was room for */
+    uint32_t profile;  /* which profile answers: HINTCHECK_STRICT or HINTCHECK_SYMBOLIC, and 0 at HINTCHECK_USAGE */
 } hintcheck_answer;
 
 /* Where the status is HINTCHECK_REFUSED, hints may stay on for some glyphs: the array `may_hint` of hintcheck_verdict says for which. There
@@ -148,9 +152,9 @@ typedef char hintcheck_layout_is_right[
     sizeof(size_t) == 8 && sizeof(hintcheck_refusal) == 20 && offsetof(hintcheck_refusal, program) == 0 &&
     offsetof(hintcheck_refusal, place) == 4 && offsetof(hintcheck_refusal, offset) == 8 && offsetof(hintcheck_refusal, reason) == 12 &&
     offsetof(hintcheck_refusal, reason_class) == 16 && sizeof(hintcheck_answer) == 48 && offsetof(hintcheck_answer, status) == 0 &&
-    offsetof(hintcheck_answer, fault) == 4 && offsetof(hintcheck_answer, place) == 8 && offsetof(hintcheck_answer, points) == 16 &&
-    offsetof(hintcheck_answer, steps) == 24 && offsetof(hintcheck_answer, programs) == 32 && offsetof(hintcheck_answer, refused) == 36 &&
-    offsetof(hintcheck_answer, listed) == 40
+    offsetof(hintcheck_answer, fault) == 4 && offsetof(hintcheck_answer, place) == 8 && offsetof(hintcheck_answer, steps) == 16 &&
+    offsetof(hintcheck_answer, programs) == 24 && offsetof(hintcheck_answer, refused) == 28 && offsetof(hintcheck_answer, listed) == 32 &&
+    offsetof(hintcheck_answer, profile) == 40
     ? 1 : -1];
 
 /* The version of the library: a byte each for its three numbers, as HINTCHECK_VERSION. */
@@ -158,12 +162,17 @@ uint32_t hintcheck_version(void);
 
 /* The library's own functions, one for each call below and each profile that it takes. They take no null pointer, also where a length is
  * 0: no array without room and no `*text` may be null. Use the calls below, which see to that. */
-uint32_t hintcheck_verdict_of_bytes(const uint8_t *font, size_t font_length, uint64_t points, hintcheck_refusal *refusals, size_t room,
-                                    uint8_t *may_hint, size_t glyphs, hintcheck_answer *answer);
-uint32_t hintcheck_verdict_symbolic_of_bytes(const uint8_t *font, size_t font_length, uint64_t steps, hintcheck_refusal *refusals,
-                                             size_t room, uint8_t *may_hint, size_t glyphs, hintcheck_answer *answer);
-uint32_t hintcheck_check_of_bytes(const uint8_t *font, size_t font_length, const uint8_t *certificate, size_t certificate_length,
-                                  uint64_t points, hintcheck_refusal *refusals, size_t room, hintcheck_answer *answer);
+uint32_t hintcheck_verdict_of_bytes(const uint8_t *font, size_t font_length, uint32_t face, uint64_t steps, hintcheck_refusal *refusals,
+                                    size_t room, uint8_t *may_hint, size_t glyphs, hintcheck_answer *answer);
+uint32_t hintcheck_verdict_symbolic_of_bytes(const uint8_t *font, size_t font_length, uint32_t face, uint64_t steps,
+                                             hintcheck_refusal *refusals, size_t room, uint8_t *may_hint, size_t glyphs,
+                                             hintcheck_answer *answer);
+uint32_t hintcheck_verdict_both_of_bytes(const uint8_t *font, size_t font_length, uint32_t face, uint64_t steps,
+                                         hintcheck_refusal *refusals, size_t room, uint8_t *may_hint, size_t glyphs,
+                                         hintcheck_answer *answer);
+uint32_t hintcheck_check_of_bytes(const uint8_t *font, size_t font_length, uint32_t face, const uint8_t *certificate,
+                                  size_t certificate_length, uint64_t steps, hintcheck_refusal *refusals, size_t room,
+                                  hintcheck_answer *answer);
 
 /* Points `*text` to the text of a reason, 24 bytes that stay: the text, and zeros after it. Returns whether the number is a reason's; where
  * it isn't, `*text` stays. Neither `text` nor `*text` may be null: when you call, `*text` points to 24 bytes of yours that can be read,
@@ -179,12 +188,10 @@ static inline const char *hintcheck_reason_text(uint32_t reason)
     return hintcheck_reason_text_of_number(reason, &text) ? (const char *)text : NULL;
 }
 
-/* Whether the request can be taken: there is one, its font isn't null where its length isn't 0, its profile is one of the two, and its face
- * is 0. */
+/* Whether the request can be taken: there is one, its font isn't null where its length isn't 0, and its profile is one of the three. */
 static inline bool hintcheck_can_take(const hintcheck_request *request)
 {
-    return request && (request->font || !request->font_length) &&
-           (request->profile == HINTCHECK_STRICT || request->profile == HINTCHECK_SYMBOLIC) && !request->face;
+    return request && (request->font || !request->font_length) && request->profile <= HINTCHECK_BOTH;
 }
 
 /* The bytes as the library's own functions take them: in the place of a null pointer, the pointer to a byte of this header's own. */
@@ -201,11 +208,11 @@ static inline uint32_t hintcheck_usage(hintcheck_answer *answer)
         answer->status = HINTCHECK_USAGE;
         answer->fault = 0;
         answer->place = 0;
-        answer->points = 0;
         answer->steps = 0;
         answer->programs = 0;
         answer->refused = 0;
         answer->listed = 0;
+        answer->profile = 0;
     }
     return HINTCHECK_USAGE;
 }
@@ -227,21 +234,29 @@ static inline uint32_t hintcheck_no_hints(uint8_t *may_hint, size_t room, hintch
  * `may_hint` has `glyphs` entries, which say of each glyph whether it may be drawn with hints. To draw a composite glyph, a renderer runs
  * the glyph programs of its components too. So `may_hint[g]` is 1 exactly where the font program, the CVT program, the program of glyph g
  * and those of its components, at any depth, are accepted: then no run of one of them reaches a fault, also where the status is
- * HINTCHECK_REFUSED. By HINTCHECK_SYMBOLIC that holds as long as no glyph whose entry is 0 is drawn with hints (docs/EMBEDDING.md, "The
- * symbolic profile"). All entries are written: the others are 0, those past the last glyph too, and all of them where the font program or
- * the CVT program is refused, and at any status but HINTCHECK_ACCEPTED and HINTCHECK_REFUSED. 65,535 entries are room enough for any font;
- * with fewer than there are glyphs, nothing is said of the glyphs after these.
+ * HINTCHECK_REFUSED. Where the symbolic profile answers, that holds as long as no glyph whose entry is 0 is drawn with hints
+ * (docs/EMBEDDING.md, "The symbolic profile"). All entries are written: the others are 0, those past the last glyph too, and all of them
+ * where the font program or the CVT program is refused, and at any status but HINTCHECK_ACCEPTED and HINTCHECK_REFUSED. 65,535 entries are
+ * room enough for any font; with fewer than there are glyphs, nothing is said of the glyphs after these.
  *
- * By HINTCHECK_STRICT at most request->limit points are made, or as many as the font asks for with HINTCHECK_UNLIMITED: where that is too
+ * The font is the face request->face, from 0, where the bytes are a font collection: they begin with 'ttcf'. The library unpacks the face
+ * into a copy of the collection. Other bytes are a font file, whose only face is 0. Where there is no such face, the status is
+ * HINTCHECK_FAULT and answer->fault is 10 to 15.
+ *
+ * By HINTCHECK_STRICT at most request->limit steps are made, or as many as the font asks for with HINTCHECK_UNLIMITED: where that is too
  * few, the status is HINTCHECK_BUDGET.
  *
  * By HINTCHECK_SYMBOLIC the search makes at most request->limit steps for the font (HINTCHECK_USUAL_STEPS is what the command allows), and
  * at most 20,000,000 for a program: a program for which that is too little is refused (46), and so is each after it that needs a step,
- * where the font's steps are used up. answer->steps says how many it made. No points are counted, and the status is never HINTCHECK_BUDGET.
- * A program is refused where this search found no way to accept it, which says no more.
+ * where the font's steps are used up. The status is never HINTCHECK_BUDGET. A program is refused where this search found no way to accept
+ * it, which says no more.
  *
- * Statuses: each of enum hintcheck_status. HINTCHECK_USAGE is for a null request or answer, a null pointer with a length that isn't 0, a
- * profile that isn't one of enum hintcheck_profile, and a face that isn't 0. A length above 2^31 is taken like any other. */
+ * By HINTCHECK_BOTH the strict profile is asked first. Where it refuses a program, or needs more than request->limit steps, the answer is
+ * the symbolic profile's, which also makes at most request->limit steps. answer->profile tells whose answer it is, and answer->steps the
+ * steps of that profile alone: the same call with that number as the limit comes to the same verdict. The status is never HINTCHECK_BUDGET.
+ *
+ * Statuses: each of enum hintcheck_status. HINTCHECK_USAGE is for a null request or answer, a null pointer with a length that isn't 0, and
+ * a profile that isn't one of enum hintcheck_profile. A length above 2^31 is taken like any other. */
 static inline uint32_t hintcheck_verdict(const hintcheck_request *request, hintcheck_refusal *refusals, size_t room, uint8_t *may_hint,
                                          size_t glyphs, hintcheck_answer *answer)
 {
@@ -253,10 +268,15 @@ static inline uint32_t hintcheck_verdict(const hintcheck_request *request, hintc
     const uint8_t *font = hintcheck_bytes(request->font);
     hintcheck_refusal *list = refusals ? refusals : &no_refusal;
     uint8_t *entries = may_hint ? may_hint : &no_glyph;
-    if (request->profile == HINTCHECK_SYMBOLIC) {
-        return hintcheck_verdict_symbolic_of_bytes(font, request->font_length, request->limit, list, room, entries, glyphs, answer);
+    if (request->profile == HINTCHECK_BOTH) {
+        return hintcheck_verdict_both_of_bytes(font, request->font_length, request->face, request->limit, list, room, entries, glyphs,
+                                               answer);
     }
-    return hintcheck_verdict_of_bytes(font, request->font_length, request->limit, list, room, entries, glyphs, answer);
+    if (request->profile == HINTCHECK_SYMBOLIC) {
+        return hintcheck_verdict_symbolic_of_bytes(font, request->font_length, request->face, request->limit, list, room, entries, glyphs,
+                                                   answer);
+    }
+    return hintcheck_verdict_of_bytes(font, request->font_length, request->face, request->limit, list, room, entries, glyphs, answer);
 }
 
 /* hintcheck_verdict without a list of refusals. */
@@ -280,8 +300,8 @@ static inline uint32_t hintcheck_check(const hintcheck_request *request, const u
         (!refusals && room)) {
         return hintcheck_usage(answer);
     }
-    return hintcheck_check_of_bytes(hintcheck_bytes(request->font), request->font_length, hintcheck_bytes(certificate), certificate_length,
-                                    request->limit, refusals ? refusals : &no_room, room, answer);
+    return hintcheck_check_of_bytes(hintcheck_bytes(request->font), request->font_length, request->face, hintcheck_bytes(certificate),
+                                    certificate_length, request->limit, refusals ? refusals : &no_room, room, answer);
 }
 
 #ifdef __cplusplus

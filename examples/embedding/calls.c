@@ -1,7 +1,8 @@
 /* Calls the library with requests, pointers and lengths of all kinds, and says where an answer isn't what the header says.
- * Usage: calls ACCEPTED.ttf REFUSED.ttf CERT COMPOSITES.ttf CVT.ttf CIRCLE.ttf [short]
+ * Usage: calls ACCEPTED.ttf REFUSED.ttf CERT COMPOSITES.ttf CVT.ttf CIRCLE.ttf FACES.ttc [short]
  * CERT is the accepted font's certificate; COMPOSITES.ttf has composite glyphs, the CVT program of CVT.ttf is refused, and the glyphs of
- * CIRCLE.ttf are made of each other. `short` leaves out what takes much memory. */
+ * CIRCLE.ttf are made of each other. FACES.ttc is a collection: the accepted font is its face 0 and the refused one its face 1. `short`
+ * leaves out what takes much memory. */
 #include <hintcheck.h>
 #include <stdio.h>
 #include <stdlib.h>
@@ -41,7 +42,7 @@ static void call_verdict(const uint8_t *accepted, size_t accepted_length, const 
     expect(hintcheck_verdict(&request, refusals, 4, NULL, 0, &answer) == HINTCHECK_ACCEPTED, "an accepted font");
     expect(answer.status == HINTCHECK_ACCEPTED && answer.fault == 0, "its status");
     expect(answer.programs == 5 && answer.refused == 0 && answer.listed == 0, "its counts");
-    expect(answer.points > 0 && answer.steps == 0, "its points");
+    expect(answer.steps > 0 && answer.profile == HINTCHECK_STRICT, "its steps, and the profile");
     request.font = refused;
     request.font_length = refused_length;
     expect(hintcheck_verdict(&request, refusals, 4, NULL, 0, &answer) == HINTCHECK_REFUSED, "a refused font");
@@ -95,8 +96,8 @@ static void call_oddly(const uint8_t *accepted, size_t accepted_length)
 /* Whether an answer says that what was handed in can't be taken, and nothing else. */
 static int says_usage(const hintcheck_answer *answer)
 {
-    return answer->status == HINTCHECK_USAGE && answer->fault == 0 && answer->place == 0 && answer->points == 0 && answer->steps == 0 &&
-           answer->programs == 0 && answer->refused == 0 && answer->listed == 0;
+    return answer->status == HINTCHECK_USAGE && answer->fault == 0 && answer->place == 0 && answer->steps == 0 && answer->programs == 0 &&
+           answer->refused == 0 && answer->listed == 0 && answer->profile == 0;
 }
 
 /* Whether an array has these entries, and then zeros. */
@@ -137,18 +138,16 @@ static void call_by_odd_requests(const uint8_t *accepted, size_t accepted_length
     hintcheck_request request = {accepted, accepted_length, HINTCHECK_STRICT, 0, HINTCHECK_UNLIMITED};
     hintcheck_answer answer;
     call_by(NULL, certificate, certificate_length, "a null request");
-    request.profile = 2;
-    call_by(&request, certificate, certificate_length, "profile 2");
+    request.profile = 3;
+    call_by(&request, certificate, certificate_length, "profile 3");
     request.profile = UINT32_MAX;
     call_by(&request, certificate, certificate_length, "the last profile");
-    request.profile = HINTCHECK_STRICT;
-    request.face = 1;
-    call_by(&request, certificate, certificate_length, "face 1");
-    request.profile = HINTCHECK_SYMBOLIC;
-    call_by(&request, certificate, certificate_length, "face 1 by symbolic states");
-    request.face = 0;
-    expect(hintcheck_check(&request, certificate, certificate_length, NULL, 0, &answer) == HINTCHECK_USAGE, "a check by symbolic states");
+    request.profile = HINTCHECK_BOTH;
+    expect(hintcheck_check(&request, certificate, certificate_length, NULL, 0, &answer) == HINTCHECK_USAGE, "a check by both profiles");
     expect(says_usage(&answer), "what is told of it");
+    request.profile = HINTCHECK_SYMBOLIC;
+    expect(hintcheck_check(&request, certificate, certificate_length, NULL, 0, &answer) == HINTCHECK_USAGE, "a check by symbolic states");
+    expect(says_usage(&answer), "what is told of that");
     request.font = NULL;
     call_by(&request, certificate, certificate_length, "a null font by symbolic states");
     request.font_length = 0;
@@ -168,29 +167,29 @@ static void call_may_hint(const uint8_t *composites, size_t length)
     memset(may_hint, 0x55, sizeof may_hint);
     expect(hintcheck_may_hint(&request, may_hint, 16, &answer) == HINTCHECK_REFUSED, "composite glyphs");
     expect(has(may_hint, 16, entries, 11), "which may be drawn with hints");
-    expect(answer.status == HINTCHECK_REFUSED && answer.fault == 0 && answer.points > 0, "the status beside it");
+    expect(answer.status == HINTCHECK_REFUSED && answer.fault == 0 && answer.steps > 0, "the status beside it");
     expect(answer.programs == 13 && answer.refused == 2 && answer.listed == 0, "the counts beside it");
-    uint64_t needed = answer.points;
+    uint64_t needed = answer.steps;
     request.limit = needed;
     memset(may_hint, 0x55, sizeof may_hint);
     expect(hintcheck_may_hint(&request, may_hint, 4, &answer) == HINTCHECK_REFUSED, "room for four glyphs");
     expect(has(may_hint, 4, entries, 4) && may_hint[4] == 0x55, "four entries");
     expect(hintcheck_may_hint(&request, NULL, 0, &answer) == HINTCHECK_REFUSED && answer.refused == 2, "room for no glyph");
     request.limit = needed - 1;
-    expect(hintcheck_may_hint(&request, may_hint, 16, &answer) == HINTCHECK_BUDGET, "glyphs with too few points");
-    expect(has(may_hint, 16, NULL, 0) && answer.fault == 46 && answer.points == needed - 1, "no glyph then");
+    expect(hintcheck_may_hint(&request, may_hint, 16, &answer) == HINTCHECK_BUDGET, "glyphs with too few steps");
+    expect(has(may_hint, 16, NULL, 0) && answer.fault == 46 && answer.steps == needed - 1, "no glyph then");
     memset(may_hint, 0x55, sizeof may_hint);
     expect(hintcheck_may_hint(&symbolic, may_hint, 16, &answer) == HINTCHECK_REFUSED, "composite glyphs by symbolic states");
     expect(has(may_hint, 16, entries, 11), "which may be drawn with hints by symbolic states");
-    expect(answer.refused == 2 && answer.points == 0, "the counts beside it by symbolic states");
+    expect(answer.refused == 2 && answer.profile == HINTCHECK_SYMBOLIC, "the counts beside it by symbolic states");
 }
 
-/* Refusals and glyphs by one call: what each of the two tells alone, by both profiles. */
+/* Refusals and glyphs by one call: what each of the two tells alone, by each profile and by both. */
 static void call_for_both(const uint8_t *composites, size_t length)
 {
     static const uint8_t entries[11] = {1, 0, 1, 0, 0, 1, 0, 0, 0, 1, 1};
-    static const uint32_t profiles[2] = {HINTCHECK_STRICT, HINTCHECK_SYMBOLIC};
-    for (size_t i = 0; i < 2; i++) {
+    static const uint32_t profiles[3] = {HINTCHECK_STRICT, HINTCHECK_SYMBOLIC, HINTCHECK_BOTH};
+    for (size_t i = 0; i < 3; i++) {
         hintcheck_request request = {composites, length, profiles[i], 0, HINTCHECK_USUAL_STEPS};
         hintcheck_answer answer, alone;
         hintcheck_refusal refusals[4];
@@ -202,9 +201,9 @@ static void call_for_both(const uint8_t *composites, size_t length)
         expect(answer.refused == 2 && answer.listed == 2, "how many refusals are listed beside the glyphs");
         expect(refusals[0].program == 1 && refusals[1].program == 6, "which refusals they are");
         expect(refusals[2].program == 0x55555555u, "what is after them");
-        expect((answer.points > 0) == (i == 0) && (answer.steps > 0) == (i == 1), "points by one profile, steps by the other");
+        expect(answer.profile == (i == 0 ? HINTCHECK_STRICT : HINTCHECK_SYMBOLIC) && answer.steps > 0, "by which profile, in some steps");
         expect(hintcheck_may_hint(&request, may_hint, 16, &alone) == HINTCHECK_REFUSED, "glyphs alone");
-        expect(alone.points == answer.points && alone.steps == answer.steps, "as many points and steps for glyphs alone");
+        expect(alone.profile == answer.profile && alone.steps == answer.steps, "as many steps for glyphs alone");
         expect(hintcheck_verdict(&request, refusals, 1, may_hint, 2, &answer) == HINTCHECK_REFUSED, "room for one and for two");
         expect(answer.listed == 1 && refusals[0].program == 1 && has(may_hint, 2, entries, 2), "one refusal and two glyphs");
     }
@@ -311,30 +310,30 @@ static void call_text_of_number(void)
     expect(strcmp((const char *)text, "instruction definition") == 0 && text[23] == 0 && own[0] == 0x55, "that text");
 }
 
-/* With each number of points up to the one that the font needs, and with that one. */
+/* With each number of steps up to the one that the font needs, and with that one. */
 static void call_within(const uint8_t *font, size_t length, uint32_t status, const uint8_t *certificate, size_t certificate_length)
 {
     hintcheck_request request = {font, length, HINTCHECK_STRICT, 0, HINTCHECK_UNLIMITED};
     hintcheck_answer answer;
     hintcheck_refusal refusals[4];
     hintcheck_verdict(&request, refusals, 4, NULL, 0, &answer);
-    uint64_t needed = answer.points;
-    expect(needed > 0, "points are counted");
-    for (uint64_t points = 0; points < needed; points++) {
-        request.limit = points;
+    uint64_t needed = answer.steps;
+    expect(needed > 0, "steps are counted");
+    for (uint64_t steps = 0; steps < needed; steps++) {
+        request.limit = steps;
         memset(refusals, 0x55, sizeof refusals);
-        expect(hintcheck_verdict(&request, refusals, 4, NULL, 0, &answer) == HINTCHECK_BUDGET, "too few points");
-        expect(answer.status == HINTCHECK_BUDGET && answer.fault == 46 && answer.points == points, "what is told of them");
+        expect(hintcheck_verdict(&request, refusals, 4, NULL, 0, &answer) == HINTCHECK_BUDGET, "too few steps");
+        expect(answer.status == HINTCHECK_BUDGET && answer.fault == 46 && answer.steps == steps, "what is told of them");
         expect(answer.programs == 0 && answer.listed == 0 && refusals[0].program == 0x55555555u, "nothing else");
     }
     request.limit = needed;
-    expect(hintcheck_verdict(&request, refusals, 4, NULL, 0, &answer) == status, "enough points");
-    expect(answer.points == needed, "how many they are");
+    expect(hintcheck_verdict(&request, refusals, 4, NULL, 0, &answer) == status, "enough steps");
+    expect(answer.steps == needed, "how many they are");
     request.limit = 0;
-    expect(hintcheck_check(&request, certificate, certificate_length, refusals, 4, &answer) == HINTCHECK_BUDGET, "a check without points");
+    expect(hintcheck_check(&request, certificate, certificate_length, refusals, 4, &answer) == HINTCHECK_BUDGET, "a check without steps");
     request.limit = HINTCHECK_UNLIMITED;
     hintcheck_check(&request, certificate, certificate_length, refusals, 4, &answer);
-    expect(answer.points > 0 && answer.points <= needed, "a check makes no more points");
+    expect(answer.steps > 0 && answer.steps <= needed, "a check makes no more steps");
 }
 
 /* By symbolic states, with each number of steps up to the one that the font needs: programs are refused for want of steps until there are
@@ -347,12 +346,12 @@ static void call_within_steps(const uint8_t *font, size_t length)
     uint8_t may_hint[4];
     while (request.limit < 10000 && hintcheck_verdict(&request, refusals, 4, NULL, 0, &answer) == HINTCHECK_REFUSED) {
         expect(answer.refused > 0 && refusals[0].reason == HINTCHECK_REASON_TOO_MANY_STEPS, "what is told of too few steps");
-        expect(answer.steps <= request.limit && answer.points == 0, "how many were made");
+        expect(answer.steps <= request.limit && answer.profile == HINTCHECK_SYMBOLIC, "how many were made");
         request.limit++;
     }
     uint64_t steps = request.limit;
-    expect(steps > 0, "steps are counted");
-    expect(answer.status == HINTCHECK_ACCEPTED && answer.points == 0 && answer.steps == steps, "enough steps");
+    expect(steps > 0, "steps are counted by symbolic states");
+    expect(answer.status == HINTCHECK_ACCEPTED && answer.steps == steps, "enough steps by symbolic states");
     request.limit = HINTCHECK_USUAL_STEPS;
     expect(hintcheck_verdict(&request, refusals, 4, NULL, 0, &answer) == HINTCHECK_ACCEPTED && answer.steps == steps, "more steps");
     request.limit = HINTCHECK_UNLIMITED;
@@ -368,6 +367,99 @@ static void call_within_steps(const uint8_t *font, size_t length)
     request.limit = 0;
     expect(hintcheck_may_hint(&request, may_hint, 4, &answer) == HINTCHECK_REFUSED, "no step for glyphs");
     expect(has(may_hint, 4, NULL, 0), "no glyph then");
+}
+
+/* Whether two answers have the same numbers. */
+static int is_same(const hintcheck_answer *one, const hintcheck_answer *other)
+{
+    return one->status == other->status && one->fault == other->fault && one->place == other->place && one->steps == other->steps &&
+           one->programs == other->programs && one->refused == other->refused && one->listed == other->listed &&
+           one->profile == other->profile;
+}
+
+/* By both profiles with each number of steps up to `most`: the strict profile's answer where that accepts the font or can't read it, and
+ * otherwise the symbolic one's. With as many steps as an answer tells, the same answer comes. */
+static void call_by_both(const uint8_t *font, size_t length, uint64_t most)
+{
+    for (uint64_t limit = 0; limit <= most; limit++) {
+        hintcheck_request request = {font, length, HINTCHECK_STRICT, 0, limit};
+        hintcheck_answer wanted, answer;
+        hintcheck_refusal listed[4], refusals[4];
+        uint8_t entries[16], may_hint[16];
+        memset(listed, 0x55, sizeof listed);
+        memset(refusals, 0x55, sizeof refusals);
+        uint32_t status = hintcheck_verdict(&request, NULL, 0, entries, 16, &wanted);
+        if (status == HINTCHECK_REFUSED || status == HINTCHECK_BUDGET) {
+            request.profile = HINTCHECK_SYMBOLIC;
+            status = hintcheck_verdict(&request, listed, 4, entries, 16, &wanted);
+        }
+        request.profile = HINTCHECK_BOTH;
+        expect(hintcheck_verdict(&request, refusals, 4, may_hint, 16, &answer) == status, "the status by both profiles");
+        expect(is_same(&answer, &wanted), "the answer by both profiles");
+        expect(memcmp(refusals, listed, sizeof listed) == 0, "the refusals by both profiles, and what is after them");
+        expect(has(may_hint, 16, entries, 16), "the glyphs by both profiles");
+        request.limit = answer.steps;
+        expect(hintcheck_verdict(&request, refusals, 4, may_hint, 16, &answer) == status && is_same(&answer, &wanted),
+               "the same with as many steps as were made");
+    }
+}
+
+/* The faces of a collection: each is answered as the font file is of which it was made, by each profile and by both. */
+static void call_faces(const uint8_t *collection, size_t length, const uint8_t *const *fonts, const size_t *lengths)
+{
+    for (uint32_t profile = HINTCHECK_STRICT; profile <= HINTCHECK_BOTH; profile++) {
+        for (uint32_t face = 0; face < 2; face++) {
+            hintcheck_request request = {collection, length, profile, face, HINTCHECK_USUAL_STEPS};
+            hintcheck_request alone = {fonts[face], lengths[face], profile, 0, HINTCHECK_USUAL_STEPS};
+            hintcheck_answer answer, wanted;
+            hintcheck_refusal refusals[4], listed[4];
+            uint8_t may_hint[16], entries[16];
+            memset(refusals, 0x55, sizeof refusals);
+            memset(listed, 0x55, sizeof listed);
+            hintcheck_verdict(&request, refusals, 4, may_hint, 16, &answer);
+            hintcheck_verdict(&alone, listed, 4, entries, 16, &wanted);
+            expect(is_same(&answer, &wanted) && answer.programs > 0, "a face, and the font of which it was made");
+            expect(memcmp(refusals, listed, sizeof listed) == 0, "the refusals of a face");
+            expect(has(may_hint, 16, entries, 16), "the glyphs of a face");
+        }
+    }
+}
+
+/* Whether an answer is this fault, by the strict profile, with no glyph. */
+static int is_fault(const hintcheck_answer *answer, uint32_t fault, const uint8_t *may_hint)
+{
+    return answer->status == HINTCHECK_FAULT && answer->fault == fault && answer->place == 0 && answer->steps == 0 &&
+           answer->programs == 0 && answer->refused == 0 && answer->listed == 0 && answer->profile == HINTCHECK_STRICT &&
+           has(may_hint, 4, NULL, 0);
+}
+
+/* Faces that aren't there, collections that can't be read, and a face's certificate. */
+static void call_other_faces(const uint8_t *collection, size_t length, const uint8_t *font, size_t font_length, const uint8_t *certificate,
+                             size_t certificate_length)
+{
+    hintcheck_request request = {collection, length, HINTCHECK_BOTH, 2, HINTCHECK_USUAL_STEPS};
+    hintcheck_answer answer;
+    uint8_t may_hint[4];
+    memset(may_hint, 0x55, sizeof may_hint);
+    expect(hintcheck_may_hint(&request, may_hint, 4, &answer) == HINTCHECK_FAULT && is_fault(&answer, 13, may_hint), "no such face");
+    request.face = UINT32_MAX;
+    expect(hintcheck_may_hint(&request, may_hint, 4, &answer) == HINTCHECK_FAULT && is_fault(&answer, 13, may_hint), "the last number");
+    request.face = 0;
+    request.font_length = 11;
+    expect(hintcheck_may_hint(&request, may_hint, 4, &answer) == HINTCHECK_FAULT && is_fault(&answer, 11, may_hint), "half a header");
+    request.font_length = 40;
+    expect(hintcheck_may_hint(&request, may_hint, 4, &answer) == HINTCHECK_FAULT && is_fault(&answer, 14, may_hint), "half a directory");
+    hintcheck_request other = {font, font_length, HINTCHECK_BOTH, 1, HINTCHECK_USUAL_STEPS};
+    expect(hintcheck_may_hint(&other, may_hint, 4, &answer) == HINTCHECK_FAULT && is_fault(&answer, 13, may_hint), "face 1 of a font file");
+    request.font_length = length;
+    request.profile = other.profile = HINTCHECK_STRICT;
+    expect(hintcheck_check(&request, certificate, certificate_length, NULL, 0, &answer) == HINTCHECK_ACCEPTED, "a face's certificate");
+    expect(answer.profile == HINTCHECK_STRICT && answer.steps > 0, "the profile of a check");
+    request.face = 2;
+    expect(hintcheck_check(&request, certificate, certificate_length, NULL, 0, &answer) == HINTCHECK_FAULT && answer.fault == 13,
+           "a certificate of no face");
+    expect(hintcheck_check(&other, certificate, certificate_length, NULL, 0, &answer) == HINTCHECK_FAULT && answer.fault == 13,
+           "a certificate of face 1 of a font file");
 }
 
 /* More than 2^31 bytes: zeros alone, and a font with zeros after it. */
@@ -389,18 +481,21 @@ static void call_with_many_bytes(const uint8_t *accepted, size_t accepted_length
 
 int main(int argc, char **argv)
 {
-    if (argc < 7) {
-        fprintf(stderr, "usage: calls ACCEPTED.ttf REFUSED.ttf CERT COMPOSITES.ttf CVT.ttf CIRCLE.ttf [short]\n");
+    if (argc < 8) {
+        fprintf(stderr, "usage: calls ACCEPTED.ttf REFUSED.ttf CERT COMPOSITES.ttf CVT.ttf CIRCLE.ttf FACES.ttc [short]\n");
         return 2;
     }
     size_t accepted_length = 0, refused_length = 0, certificate_length = 0;
-    size_t composites_length = 0, cvt_length = 0, circle_length = 0;
+    size_t composites_length = 0, cvt_length = 0, circle_length = 0, faces_length = 0;
     uint8_t *accepted = read_file(argv[1], &accepted_length);
     uint8_t *refused = read_file(argv[2], &refused_length);
     uint8_t *certificate = read_file(argv[3], &certificate_length);
     uint8_t *composites = read_file(argv[4], &composites_length);
     uint8_t *cvt = read_file(argv[5], &cvt_length);
     uint8_t *circle = read_file(argv[6], &circle_length);
+    uint8_t *faces = read_file(argv[7], &faces_length);
+    const uint8_t *fonts[2] = {accepted, refused};
+    size_t lengths[2] = {accepted_length, refused_length};
     call_verdict(accepted, accepted_length, refused, refused_length);
     call_check(accepted, accepted_length, refused, refused_length, certificate, certificate_length);
     call_oddly(accepted, accepted_length);
@@ -412,7 +507,14 @@ int main(int argc, char **argv)
     call_text_of_number();
     call_within(accepted, accepted_length, HINTCHECK_ACCEPTED, certificate, certificate_length);
     call_within_steps(accepted, accepted_length);
-    if (argc == 7) {
+    call_by_both(accepted, accepted_length, 400);
+    call_by_both(refused, refused_length, 400);
+    call_by_both(composites, composites_length, 400);
+    call_by_both(cvt, cvt_length, 40);
+    call_by_both(circle, circle_length, 4);
+    call_faces(faces, faces_length, fonts, lengths);
+    call_other_faces(faces, faces_length, accepted, accepted_length, certificate, certificate_length);
+    if (argc == 8) {
         call_with_many_bytes(accepted, accepted_length);
     }
     free(accepted);
@@ -421,6 +523,7 @@ int main(int argc, char **argv)
     free(composites);
     free(cvt);
     free(circle);
+    free(faces);
     if (!failed) {
         printf("all calls answered as the header says\n");
     }

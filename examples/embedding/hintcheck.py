@@ -10,9 +10,10 @@
 The shared library is made of the archive:
 cc -shared -o libhintcheck.so -Wl,--whole-archive libhintcheck.a -Wl,--no-whole-archive
 
-A font is any object that lends its bytes: bytes, a bytearray, a memoryview, an mmap. The library reads them where they are, and nothing copies them;
-nobody may change them while a call runs, neither another thread nor another process that has the file mapped. The library has no state, so several
-threads may call one Library at the same time, and Python runs its other threads meanwhile.
+A font is any object that lends its bytes, of a font file or of a font collection: bytes, a bytearray, a memoryview, an mmap. The library reads them
+where they are, and nothing copies them but that it unpacks the face of a collection; nobody may change them while a call runs, neither another thread
+nor another process that has the file mapped. The library has no state, so several threads may call one Library at the same time, and Python runs its
+other threads meanwhile.
 
 include/hintcheck.h says what each answer means, and docs/EMBEDDING.md what a renderer does with it. The header's inline functions aren't in the shared
 library: this module does what they do, and calls the library's own functions, of which each has its profile.
@@ -29,10 +30,12 @@ import typing
 
 # The version of the header for which this module is written: a byte each for its three numbers.
 VERSION = 0x000900
-# A limit: as many points as the font asks for, or as many steps as the searches for its programs come to.
+# A limit: as many steps as the font asks for.
 UNLIMITED = (1 << 64) - 1
-# The limit that the symbolic profile has in the command.
+# A limit: as many steps as the symbolic profile of the command makes for a font at most.
 USUAL_STEPS = 1_000_000_000
+# The number of the last face that a collection may have.
+LAST_FACE = (1 << 32) - 1
 # The numbers of the two programs that no glyph has.
 FONT_PROGRAM, CVT_PROGRAM = 65536, 65537
 # How many glyphs a font has at most; two more programs may be refused.
@@ -55,6 +58,8 @@ class Profile(enum.IntEnum):
 
     STRICT = 0
     SYMBOLIC = 1
+    BOTH = 2
+    """The strict one, and the symbolic one where that doesn't accept the font. An answer is by one of the two."""
 
 
 class ReasonClass(enum.IntEnum):
@@ -102,14 +107,15 @@ class Answer:
     """The fault's number (docs/REASONS.md); 0 where there is a verdict."""
     place: int
     """At fault 43, the offset of the first byte of the certificate that is wrong; otherwise 0."""
-    points: int
-    """How many points the strict profile made, also where there is no verdict; otherwise 0."""
     steps: int
-    """How many steps the symbolic profile's search made, also where there is no verdict; otherwise 0."""
+    """How many steps the profile that answers made, also where there is no verdict: how often the strict one carried a state on from a place of a
+    program, or the symbolic one carried a state over an instruction."""
     programs: int
     """How many programs the font has, its glyphs and 2; 0 where there is no verdict."""
     refused: int
     """How many of them are refused."""
+    profile: Profile
+    """Which profile answers: STRICT or SYMBOLIC."""
     refusals: tuple[Refusal, ...]
     """The first of these, as many as were asked for."""
     glyphs: bytes
@@ -138,11 +144,11 @@ class _Answer(ctypes.Structure):
         ("status", ctypes.c_uint32),
         ("fault", ctypes.c_uint32),
         ("place", ctypes.c_uint64),
-        ("points", ctypes.c_uint64),
         ("steps", ctypes.c_uint64),
         ("programs", ctypes.c_uint32),
         ("refused", ctypes.c_uint32),
         ("listed", ctypes.c_size_t),
+        ("profile", ctypes.c_uint32),
     ]
 
 
@@ -177,14 +183,23 @@ _SIMPLE = 0
 _NO_BYTES, _NO_TEXT = ctypes.create_string_buffer(1), bytes(24)
 
 _BYTES = (ctypes.c_void_p, ctypes.c_size_t)
+_FACE = (*_BYTES, ctypes.c_uint32)
 _REFUSALS = (ctypes.POINTER(_Refusal), ctypes.c_size_t)
 _GLYPHS = (ctypes.POINTER(ctypes.c_uint8), ctypes.c_size_t)
+_VERDICT = (ctypes.c_uint32, (*_FACE, ctypes.c_uint64, *_REFUSALS, *_GLYPHS, ctypes.POINTER(_Answer)))
 _FUNCTIONS: dict[str, tuple[type, tuple[type, ...]]] = {
     "hintcheck_version": (ctypes.c_uint32, ()),
-    "hintcheck_verdict_of_bytes": (ctypes.c_uint32, (*_BYTES, ctypes.c_uint64, *_REFUSALS, *_GLYPHS, ctypes.POINTER(_Answer))),
-    "hintcheck_verdict_symbolic_of_bytes": (ctypes.c_uint32, (*_BYTES, ctypes.c_uint64, *_REFUSALS, *_GLYPHS, ctypes.POINTER(_Answer))),
-    "hintcheck_check_of_bytes": (ctypes.c_uint32, (*_BYTES, *_BYTES, ctypes.c_uint64, *_REFUSALS, ctypes.POINTER(_Answer))),
+    "hintcheck_verdict_of_bytes": _VERDICT,
+    "hintcheck_verdict_symbolic_of_bytes": _VERDICT,
+    "hintcheck_verdict_both_of_bytes": _VERDICT,
+    "hintcheck_check_of_bytes": (ctypes.c_uint32, (*_FACE, *_BYTES, ctypes.c_uint64, *_REFUSALS, ctypes.POINTER(_Answer))),
     "hintcheck_reason_text_of_number": (ctypes.c_bool, (ctypes.c_uint32, ctypes.POINTER(ctypes.c_char_p))),
+}
+# The function that answers by each profile.
+_CALLS = {
+    Profile.STRICT: "hintcheck_verdict_of_bytes",
+    Profile.SYMBOLIC: "hintcheck_verdict_symbolic_of_bytes",
+    Profile.BOTH: "hintcheck_verdict_both_of_bytes",
 }
 
 
@@ -231,37 +246,49 @@ class Library:
         return text.value.decode() if is_reason else None
 
     def verdict(
-        self, font: object, *, profile: Profile = Profile.STRICT, limit: int | None = None, room: int | None = None, glyphs: bool = False
+        self,
+        font: object,
+        *,
+        face: int = 0,
+        profile: Profile = Profile.STRICT,
+        limit: int | None = None,
+        room: int | None = None,
+        glyphs: bool = False,
     ) -> Answer:
         """Checks all programs of a font.
 
-        `limit` bounds the work: how many points the strict profile makes at most (where they don't suffice the status is BUDGET), or how many steps
-        the symbolic one's search makes for the font (programs for which they don't suffice are refused). Without it, the strict profile makes as many
-        as the font asks for, and the symbolic one USUAL_STEPS, as the command. `room` is how many refusals are listed at most; without it, all are.
-        With `glyphs` the answer also says which glyphs may be drawn with hints.
+        `face` is the number of a face, from 0, where the bytes are a font collection; a font file has the face 0 alone. Where there is no such face
+        the status is FAULT.
+
+        `limit` bounds the work: how many steps each profile makes at most. Where they don't suffice, the answer of STRICT has the status BUDGET, and
+        that of SYMBOLIC or of BOTH refuses programs. Without it, STRICT makes as many as the font asks for, and the other two USUAL_STEPS, as the
+        command. `room` is how many refusals are listed at most; without it, all are. With `glyphs` the answer also says which glyphs may be drawn with
+        hints.
 
         Raises TypeError or BufferError where `font` doesn't lend its bytes in one piece, and ValueError for another profile or a number out of range.
         """
         profile = Profile(profile)
         limit = _counted(limit, UNLIMITED if profile is Profile.STRICT else USUAL_STEPS, UNLIMITED, "limit")
-        call = self._library.hintcheck_verdict_of_bytes if profile is Profile.STRICT else self._library.hintcheck_verdict_symbolic_of_bytes
+        face = _counted(face, 0, LAST_FACE, "face")
+        call = getattr(self._library, _CALLS[profile])
         refusals = self._room(room)
         # An array without entries has an address too, which is all that the library asks of it.
         entries, answer = (ctypes.c_uint8 * (MOST_GLYPHS if glyphs else 0))(), _Answer()
         with _lent(font) as (address, length):
-            call(address, length, limit, refusals, len(refusals), entries, len(entries), ctypes.byref(answer))
+            call(address, length, face, limit, refusals, len(refusals), entries, len(entries), ctypes.byref(answer))
         return self._told(answer, refusals, ctypes.string_at(entries, max(answer.programs - 2, 0)) if glyphs else b"")
 
-    def check(self, font: object, certificate: object, *, limit: int | None = None, room: int | None = None) -> Answer:
+    def check(self, font: object, certificate: object, *, face: int = 0, limit: int | None = None, room: int | None = None) -> Answer:
         """Checks all programs of a font by the bytes of a certificate, as `hintcheck find` writes it, which nobody needs to trust.
 
         It takes the strict profile, and says nothing of single glyphs. All else is as for `verdict`.
         """
         limit = _counted(limit, UNLIMITED, UNLIMITED, "limit")
+        face = _counted(face, 0, LAST_FACE, "face")
         refusals, answer = self._room(room), _Answer()
         with _lent(font) as (address, length), _lent(certificate) as (certificate_address, certificate_length):
             self._library.hintcheck_check_of_bytes(
-                address, length, certificate_address, certificate_length, limit, refusals, len(refusals), ctypes.byref(answer)
+                address, length, face, certificate_address, certificate_length, limit, refusals, len(refusals), ctypes.byref(answer)
             )
         return self._told(answer, refusals, b"")
 
@@ -277,5 +304,5 @@ class Library:
             Refusal(one.program, one.place, one.offset, one.reason, ReasonClass(one.reason_class), self.reason_text(one.reason) or "")
             for one in refusals[: answer.listed]
         )
-        counts = (answer.fault, answer.place, answer.points, answer.steps, answer.programs, answer.refused)
-        return Answer(Status(answer.status), *counts, told, glyphs)
+        counts = (answer.fault, answer.place, answer.steps, answer.programs, answer.refused)
+        return Answer(Status(answer.status), *counts, Profile(answer.profile), told, glyphs)

@@ -11,8 +11,8 @@
 
 enum { SIZE = 24, WIDTH = 480, HEIGHT = 40, BASELINE = 30, LISTED = 3 };
 
-/* More than three times what real fonts need, and a bound on the time: some seconds. */
-#define POINTS 20000000u
+/* More than three times what the strict profile needs for real fonts, and a bound on the time: some seconds. */
+#define STEPS 20000000u
 
 /* How glyphs are loaded without hints: under FT_LOAD_NO_HINTING alone FreeType runs the programs of a font that it takes for a "tricky" one
  * all the same, for example by its family name, which the font's maker chooses. */
@@ -80,7 +80,7 @@ static uint32_t check(const hintcheck_request *request, const char *certificate_
 /* Asks hintcheck which glyphs may be drawn with hints, and says what it answers. */
 static void ask(const unsigned char *font, size_t length, const char *certificate_name)
 {
-    hintcheck_request request = {.font = font, .font_length = length, .profile = HINTCHECK_STRICT, .limit = POINTS};
+    hintcheck_request request = {.font = font, .font_length = length, .profile = HINTCHECK_STRICT, .limit = STEPS};
     hintcheck_refusal refusals[LISTED];
     hintcheck_answer answer;
     uint32_t status = certificate_name ? check(&request, certificate_name, refusals, &answer)

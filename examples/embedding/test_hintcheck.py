@@ -14,6 +14,7 @@ import dataclasses
 import mmap
 import pathlib
 import re
+import struct
 import sys
 import tempfile
 import tracemalloc
@@ -47,6 +48,20 @@ def font_of(*glyphs: fontfile.Glyph) -> bytes:
     return fontfile.file_of(fontfile.Font("font", list(glyphs)))
 
 
+def collection_of(*fonts: bytes) -> bytes:
+    """A font collection of version 1.0 whose faces are these font files, one after the other."""
+    header = struct.pack(">4sII", b"ttcf", 0x10000, len(fonts))
+    place, faces = len(header) + 4 * len(fonts), b""
+    for font in fonts:
+        header += struct.pack(">I", place + len(faces))
+        moved = bytearray(font)
+        for record in range(struct.unpack_from(">H", font, 4)[0]):
+            offset = 12 + 16 * record + 8
+            struct.pack_into(">I", moved, offset, struct.unpack_from(">I", font, offset)[0] + place + len(faces))
+        faces += moved
+    return header + faces
+
+
 ACCEPTED, REFUSED, CERTIFICATE = example("call-pops.ttf"), example("call-underflows.ttf"), example("call-pops.form4")
 # Glyph 1 takes an element of an empty stack, and glyph 3 is made of it; glyph 2 is made of glyph 0.
 COMPOSITES = font_of(
@@ -75,8 +90,8 @@ class Verdicts(Test):
         answer = self.library.verdict(ACCEPTED)
         self.assertTrue(answer.is_accepted)
         self.assertEqual((answer.status, answer.fault, answer.programs, answer.refused, answer.refusals), (Status.ACCEPTED, 0, 3, 0, ()))
-        self.assertGreater(answer.points, 0)
-        self.assertEqual((answer.steps, answer.glyphs), (0, b""))
+        self.assertGreater(answer.steps, 0)
+        self.assertEqual((answer.profile, answer.glyphs), (Profile.STRICT, b""))
 
     def test_refused(self) -> None:
         answer = self.library.verdict(REFUSED)
@@ -96,22 +111,45 @@ class Verdicts(Test):
         self.assert_faults(self.library.verdict(changed(ACCEPTED, 104, 108, "0000001F"), profile=Profile.SYMBOLIC), Status.FAULT, 4)
 
     def test_limit(self) -> None:
-        needed = self.library.verdict(ACCEPTED).points
+        needed = self.library.verdict(ACCEPTED).steps
         self.assertTrue(self.library.verdict(ACCEPTED, limit=needed).is_accepted)
         answer = self.library.verdict(ACCEPTED, limit=needed - 1, glyphs=True)
         self.assert_faults(answer, Status.BUDGET, 46)
-        self.assertEqual(answer.points, needed - 1)
+        self.assertEqual(answer.steps, needed - 1)
 
     def test_symbolic(self) -> None:
         strict = self.library.verdict(COMPUTED)
         self.assertEqual([(refusal.reason, refusal.reason_class) for refusal in strict.refusals], [(28, ReasonClass.UNDECIDED)])
         symbolic = self.library.verdict(COMPUTED, profile=Profile.SYMBOLIC)
         self.assertTrue(symbolic.is_accepted)
-        self.assertEqual(symbolic.points, 0)
+        self.assertEqual((strict.profile, symbolic.profile), (Profile.STRICT, Profile.SYMBOLIC))
         self.assertGreater(symbolic.steps, 0)
         self.assertTrue(self.library.verdict(COMPUTED, profile=Profile.SYMBOLIC, limit=symbolic.steps).is_accepted)
         short = self.library.verdict(COMPUTED, profile=Profile.SYMBOLIC, limit=symbolic.steps - 1)
         self.assertEqual([refusal.reason for refusal in short.refusals], [46])
+
+    def test_both(self) -> None:
+        for font, profile in ((ACCEPTED, Profile.STRICT), (COMPUTED, Profile.SYMBOLIC), (COMPOSITES, Profile.SYMBOLIC), (b"", Profile.STRICT)):
+            with self.subTest(profile=profile, length=len(font)):
+                both = self.library.verdict(font, profile=Profile.BOTH, glyphs=True)
+                self.assertEqual(both, self.library.verdict(font, profile=profile, glyphs=True))
+                self.assertEqual(both.profile, profile)
+        short = self.library.verdict(ACCEPTED, profile=Profile.BOTH, limit=0)
+        self.assertEqual((short.status, short.profile), (Status.REFUSED, Profile.SYMBOLIC))
+
+    def test_faces(self) -> None:
+        fonts = (ACCEPTED, COMPUTED, REFUSED)
+        collection = collection_of(*fonts)
+        for profile in Profile:
+            for face, font in enumerate(fonts):
+                with self.subTest(profile=profile, face=face):
+                    answer = self.library.verdict(collection, face=face, profile=profile, glyphs=True)
+                    self.assertEqual(answer, self.library.verdict(font, profile=profile, glyphs=True))
+            self.assert_faults(self.library.verdict(collection, face=3, profile=profile), Status.FAULT, 13)
+            self.assert_faults(self.library.verdict(ACCEPTED, face=1, profile=profile), Status.FAULT, 13)
+        self.assert_faults(self.library.verdict(collection[:8]), Status.FAULT, 11)
+        self.assert_faults(self.library.verdict(changed(collection, 8, 12, "00000000")), Status.FAULT, 12)
+        self.assert_faults(self.library.verdict(changed(collection, 4, 6, "0003")), Status.FAULT, 10)
 
     def test_glyphs(self) -> None:
         for profile in Profile:
@@ -139,6 +177,12 @@ class Certificates(Test):
 
     def test_limit(self) -> None:
         self.assert_faults(self.library.check(ACCEPTED, CERTIFICATE, limit=0), Status.BUDGET, 46)
+
+    def test_face(self) -> None:
+        collection = collection_of(REFUSED, ACCEPTED)
+        self.assertEqual(self.library.check(collection, CERTIFICATE, face=1), self.library.check(ACCEPTED, CERTIFICATE))
+        self.assertFalse(self.library.check(collection, CERTIFICATE).is_accepted)
+        self.assert_faults(self.library.check(collection, CERTIFICATE, face=2), Status.FAULT, 13)
 
 
 class Buffers(Test):
@@ -197,7 +241,7 @@ class Words(Test):
     """Numbers that can't be handed over, threads, and texts."""
 
     def test_numbers_out_of_range(self) -> None:
-        for words in ({"limit": -1}, {"limit": 1 << 64}, {"room": -1}, {"profile": 2}):
+        for words in ({"limit": -1}, {"limit": 1 << 64}, {"room": -1}, {"profile": 3}, {"face": -1}, {"face": 1 << 32}):
             with self.subTest(words), self.assertRaises(ValueError):
                 self.library.verdict(ACCEPTED, **words)
 

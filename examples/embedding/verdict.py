@@ -11,8 +11,8 @@ import sys
 
 import hintcheck
 
-# As examples/embedding/line.c: more than three times what real fonts need.
-POINTS = 20_000_000
+# As examples/embedding/line.c: more than three times what the strict profile needs for real fonts.
+STEPS = 20_000_000
 LISTED = 3
 
 
@@ -30,7 +30,7 @@ def main() -> int:
         sys.exit("usage: verdict.py LIBRARY FONT..")
     library = hintcheck.Library(sys.argv[1])
     for name in sys.argv[2:]:
-        for line in lines(library.verdict(pathlib.Path(name).read_bytes(), limit=POINTS, room=LISTED)):
+        for line in lines(library.verdict(pathlib.Path(name).read_bytes(), limit=STEPS, room=LISTED)):
             print(f"{name}: {line}")
     return 0
 

@@ -6,20 +6,22 @@ ghost use Rattle.hintcheck_c.specs.Representation.Retained.{is_in};
 ghost use Rattle.tt_setting.specs.Budgets.{IsExceeded, Spends};
 ghost use Rattle.tt_font.specs.FileFaults.{font_fault};
 ghost use Rattle.tt_font.specs.Files.{font_glyph_count};
-ghost use Rattle.tt_font.specs.Reading.{FontData, Reads};
-ghost use Rattle.hintcheck_programs.specs.FontPrograms.{IsSafeFont, IsVerdict};
-ghost use Rattle.hintcheck_fonts.specs.SymbolicVerdicts.{IsSymbolicVerdict};
+ghost use Rattle.hintcheck_fonts.specs.FontAnswers.{IsSymbolicVerdictOn, IsVerdictOn};
 ghost use Rattle.hintcheck_report.specs.declared.answer_fault.AnswerFault.{AnswerFault};
 ghost use Rattle.tt_setting.specs.declared.exhausted.Exhausted.{Exhausted as By};
-ghost use Rattle.hintcheck_c.specs.Answers.{Answers, IsFaultOfVerdict, unanswered};
+ghost use Rattle.hintcheck_c.specs.Answers.{Answers, IsFaultOfVerdict, IsNoVerdict, unanswered};
+ghost use Rattle.hintcheck_c.specs.FontFiles.{font_file};
+ghost use Rattle.hintcheck_c.specs.Representation.FontBytes.{IsRead};
 ghost use Rattle.hintcheck_c.specs.Representation.HintedSets.{AreHinted, Tell};
+ghost use Rattle.hintcheck_c.specs.declared.no_verdict.NoVerdict.{NoVerdict};
 
-use crate::answer::{Cost, HintcheckAnswer, answer_verdict, fault_of};
+use crate::answer::{HintcheckAnswer, Work, answer_verdict, fault_of};
 use crate::closed::retain_closed;
+use crate::font_file::FontFile;
+use crate::no_verdict::NoVerdict;
 use crate::refusal::HintcheckRefusal;
 use hintcheck_fonts::{
-    AnswerFault, Budget, FontFault, Name, Refused, SymbolicCheck, Verdict, verdict_symbolic_by,
-    verdict_within,
+    Budget, FontFault, Name, Refused, SymbolicCheck, Verdict, verdict_symbolic_by, verdict_within,
 };
 use std::alloc::Global;
 
@@ -87,40 +89,49 @@ fn with_glyphs(alloc: Global, font: &[u8], verdict: Verdict) -> Result<Hinting, 
     Ok(Hinting { verdict, glyphs })
 }
 
-/// Returns the verdict on the programs of a font, and which of its glyphs may be drawn with hints.
-/// At most as many points are made as the budget allows.
+/// Returns the strict verdict on the programs of a face of these bytes, and which of its glyphs may
+/// be drawn with hints. At most as many steps are made as the budget allows.
 pub(crate) fn judge_hinting(
     alloc: Global,
     font: &[u8],
+    face: u32,
     budget: &mut Budget,
-) -> Result<Hinting, AnswerFault>
-    ensures given { IfOk result (λ h. (d : FontData) × Reads font.now d × IsVerdict d h.verdict
-        × (h.verdict.refused ≡ [] → IsSafeFont d)) }
-    ensures glyphs { IfOk result (λ h. AreHinted font.now h.verdict.refused h.glyphs.items) }
-    ensures whole { IfOk result (λ h. font_fault font.now ≡ None) }
-    ensures fault { IfErr result (IsFaultOfVerdict font.now) }
+) -> Result<Hinting, NoVerdict>
+    ensures given { IfOk result (λ h. IsVerdictOn (font_file face font.now) h.verdict) }
+    ensures glyphs { IfOk result (λ h.
+        AreHinted (font_file face font.now) h.verdict.refused h.glyphs.items) }
+    ensures whole { IfOk result (λ h. IsRead face font.now) }
+    ensures fault { IfErr result (IsNoVerdict IsFaultOfVerdict face font.now) }
     ensures spends { Spends budget.old budget.new }
-    ensures exceeded { IfErr result (λ fault. fault ≡ AnswerFault.Exhausted By.Budget → IsExceeded budget.new) }
+    ensures exceeded { IfErr result (λ why.
+        why ≡ NoVerdict.Font (AnswerFault.Exhausted By.Budget) → IsExceeded budget.new) }
 {
-    let verdict = verdict_within(alloc, font, budget)?;
-    Ok(with_glyphs(alloc, font, verdict)?)
+    let file = FontFile::of(alloc, font, face)?;
+    let bytes = file.bytes();
+    let verdict = verdict_within(alloc, bytes, budget)?;
+    Ok(with_glyphs(alloc, bytes, verdict)?)
 }
 
-/// Returns the verdict by symbolic states on the programs of a font, by this judge, and which of its
-/// glyphs may be drawn with hints.
+/// Returns the symbolic verdict on the programs of a face of these bytes, by this judge, and which of
+/// its glyphs may be drawn with hints.
 pub(crate) fn judge_hinting_symbolic(
     alloc: Global,
     font: &[u8],
+    face: u32,
     judge: &mut SymbolicCheck,
-) -> Result<Hinting, AnswerFault>
-    ensures given { IfOk result (λ h. (d : FontData) × Reads font.now d
-        × IsSymbolicVerdict d h.verdict) }
-    ensures glyphs { IfOk result (λ h. AreHinted font.now h.verdict.refused h.glyphs.items) }
-    ensures fault { IfErr result (IsFaultOfVerdict font.now) }
-    ensures unbounded { IfErr result (λ fault. fault ≢ AnswerFault.Exhausted By.Budget) }
+) -> Result<Hinting, NoVerdict>
+    ensures given { IfOk result (λ h. IsSymbolicVerdictOn (font_file face font.now) h.verdict) }
+    ensures glyphs { IfOk result (λ h.
+        AreHinted (font_file face font.now) h.verdict.refused h.glyphs.items) }
+    ensures whole { IfOk result (λ h. IsRead face font.now) }
+    ensures fault { IfErr result (IsNoVerdict IsFaultOfVerdict face font.now) }
+    ensures unbounded { IfErr result (λ why.
+        why ≢ NoVerdict.Font (AnswerFault.Exhausted By.Budget)) }
 {
-    let verdict = verdict_symbolic_by(alloc, font, judge)?;
-    Ok(with_glyphs(alloc, font, verdict)?)
+    let file = FontFile::of(alloc, font, face)?;
+    let bytes = file.bytes();
+    let verdict = verdict_symbolic_by(alloc, bytes, judge)?;
+    Ok(with_glyphs(alloc, bytes, verdict)?)
 }
 
 /// Writes 1 for each glyph in a set, and 0 elsewhere.
@@ -133,39 +144,37 @@ fn tell(set: &[bool], entries: &mut [u8])
     }
 }
 
-/// Returns a verdict that cost so much as an answer, lists its first refusals, and tells which glyphs
-/// may be drawn with hints.
+/// Returns a verdict that took this work as an answer, lists its first refusals, and tells which
+/// glyphs may be drawn with hints.
 pub(crate) fn answer_hinting(
     hinting: &Hinting,
     refusals: &mut [HintcheckRefusal],
     may_hint: &mut [u8],
-    cost: Cost,
+    work: Work,
 ) -> HintcheckAnswer
     ensures answers { Answers hinting.now.verdict result refusals.old refusals.new }
     ensures status { result.status ≤ 1 }
     ensures tell { Tell hinting.now.glyphs.items may_hint.new }
     ensures len { length may_hint.new ≡ length may_hint.old }
-    ensures points { result.points ≡ cost.points }
-    ensures steps { result.steps ≡ cost.steps }
+    ensures profile { result.profile ≡ work.profile }
+    ensures steps { result.steps ≡ work.steps }
 {
     tell(&hinting.glyphs, may_hint);
-    answer_verdict(&hinting.verdict, refusals, cost)
+    answer_verdict(&hinting.verdict, refusals, work)
 }
 
-/// Returns a fault as an answer that cost so much, and tells that no glyph may be drawn with hints.
-pub(crate) fn answer_no_hinting(
-    fault: &AnswerFault,
-    may_hint: &mut [u8],
-    cost: Cost,
-) -> HintcheckAnswer
-    ensures answer { result ≡ unanswered fault.now cost.points cost.steps }
-    ensures status { fault.now ≢ AnswerFault.Exhausted By.Budget → result.status ≤ 3 }
+/// Returns why there is no verdict as an answer after this work, and tells that no glyph may be drawn
+/// with hints.
+pub(crate) fn answer_no_hinting(why: &NoVerdict, may_hint: &mut [u8], work: Work) -> HintcheckAnswer
+    ensures answer { result ≡ unanswered why.now work.profile work.steps }
+    ensures status { why.now ≢ NoVerdict.Font (AnswerFault.Exhausted By.Budget)
+        → result.status ≤ 3 }
     ensures none { 2 ≤ result.status }
     ensures tell { Tell [] may_hint.new }
     ensures len { length may_hint.new ≡ length may_hint.old }
-    ensures points { result.points ≡ cost.points }
-    ensures steps { result.steps ≡ cost.steps }
+    ensures profile { result.profile ≡ work.profile }
+    ensures steps { result.steps ≡ work.steps }
 {
     tell(&[], may_hint);
-    fault_of(fault, cost)
+    fault_of(why, work)
 }
