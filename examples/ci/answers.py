@@ -80,8 +80,8 @@ class Known(typing.NamedTuple):
     lines: frozenset[bytes]
 
     def has(self, answer: Answer, refusal: Refusal) -> bool:
-        """Whether a line lists the refusal, by its program or by its glyph."""
-        return any(f"{refusal.reason} {name} {answer.font}".encode() in self.lines for name in (refusal.program, refusal.steady_name))
+        """Whether a line lists the refusal."""
+        return f"{refusal.reason} {refusal.program} {answer.font}".encode() in self.lines
 
 
 def refusal_of(told: dict) -> Refusal:

@@ -180,7 +180,7 @@ class Answers(unittest.TestCase):
         answer = read(told("a b.ttf", refused("g350", UNDERFLOW, glyph="uni019C")))[0]
         for line, is_known in {
             "26 g350 a b.ttf": True,
-            "26 uni019C a b.ttf": True,
+            "26 uni019C a b.ttf": False,
             "27 g350 a b.ttf": False,
             "26 g351 a b.ttf": False,
             "26 g350 b.ttf": False,
