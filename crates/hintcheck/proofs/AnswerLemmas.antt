@@ -7,9 +7,10 @@ use Rattle.hintcheck_words.specs.declared.words.ListOptions.{ListOptions}
 use Rattle.hintcheck_words.specs.declared.words.ExplainOptions.{ExplainOptions}
 use Rattle.hintcheck_words.specs.declared.words.Profile.{Profile}
 use Rattle.hintcheck_words.specs.declared.words.TaskFault.{TaskFault}
+use Rattle.hintcheck_words.specs.declared.words.VerdictOptions.{VerdictOptions}
 use Rattle.hintcheck_words.specs.Requests.{IsMemoryIfTaken, Request, bare, check, explain, find, list, scan, upgrade, verdict}
 use Rattle.hintcheck.specs.Representation.Answers.{IsAnswered, IsExplained, IsNoVerdictFor, IsVerdictFor}
-use Rattle.hintcheck.specs.CommandFaults.{HasNoFault, IsFaultOfGlyph, IsFaultOfPrinting, IsFaultOfRequest, IsFaultOfTask, IsReported, SpellNoFault, TellsNoTask, no_memory, not_taken}
+use Rattle.hintcheck.specs.CommandFaults.{HasNoFault, IsFaultOfFontFile, IsFaultOfGlyph, IsFaultOfPrinting, IsFaultOfRequest, IsFaultOfTask, IsReported, SpellNoFault, TellsNoTask, no_memory, not_taken}
 use Rattle.hintcheck.specs.Commands.{IsForVerdict, IsNoWriteFault, TellsFailure, status_of}
 use Rattle.hintcheck.specs.Listing.{HoldListedProgram, HoldToldProgram, HoldUnlistedProgram}
 use Rattle.hintcheck.specs.MeansSafe.{HoldRefusedBy, HoldSafeBy, IsBareVerdict, IsRefusedBareBy, IsSafeBareBy, SpellBare}
@@ -37,10 +38,10 @@ pub printing_fault : {T : Type 0} (q : Request) (r : Result T CommandFault) → 
 printing_fault q (Ok x) none is = tt
 printing_fault q (Err f) none is = inr (none, is)
 
--- a fault for which there is no verdict is passed on
-pub no_verdict : {T : Type 0} (q : Request) (r : Result T CommandFault) (f : CommandFault) → IsErrAnd r (λ told. told ≡ f) → IsNoVerdictFor q f → IfErr r (IsNoVerdictFor q)
-no_verdict q (Ok x) f same is = tt
-no_verdict q (Err told) f same is = rw same is
+-- why there is no verdict on a font file
+pub no_font_verdict : {T : Type 0} (font : List ℕ) (options : VerdictOptions) (r : Result T CommandFault) → IfErr r IsFaultOfFontFile → IfErr r IsNoWriteFault → IfErr r (IsNoVerdictFor (verdict font options))
+no_font_verdict font options (Ok x) is unwritten = tt
+no_font_verdict font options (Err f) is unwritten = (is, unwritten)
 
 -- what is reported where words ask for nothing is a fault of theirs
 pub no_task : (words : List (List ℕ)) (why : TaskFault) (status : ℕ) → IsMemoryIfTaken words why → (reported : CommandFault) × TellsNoTask why reported × (status ≡ status_of reported) → IsReported words status

@@ -2,7 +2,7 @@ use Rattle.std.proofs.Common.{inl, inr, option_map}
 use Rattle.std.specs.Prelude.{string_bytes}
 use Rattle.std.proofs.lemmas.Result.{IfErr-weaker, IfOk-weaker}
 use Rattle.hintcheck_words.specs.Requests.{asked}
-use Rattle.hintcheck.proofs.AnswerLemmas.{bare_for, no_bare_for}
+use Rattle.hintcheck.proofs.AnswerLemmas.{bare_for, no_bare_for, no_font_verdict}
 use Rattle.hintcheck.proofs.ScanLemmas.{refused_by, safe_by}
 use Rattle.hintcheck.proofs.commands.verdict_on.Goals as goal
 
@@ -29,7 +29,9 @@ returns-in-Verdict-clause-given g c =
 
 pub returns-in-Verdict-clause-faults : goal.returns-in-Verdict-clause-faults
 unfolding asked
-returns-in-Verdict-clause-faults g c = ?
+returns-in-Verdict-clause-faults g c =
+    let verdict = c.in-Verdict in
+    rw verdict.is (no_font_verdict (string_bytes verdict.font) verdict.options c.file_verdict.result c.file_verdict.ensures.faults c.file_verdict.ensures.unwritten)
 
 pub returns-in-Find-clause-given : goal.returns-in-Find-clause-given
 unfolding asked

@@ -4,7 +4,7 @@ use Rattle.hintcheck.proofs.commands.check_task.check_verdict.Goals as goal
 pub returns-in-Ok-clause-given : goal.returns-in-Ok-clause-given
 returns-in-Ok-clause-given g c =
     let d = c.in_ok-font.font in
-    let bytes = c.in_ok-held.held.bytes.items in
+    let bytes = c.deref.result.now in
     let reads = c.in_ok-font.ensures.reads in
     let told = c.in-Ok.ensures in
     record {

@@ -5,7 +5,7 @@ use Rattle.hintcheck.proofs.commands.find_task.find_verdict.Goals as goal
 pub returns-clause-given : goal.returns-clause-given
 returns-clause-given g c =
     let d = c.in_ok-font.font in
-    let bytes = c.in_ok-held.held.bytes.items in
+    let bytes = c.deref.result.now in
     let reads = c.in_ok-font.ensures.reads in
     let v = c.in_ok-verdict.verdict in
     let exact = c.in_ok-verdict.ensures.exact in

@@ -1,4 +1,4 @@
-use Rattle.std.proofs.Common.{ℕ, subst}
+use Rattle.std.proofs.Common.{ℕ, List, subst}
 use Rattle.hintcheck_explain.specs.Texts.{WritesFirst}
 use Rattle.hintcheck.specs.JsonObjects.{beginning, profile_name}
 use Rattle.hintcheck.specs.Representation.ScannedFiles.{label_of}
@@ -8,5 +8,9 @@ use Rattle.hintcheck.proofs.commands.json_objects.print_fault_object.Goals as go
 pub returns-clause-written : goal.returns-clause-written
 returns-clause-written g c =
     let contents = g.O.Sink.contents in
-    subst (λ (status : ℕ). WritesFirst (beginning (label_of c.args.label) (profile_name c.args.profile) status) (contents c.args.out.now) (contents c.writeln.new.self)) c.status.ensures.status
-    (first_then _ (contents c.args.out.now) (contents c.print_beginning.new.out) (contents c.writeln.new.self) c.in_ok-print_beginning.ensures.written c.writeln.ensures.kept)
+    let old = contents c.args.out.now in
+    let new = contents c.writeln.new.self in
+    let label = label_of c.args.label in
+    subst (λ (status : ℕ). WritesFirst (beginning label (profile_name c.args.profile) status) old new) c.status.ensures.status
+    (subst (λ (profile : List ℕ). WritesFirst (beginning label profile c.status.result) old new) c.name_of_profile.ensures
+    (first_then _ old (contents c.print_beginning.new.out) new c.in_ok-print_beginning.ensures.written c.writeln.ensures.kept))

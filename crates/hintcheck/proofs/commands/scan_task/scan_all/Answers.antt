@@ -8,8 +8,8 @@ loop-font-init g c = record { printed = no_file c.args.plan (g.O.Sink.contents c
 
 pub loop-font-preserved : goal.loop-font-preserved
 loop-font-preserved g c = record {
-  printed = next_file c.args.plan (λ s. string_bytes s) c.args.fonts.now c.loop-font.font-index c.font-item.result c.deref.result.now c.loop-font.greatest c.in_ok-status.status c.max-greatest.result _ _ _ c.loop-font-test.true
-      c.font-item.is c.deref.ensures c.loop-font.invariant.printed c.in_ok-status.ensures.printed c.max-greatest.ensures;
+  printed = next_file c.args.plan (λ s. string_bytes s) c.args.fonts.now c.loop-font.font-index c.font-item.result c.deref-in-loop-font.result.now c.loop-font.greatest c.in_ok-status.status c.max-greatest.result _ _ _ c.loop-font-test.true
+      c.font-item.is c.deref-in-loop-font.ensures c.loop-font.invariant.printed c.in_ok-status.ensures.printed c.max-greatest.ensures;
   failures = c.in_ok-status.ensures.failures ∙ c.loop-font.invariant.failures;
 }
 
