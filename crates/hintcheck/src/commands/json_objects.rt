@@ -54,7 +54,7 @@ struct RefusedObject<'a> {
     reason: u8,
     name: Shown<Reason>,
     class: &'a str,
-    /// Whether a run that comes to the place is sure to fail there; only in explanations, as the members
+    /// That a run which comes to the place is sure to fail there; only in explanations, as the members
     /// after it.
     #[serde(skip_serializing_if = "Option::is_none")]
     certain: Option<bool>,
@@ -220,8 +220,11 @@ fn operand_as(operand: Operand) -> OperandObject {
     }
 }
 
-/// Returns open calls as objects tell them.
-fn calls_as(alloc: Global, calls: &[OpenedCall]) -> Result<Vec<CallObject>, AllocError> {
+/// Returns open calls as objects tell them, if there are some.
+fn calls_as(alloc: Global, calls: &[OpenedCall]) -> Result<Option<Vec<CallObject>>, AllocError> {
+    if calls.is_empty() {
+        return Ok(None);
+    }
     let mut objects = Vec::new(alloc);
     for call in calls {
         objects.push(CallObject {
@@ -232,7 +235,7 @@ fn calls_as(alloc: Global, calls: &[OpenedCall]) -> Result<Vec<CallObject>, Allo
             start: call.body.offset,
         })?;
     }
-    Ok(objects)
+    Ok(Some(objects))
 }
 
 /// Returns the object of a refused program of the font in these bytes, with these details.
@@ -244,9 +247,9 @@ pub(super) fn refused_object(
 ) -> Result<String, AllocError> {
     let names = GlyphNames::of(alloc, font)?;
     let object = RefusedObject {
-        certain: Some(details.is_certain),
+        certain: details.is_certain.then_some(true),
         operand: details.operand.map(operand_as),
-        calls: Some(calls_as(alloc, &details.calls)?),
+        calls: calls_as(alloc, &details.calls)?,
         ..refused_as(&names, refused)
     };
     json_text(alloc, &object)
