@@ -5,7 +5,7 @@ use Rattle.tt_abs.specs.StateFlow.{FunctionsFit}
 use Rattle.tt_setting.specs.declared.setting.Setting.{Setting as Subject}
 use Rattle.hintcheck_report.specs.Bounds.{cvt_count_with, limits_with}
 use Rattle.hintcheck_report.specs.declared.bound.Bound.{Bound}
-use Rattle.hintcheck_report.specs.declared.bound.Bound.TheVariants.{StackElements, Storage, FunctionDefs, ControlValues}
+use Rattle.hintcheck_report.specs.declared.bound.Bound.TheVariants.{StackElements, Storage, FunctionDefs, ControlValues, TwilightPoints, Zones, SizeOfInstructions}
 
 -- the subject where the limit has this number
 abbrev pub raised : Subject → Bound → ℕ → Subject
@@ -22,6 +22,9 @@ pub still_fits : (x : Subject) (limit : Bound) (number : ℕ) → IsRaise x limi
 still_fits x StackElements number raise fits = fits
 still_fits x Storage number raise fits = fits
 still_fits x ControlValues number raise fits = fits
+still_fits x TwilightPoints number raise fits = fits
+still_fits x Zones number raise fits = fits
+still_fits x SizeOfInstructions number raise fits = fits
 still_fits x FunctionDefs number raise fits = λ n body is.
     let fit = fits n body is in
     (let below = fit.0 in let least = raise refl in omega arith, fit.1)

@@ -11,7 +11,7 @@ use hintcheck_report::{AnswerFault, Bound, Place};
 use std::alloc::Global;
 use tt_code::Reason;
 use tt_find::explore;
-use tt_setting::{Budget, Exhausted, Failed, Name, Refusal, Setting};
+use tt_setting::{Budget, Exhausted, Failed, Name, Refusal, Setting, ZoneCell};
 use tt_stream::Sink;
 
 /// How many searches find the least number of 16 bits.
@@ -19,14 +19,24 @@ const SEARCHES: usize = 16;
 
 /// Returns the limit that a program passes of which this test fails, if it can be raised.
 fn limit_of(failed: Failed) -> Option<Bound> {
-    if let Failed::NoFunction { .. } = failed {
-        return Some(Bound::FunctionDefs);
-    }
-    match failed.reason() {
-        Reason::Overflow => Some(Bound::StackElements),
-        Reason::Storage => Some(Bound::Storage),
-        Reason::Cvt => Some(Bound::ControlValues),
-        _ => None,
+    match failed {
+        Failed::NoFunction { .. } => Some(Bound::FunctionDefs),
+        // The twilight zone is there where maxZones is at least 2.
+        Failed::NoZone { number: 0 } => Some(Bound::Zones),
+        Failed::NoPoint {
+            zone: ZoneCell::Zero,
+            ..
+        }
+        | Failed::NoReferencePoint {
+            zone: ZoneCell::Zero,
+            ..
+        } => Some(Bound::TwilightPoints),
+        _ => match failed.reason() {
+            Reason::Overflow => Some(Bound::StackElements),
+            Reason::Storage => Some(Bound::Storage),
+            Reason::Cvt => Some(Bound::ControlValues),
+            _ => None,
+        },
     }
 }
 

@@ -1,1 +1,1 @@
-pub mod Halving
+pub mod Listing

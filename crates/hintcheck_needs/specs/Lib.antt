@@ -1,1 +1,2 @@
 pub mod Needs
+pub mod Representation

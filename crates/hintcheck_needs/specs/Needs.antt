@@ -1,16 +1,22 @@
--- Which numbers a font needs, as far as a verdict tells. (own)
-use Rattle.std.specs.Prelude.{◌≡◌, ◌≢◌, ℕ, suc, List, map, Bool, true, false}
-use Rattle.tt_setting.specs.declared.name.Name.{Name}
+-- Which numbers a font needs, as far as verdicts tell. (own)
+use Rattle.std.specs.Prelude.{◌≡◌, ◌≢◌, ◌≤◌, ℕ, suc, List, [], ◌∷◌, map, Bool, ◌==◌}
+use Rattle.std.specs.List.{All, filter, list_any}
+use Rattle.tt_code.specs.declared.limits.Limits.{Limits}
+use Rattle.tt_code.specs.declared.reason.Reason.{Reason}
+use Rattle.tt_code.specs.declared.reason.Reason.TheVariants as reason
+use Rattle.tt_code.specs.Refusals.{number_of}
 use Rattle.tt_font.specs.Reading.{FontData}
 use Rattle.hintcheck_report.specs.Bounds.{cvt_count_with, declared_number, limits_with}
 use Rattle.hintcheck_report.specs.declared.bound.Bound.{Bound}
-use Rattle.hintcheck_report.specs.declared.bound.Bound.TheVariants.{StackElements, Storage, FunctionDefs, ControlValues}
+use Rattle.hintcheck_report.specs.declared.bound.Bound.TheVariants.{StackElements, Storage, FunctionDefs, ControlValues, TwilightPoints, Zones, SizeOfInstructions}
 use Rattle.hintcheck_report.specs.declared.refused.Refused.{Refused}
+use Rattle.hintcheck_programs.specs.FontPrograms.{judgement_on}
 use Rattle.hintcheck_fonts.specs.Requests.{GivesVerdict}
-use Rattle.hintcheck_programs.specs.Verdicts.{Judgement}
-use Rattle.hintcheck_needs.specs.declared.font_needs.Need.{Need}
-use Rattle.hintcheck_needs.specs.declared.font_needs.Needs.{Needs}
 use Rattle.hintcheck_fonts.specs.declared.request.Request.{Request}
+use Rattle.hintcheck_fonts.specs.declared.request.Request.TheVariants.{Strict}
+use Rattle.hintcheck_needs.specs.declared.asked.Asked.{Asked}
+use Rattle.hintcheck_needs.specs.declared.asked.Asked.TheVariants as asked
+use Rattle.hintcheck_needs.specs.declared.font_needs.Need.{Need}
 
 -- the font with another number in its place
 abbrev pub with_number : FontData → Bound → ℕ → FontData
@@ -19,51 +25,86 @@ with_number d bound n = record d {
   cvt_count = cvt_count_with d.cvt_count bound n;
 }
 
--- the names of the programs that are refused, in their order
-abbrev pub refused_names : List Refused → List Name
-refused_names refused = map (λ r. r.program) refused
-
--- a verdict as is asked on the font refuses these programs
-abbrev pub Refuses : Request → FontData → List Name → Type 0
-Refuses request d names =
-    (v : Judgement) × GivesVerdict request d v × (refused_names v.refused ≡ names)
-
--- a verdict as is asked on the font refuses others than these
-abbrev pub RefusesOthers : Request → FontData → List Name → Type 0
-RefusesOthers request d names =
-    (others : List Name) × Refuses request d others × (others ≢ names)
-
--- whether a verdict as is asked on the font refuses these programs, or others
-abbrev pub TellsSame : Request → FontData → List Name → Bool → Type 0
-TellsSame request d names true = Refuses request d names
-TellsSame request d names false = RefusesOthers request d names
-
 -- the greatest number that is tried
 abbrev pub greatest_number : ℕ
 greatest_number = 65535
 
--- A number is enough for a font where a verdict with it in place of the font's own refuses the same
--- programs as one with the greatest number. It is the least such where a verdict with the number
--- before it, if there is one, refuses others.
-pub record IsLeastEnough (request : Request) (d : FontData) (bound : Bound) (n : ℕ) : Type 0 where
-  pub names : List Name
-  pub refused : Refuses request (with_number d bound greatest_number) names
-  pub enough : Refuses request (with_number d bound n) names
-  pub least : (fewer : ℕ) → n ≡ suc fewer
-      → RefusesOthers request (with_number d bound fewer) names
+-- the limits of which each is the greatest
+abbrev pub greatest_limits : Limits
+greatest_limits = record {
+  storage = greatest_number;
+  functions = greatest_number;
+  stack = greatest_number;
+  program_size = greatest_number;
+  zones = greatest_number;
+  twilight = greatest_number;
+}
 
--- what a font needs of one number, and what it has
-pub record IsNeed (request : Request) (d : FontData) (bound : Bound) (need : Need) : Type 0 where
-  pub least : IsLeastEnough request d bound need.least
-  pub declared : need.declared ≡ declared_number d.limits d.cvt_count bound
+-- the font with the greatest number in the place of each
+abbrev pub with_greatest : FontData → FontData
+with_greatest d = record d { limits = greatest_limits; cvt_count = greatest_number }
 
--- what is told of one number
-abbrev pub need_of : Needs → Bound → Need
-need_of needs StackElements = needs.stack_elements
-need_of needs Storage = needs.storage
-need_of needs FunctionDefs = needs.function_defs
-need_of needs ControlValues = needs.control_values
+-- a verdict as is asked on the font refuses these programs, each at its place for its reason
+abbrev pub Refuses : Request → FontData → List Refused → Type 0
+Refuses request d refused = GivesVerdict request d (judgement_on d refused)
 
--- what a font needs of each number
-abbrev pub AreNeeds : Request → FontData → Needs → Type 0
-AreNeeds request d needs = (bound : Bound) → IsNeed request d bound (need_of needs bound)
+-- a verdict as is asked on the font refuses others, or at other places, or for other reasons
+abbrev pub RefusesOthers : Request → FontData → List Refused → Type 0
+RefusesOthers request d refused =
+    (others : List Refused) × Refuses request d others × (others ≢ refused)
+
+-- The least number that is enough is one of those from `least` to `enough`, as far as verdicts
+-- tell: with `enough` in the place of the font's own a verdict refuses these programs, and with the
+-- number before `least`, if there is one, it refuses others.
+pub record IsEnoughFrom (request : Request) (d : FontData) (bound : Bound) (refused : List Refused)
+    (least enough : ℕ) : Type 0 where
+  pub in_order : least ≤ enough
+  pub same : Refuses request (with_number d bound enough) refused
+  pub others : (fewer : ℕ) → least ≡ suc fewer
+      → RefusesOthers request (with_number d bound fewer) refused
+
+-- What a font needs of one number, where all others are the greatest, and what it has: with a
+-- number that is enough a verdict refuses the same programs, at the same places for the same
+-- reasons, as with the greatest one. By the strict profile the least such number is told; by the
+-- symbolic one the search for it may end before.
+pub record IsNeed (request : Request) (d : FontData) (need : Need) : Type 0 where
+  pub refused : List Refused
+  pub greatest : Refuses request (with_greatest d) refused
+  pub found : IsEnoughFrom request (with_greatest d) need.bound refused need.least need.enough
+  pub exact : request ≡ Strict → need.least ≡ need.enough
+  pub declared : need.declared ≡ declared_number d.limits d.cvt_count need.bound
+
+-- the numbers, in the order in which they are told
+abbrev pub all_bounds : List Bound
+all_bounds =
+    StackElements ∷ Storage ∷ FunctionDefs ∷ ControlValues ∷ TwilightPoints ∷ Zones
+    ∷ SizeOfInstructions ∷ []
+
+-- the reason for which a program is refused that passes the number
+abbrev pub reason_for : Bound → Reason
+reason_for StackElements = reason.Overflow
+reason_for Storage = reason.Storage
+reason_for FunctionDefs = reason.Function
+reason_for ControlValues = reason.Cvt
+reason_for TwilightPoints = reason.Point
+reason_for Zones = reason.Zone
+reason_for SizeOfInstructions = reason.ProgramTooLong
+
+-- whether one of the programs is refused for the reason that names the number
+abbrev pub is_passed : List Refused → Bound → Bool
+is_passed refused bound =
+    list_any (λ r. number_of r.reason == number_of (reason_for bound)) refused
+
+-- These are the numbers that are asked for: all, or those that are passed by a program which a
+-- verdict on the font, with its own numbers, refuses.
+abbrev pub AreAsked : Request → FontData → Asked → List Bound → Type 0
+AreAsked request d asked.All bounds = bounds ≡ all_bounds
+AreAsked request d asked.Refused bounds =
+    (refused : List Refused) × Refuses request d refused
+    × (bounds ≡ filter (λ bound. is_passed refused bound) all_bounds)
+
+-- what a font needs of each number that is asked for
+pub record AreNeeds (request : Request) (d : FontData) (asked : Asked) (needs : List Need)
+    : Type 0 where
+  pub asked_for : AreAsked request d asked (map (λ need. need.bound) needs)
+  pub each : All (λ need. IsNeed request d need) needs

@@ -1,117 +1,123 @@
-//! What a font file needs of each number, and what it declares.
+//! What a font needs of the numbers that are asked for, and what it declares.
 
-ghost use Rattle.std.specs.Prelude.{◌≡◌, IfOk};
+ghost use Rattle.std.specs.Prelude.{◌≡◌, IfOk, OnOk, ◌++◌, ◌∷◌, [], map};
+ghost use Rattle.std.specs.List.{All};
 ghost use Rattle.tt_setting.specs.Budgets.{EndTellsBudget, Spends};
 ghost use Rattle.tt_font.specs.FileFaults.{font_fault};
 ghost use Rattle.tt_font.specs.Reading.{FontData, Reads};
 ghost use Rattle.hintcheck_programs.specs.BudgetAnswers.{VerdictTellsBudget, VerdictTellsFontFault};
-ghost use Rattle.hintcheck_needs.specs.Needs.{AreNeeds, IsNeed, need_of};
+ghost use Rattle.hintcheck_needs.specs.Needs.{AreNeeds, IsNeed};
 
-use crate::least::least_enough;
+use crate::asked::{Asked, asked_bounds};
+use crate::numbers::raise_numbers;
+use crate::search::range_of;
+use crate::trial::{Aim, judge};
 use hintcheck_fonts::{Request, read_font};
 use hintcheck_report::{AnswerFault, Bound};
-use std::alloc::Global;
+use std::alloc::{AllocError, Global};
 use tt_abs::Exhausted;
 use tt_family::Budget;
 use tt_font::Font;
 
+/// How many times the steps of the first verdict, with the greatest numbers, all verdicts may take.
+const TIMES: u64 = 10;
+
+/// How many steps they may take however few the first one takes.
+const FEW_STEPS: u64 = 1_000_000;
+
 /// What a font needs of one number, and what it declares.
 #[derive(Clone, Copy, Debug, PartialEq, Eq)]
 pub struct Need {
-    /// The least number that is enough, as `least_enough` says.
+    /// Which number it is.
+    pub bound: Bound,
+    /// The number before this one, if there is one, isn't enough.
     pub least: u16,
+    /// A number that is enough: the least one, where both are the same.
+    pub enough: u16,
     /// The number that the font has.
     pub declared: u32,
 }
 
-/// What a font needs of each number.
-#[derive(Clone, Copy, Debug, PartialEq, Eq)]
-pub struct Needs {
-    /// Of maxStackElements.
-    pub stack_elements: Need,
-    /// Of maxStorage.
-    pub storage: Need,
-    /// Of maxFunctionDefs.
-    pub function_defs: Need,
-    /// Of the number of control values.
-    pub control_values: Need,
+/// Returns how many steps are left for further verdicts after the first one.
+fn steps_left(first: u64) -> u64 {
+    let all = first.saturating_mul(TIMES).max(FEW_STEPS);
+    all.saturating_sub(first)
 }
 
-impl Needs {
-    /// Returns what the font needs of this number.
-    pub fn of(&self, bound: Bound) -> Need
-        ensures { result ≡ need_of self.now bound }
-    {
-        match bound {
-            Bound::StackElements => self.stack_elements,
-            Bound::Storage => self.storage,
-            Bound::FunctionDefs => self.function_defs,
-            Bound::ControlValues => self.control_values,
-        }
+/// Adds what a font needs of one number.
+fn list_need(needs: &mut Vec<Need>, need: Need) -> Result<(), AllocError>
+    ensures { OnOk result (needs.new.items ≡ needs.old.items ++ (need ∷ [])) }
+{
+    needs.push(need)?;
+    Ok(())
+}
+
+/// Returns what a font needs of these numbers, in their order. The numbers that weren't searched
+/// for share the steps that are left alike.
+///
+/// # Errors
+/// Those of `judge`.
+fn needs_of(
+    alloc: Global,
+    font: &mut Font<'_>,
+    request: Request,
+    bounds: &[Bound],
+    points: &mut Budget,
+) -> Result<Vec<Need>, Exhausted>
+    ensures bounds { IfOk result (λ needs. map (λ need. need.bound) needs.items ≡ bounds.now) }
+    ensures each { IfOk result (λ needs. All (λ need. IsNeed request font.old need) needs.items) }
+    ensures spends { Spends points.old points.new }
+    ensures budget { EndTellsBudget points.old points.new result }
+{
+    let limits = font.limits();
+    let cvt_count = font.cvt_count();
+    raise_numbers(font);
+    let first = judge(alloc, font, request, u64::MAX, points)?;
+    let aim = Aim {
+        request,
+        refused: first.refused.as_slice(),
+    };
+    let mut left = steps_left(first.steps);
+    let mut needs = Vec::new(alloc);
+    for (told, &bound) in bounds.iter().enumerate() {
+        let declared = bound.declared(limits, cvt_count);
+        let near = declared.min(65_535) as u16;
+        let share = left / (bounds.len() - told) as u64;
+        let mut rest = share;
+        let range = range_of(alloc, font, aim, bound, near, &mut rest, points)?;
+        left = left.saturating_sub(share.saturating_sub(rest));
+        let need = Need {
+            bound,
+            least: range.least,
+            enough: range.enough,
+            declared,
+        };
+        list_need(&mut needs, need)?;
     }
+    Ok(needs)
 }
 
-/// Returns what a font needs of one number.
+/// Reads a font file and returns what it needs of each number that is asked for, in the order of
+/// `Bound`. A number is enough where a verdict with it refuses the same programs, at the same
+/// places for the same reasons, as one with 65,535, while all other numbers are 65,535.
 ///
-/// # Errors
-/// Those of `least_enough`.
-fn one_need(
-    alloc: Global,
-    font: &mut Font<'_>,
-    request: Request,
-    bound: Bound,
-    points: &mut Budget,
-) -> Result<Need, Exhausted>
-    ensures need { IfOk result (IsNeed request font.old bound) }
-    ensures kept { font.new ≡ font.old }
-    ensures spends { Spends points.old points.new }
-    ensures budget { EndTellsBudget points.old points.new result }
-{
-    let least = least_enough(alloc, font, request, bound, points)?;
-    let declared = bound.declared(font.limits(), font.cvt_count());
-    Ok(Need { least, declared })
-}
-
-/// Returns what a font needs of each number.
-///
-/// # Errors
-/// Those of `least_enough`.
-fn all_needs(
-    alloc: Global,
-    font: &mut Font<'_>,
-    request: Request,
-    points: &mut Budget,
-) -> Result<Needs, Exhausted>
-    ensures needs { IfOk result (AreNeeds request font.old) }
-    ensures spends { Spends points.old points.new }
-    ensures budget { EndTellsBudget points.old points.new result }
-{
-    let stack_elements = one_need(alloc, font, request, Bound::StackElements, points)?;
-    let storage = one_need(alloc, font, request, Bound::Storage, points)?;
-    let function_defs = one_need(alloc, font, request, Bound::FunctionDefs, points)?;
-    let control_values = one_need(alloc, font, request, Bound::ControlValues, points)?;
-    Ok(Needs {
-        stack_elements,
-        storage,
-        function_defs,
-        control_values,
-    })
-}
-
-/// Reads a font file and returns what it needs of each number, as `least_enough` tells of each
-/// while the others are those that the font declares.
+/// By the symbolic profile the verdicts with other numbers take at most ten times as many steps
+/// together as the first one, with the greatest numbers, or 1,000,000 where that is more. Where
+/// these are used up, `least` and `enough` are a range that is left. By the strict profile they are
+/// the same.
 ///
 /// # Errors
 /// `Font` with the faults of `Font::read`; `Exhausted` where memory ran out, and where more points
-/// were to be made than the budget allows, in this call or in an earlier one.
+/// were to be made than the budget allows, for all verdicts together or in an earlier call.
 pub fn needs_in(
     alloc: Global,
     bytes: &[u8],
     request: Request,
+    asked: Asked,
     points: &mut Budget,
-) -> Result<Needs, AnswerFault>
+) -> Result<Vec<Need>, AnswerFault>
     ensures needs { IfOk result (λ needs.
-        (d : FontData) × Reads bytes.now d × AreNeeds request d needs) }
+        (d : FontData) × Reads bytes.now d × AreNeeds request d asked needs.items) }
     ensures faults { VerdictTellsFontFault (font_fault bytes.now) result }
     ensures spends { Spends points.old points.new }
     ensures budget { VerdictTellsBudget points.new result }
@@ -120,5 +126,9 @@ pub fn needs_in(
         return Err(AnswerFault::Exhausted(Exhausted::Budget));
     }
     let mut font = read_font(alloc, bytes)?;
-    Ok(all_needs(alloc, &mut font, request, points)?)
+    let bounds = asked_bounds(alloc, &font, request, asked, points)?;
+    if bounds.is_empty() {
+        return Ok(Vec::new(alloc));
+    }
+    Ok(needs_of(alloc, &mut font, request, &bounds, points)?)
 }

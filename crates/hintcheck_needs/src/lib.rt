@@ -1,13 +1,14 @@
-//! Which numbers a font's hint programs need, as far as a verdict tells: the maxStackElements, the
-//! maxStorage, the maxFunctionDefs and the number of control values with which it refuses the same
-//! programs as with the greatest one, and with one less others.
+//! What a font's hint programs need of the numbers that bound them, as far as verdicts tell: the
+//! least number with which a verdict refuses the same programs, at the same places for the same
+//! reasons, as with 65,535, while all other numbers are 65,535.
 #![tactic(auto)]
 
-pub mod font_needs;
-pub mod least;
-pub mod numbers;
+mod asked;
+mod font_needs;
+mod numbers;
+mod search;
+mod trial;
 
-pub use font_needs::{Need, Needs, needs_in};
+pub use asked::Asked;
+pub use font_needs::{Need, needs_in};
 pub use hintcheck_report::Bound;
-pub use least::least_enough;
-pub use numbers::replace_number;

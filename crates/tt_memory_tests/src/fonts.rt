@@ -2,11 +2,8 @@
 
 use crate::PROGRAMS;
 use hintcheck_certificates::{check_font, find_font, upgrade};
-use hintcheck_fonts::{
-    AnswerFault, Request, bare, bare_symbolic, read_font, verdict, verdict_symbolic,
-};
-use hintcheck_needs::{Bound, least_enough};
-use std::alloc::Global;
+use hintcheck_fonts::{Request, bare, bare_symbolic, verdict, verdict_symbolic};
+use hintcheck_needs::{Asked, needs_in};
 use std::io;
 use std::test::Fail;
 use tt_family::Budget;
@@ -60,20 +57,6 @@ struct OnFont<'a> {
     glyph: &'a [u8],
 }
 
-/// Returns how many storage cells a font needs.
-fn storage_needed(alloc: Global, font: &[u8]) -> Result<u16, AnswerFault> {
-    let mut font = read_font(alloc, font)?;
-    let mut points = Budget::unlimited();
-    let least = least_enough(
-        alloc,
-        &mut font,
-        Request::Strict,
-        Bound::Storage,
-        &mut points,
-    )?;
-    Ok(least)
-}
-
 impl Trial for OnFont<'_> {
     fn told(&self, heap: &mut Heap) -> Told {
         let alloc = heap.alloc;
@@ -84,7 +67,11 @@ impl Trial for OnFont<'_> {
             Call::Read => told_of(Font::read(alloc, self.font)),
             Call::Verdict => told_of(verdict(alloc, self.font)),
             Call::VerdictSymbolic => told_of(verdict_symbolic(alloc, self.font)),
-            Call::Needs => told_of(storage_needed(alloc, self.font)),
+            Call::Needs => {
+                let mut points = Budget::unlimited();
+                let asked = Asked::All;
+                told_of(needs_in(alloc, self.font, Request::Strict, asked, &mut points))
+            }
             Call::CheckFont => told_of(check_font(alloc, self.font, &mut source)),
             Call::FindFont => told_of(find_font(alloc, self.font, &mut sink)),
             Call::Upgrade => told_of(upgrade(alloc, &mut source, &mut sink)),
