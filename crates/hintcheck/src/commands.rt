@@ -42,10 +42,12 @@ use explain_program::{ExplainRequest, explain_of_file};
 use explain_reason::{reason_called, tell_reason};
 use faults::{CommandFault, FileWord};
 use find_task::find_verdict;
+use font_label::FontLabel;
 use hintcheck_fonts::Judged;
 use hintcheck_words::{ExplainOptions, Task, TaskFault, read_words};
 use list_task::list_of_file;
 use scan_task::scan_words;
+use shown_names::Shown;
 use std::alloc::AllocError;
 use std::rt::Files;
 use tt_stream::Sink;
@@ -311,7 +313,10 @@ fn tell_note<E: Sink>(err: &mut E, task: &Task, fault: &CommandFault)
     };
     let name = fault.file_word().and_then(|word| file_named(task, word));
     let _ = match name {
-        Some(name) => writeln!(err, "note: {name}: {note}"),
+        Some(name) => {
+            let file = Shown(FontLabel::of_file(name));
+            writeln!(err, "note: {file}: {note}")
+        }
         None => writeln!(err, "note: {note}"),
     };
 }

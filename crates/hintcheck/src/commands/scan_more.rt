@@ -8,6 +8,7 @@ use super::faults::CommandFault;
 use super::font_label::FontLabel;
 use super::need_lines::needs_text;
 use super::scan_task::ScannedFont;
+use super::shown_names::Shown;
 use crate::causes::causes_of;
 use crate::glyph_names::called;
 use hintcheck_programs::report::Refused;
@@ -25,6 +26,7 @@ fn new_line(
     let number = refused.reason.number();
     let program = refused.program;
     let place = refused.place;
+    let label = Shown(label);
     match called(names, program) {
         Some(name) => {
             format!(in alloc; "  new: {number} {program} ({name}) at {place} {label}\n")

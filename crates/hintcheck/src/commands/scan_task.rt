@@ -412,6 +412,30 @@ fn scan_file<R: Files + AllocGlobal, O: Sink>(
     }
 }
 
+/// Scans the font file `font`, which is told by this other name.
+///
+/// # Errors
+/// `FontWord` where the other name has a line feed, and lines of known refusals are read or written: no
+/// line can hold it; those of `scan_file`.
+fn scan_renamed<R: Files + AllocGlobal, O: Sink>(
+    rt: &R,
+    font: &str,
+    name: &str,
+    plan: Plan<'_>,
+    tally: &mut Tally,
+    out: &mut O,
+) -> Result<u8, CommandFault>
+    ensures printed { IfOk result (λ status. ScansFile plan.entry name.now status
+        (O.contents out.old) (O.contents out.new)) }
+    ensures failures { TellsFailure result (O.failures out.old) (O.failures out.new) }
+{
+    let has_lines = tally.keeps_lines() || plan.known.count().is_some();
+    if has_lines && name.contains('\n') {
+        return Err(CommandFault::FontWord);
+    }
+    scan_file(rt, font, name, plan, tally, out)
+}
+
 /// Scans each of the font files with these names, and returns the greatest exit status.
 fn scan_all<R: Files + AllocGlobal, O: Sink>(
     rt: &R,
@@ -435,7 +459,7 @@ fn scan_all<R: Files + AllocGlobal, O: Sink>(
 /// Scans the font files with these names; where another name is given, the only one by that.
 ///
 /// # Errors
-/// `NameWord` where another name is given, and there isn't one font file.
+/// `NameWord` where another name is given, and there isn't one font file; those of `scan_renamed`.
 fn scan_shown<R: Files + AllocGlobal, O: Sink>(
     rt: &R,
     fonts: &[String],
@@ -451,7 +475,7 @@ fn scan_shown<R: Files + AllocGlobal, O: Sink>(
 {
     match (name, fonts) {
         (None, _) => scan_all(rt, fonts, plan, tally, out),
-        (Some(name), [font]) => scan_file(rt, font, name, plan, tally, out),
+        (Some(name), [font]) => scan_renamed(rt, font, name, plan, tally, out),
         (Some(_), _) => Err(CommandFault::NameWord),
     }
 }
@@ -476,7 +500,7 @@ fn text_in(text: &Option<String>) -> Option<&str>
 ///
 /// # Errors
 /// `ClassWord` where the word for which programs the scan is to fail names none, and nothing is
-/// printed then, nor for the faults of `Known::of` and of `check_names`, nor for `NameWord`; `Write`
+/// printed then, nor for the faults of `Known::of`, of `check_names` and of `scan_shown`; `Write`
 /// exactly where a write to `out` failed; `OutOfMemory` where memory ran out at what is told of a font;
 /// after the last line, `File` where the other file can't be written.
 fn scan_fonts<R: Files + AllocGlobal, O: Sink, E: Sink>(

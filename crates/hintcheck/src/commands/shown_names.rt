@@ -5,7 +5,9 @@ ghost use Rattle.std.specs.Io.KnownBytes.{Appends};
 ghost use Rattle.tt_stream.specs.Streams.{CountsPrintFailure};
 ghost use Rattle.hintcheck.specs.Scans.{shown_byte};
 
+use super::font_label::FontLabel;
 use crate::instruction_list::Digits;
+use std::fmt;
 use tt_stream::{PrintFailed, Sink, write_all};
 
 /// Prints a byte of a name: a control byte by its digits.
@@ -43,4 +45,23 @@ pub(super) fn print_shown<O: Sink>(out: &mut O, name: &str) -> Result<(), PrintF
     ensures failures { CountsPrintFailure result (O.failures out.old) (O.failures out.new) }
 {
     print_bytes(out, name.as_bytes())
+}
+
+/// What a font file is called in a line that no definition tells: its control bytes are told as `\x0a`.
+#[derive(Clone, Copy)]
+pub(super) struct Shown<'a>(pub FontLabel<'a>);
+
+impl fmt::Display for Shown<'_> {
+    fn fmt<W: fmt::Write>(&self, f: &mut fmt::Formatter<W>) -> fmt::Result {
+        for letter in self.0.file.chars() {
+            match u8::try_from(letter) {
+                Ok(byte) if byte.is_ascii_control() => write!(f, "\\x{}", Digits(&[byte]))?,
+                _ => write!(f, "{letter}")?,
+            }
+        }
+        match self.0.face {
+            Some(number) => write!(f, "#{number}"),
+            None => Ok(()),
+        }
+    }
 }
