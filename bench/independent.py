@@ -33,7 +33,7 @@ CHANGES = 20
 def asked(words: list[str]) -> vectors.Answer:
     """What a program answers, without what only hintcheck says."""
     ran = subprocess.run(words, capture_output=True, text=True, check=False)
-    faults = [line.removesuffix(vectors.NO_CERTIFICATE) for line in ran.stderr.splitlines()]
+    faults = [line for line in ran.stderr.splitlines() if not line.startswith("note: ")]
     return vectors.Answer(ran.returncode, ran.stdout.splitlines(), faults)
 
 

@@ -56,11 +56,14 @@ def change(chance: random.Random, data: bytes) -> tuple[int, bytes, int]:
 
 def case(font: str, certificate: str, data: bytes | None, answer: vectors.Answer) -> list[str]:
     """The lines of a case of `check`, with the bytes that the certificate has."""
-    added = vectors.NO_CERTIFICATE if data else ""
-    faults = "".join(f" ! {fault}{added if fault.endswith(' at byte 0') else ''}"
-                     for fault in answer.faults)
-    return [f"run check {font} {certificate} -> {answer.status}{faults}",
-            *(f"| {line}" for line in answer.lines)]
+    notes = []
+    if data and any(fault.endswith(" at byte 0") for fault in answer.faults):
+        notes = ["not a certificate"]
+    if "fault: 44 read" in answer.faults:
+        notes = ["none: no such file"]
+    return [f"run check {font} {certificate} -> {answer.status}",
+            *(f"| {line}" for line in answer.lines), *(f"! {fault}" for fault in answer.faults),
+            *(f"! note: {note}" for note in notes)]
 
 
 def file_line(name: str, data: bytes) -> str:

@@ -21,8 +21,6 @@ import independent_cases as notation  # noqa: E402
 
 FONT_LIMITS = ("stack", "storage", "functions", "zones", "twilight", "size", "cvt")
 EDIT = re.compile(r"(\d+)-(\d+)=([0-9A-F]*)")
-# What hintcheck adds to the fault 43 at byte 0, unless the file is empty. Other checkers needn't.
-NO_CERTIFICATE = ": not a certificate"
 
 
 @dataclasses.dataclass

@@ -942,12 +942,6 @@ def read_file(name: str) -> bytes:
     try:
         with open(name, "rb") as file:
             return file.read()
-    except FileNotFoundError:
-        raise Fault("44 read: no such file") from None
-    except IsADirectoryError:
-        raise Fault("44 read: a directory") from None
-    except PermissionError:
-        raise Fault("44 read: permission denied") from None
     except OSError:
         raise Fault("44 read") from None
 
