@@ -2,9 +2,8 @@
 """Prints where the product's code names an instruction by its opcode, outside the table of tt_code.
 
 Usage: bench/opcodes.py
-An opcode is written as two hexadecimal digits, as 0x45. Comments and texts don't count, nor do the crates of tests and cases, nor the bytes by which
-hintcheck_explain recognises the font programs of known makers: it compares them and decodes none. There is a line for each place; the last one counts
-them, and the exit status is 1 where there is one.
+An opcode is written as two hexadecimal digits, as 0x45. Comments and texts don't count, nor do the crates of tests and cases. There is a line for each
+place; the last one counts them, and the exit status is 1 where there is one.
 """
 
 import pathlib
@@ -14,16 +13,15 @@ import typing
 
 TOP = pathlib.Path(__file__).resolve().parent.parent
 TABLE = TOP / "crates/tt_code/src/table.rt"
-SIGNS = TOP / "crates/hintcheck_explain/src/makers.rt"
 OPCODE = re.compile(r"\b0x[0-9A-Fa-f]{2}\b")
 # What isn't code: a comment up to the line's end, and a text, which may go over lines.
 OTHER = re.compile(r'//[^\n]*|"(?:\\.|[^"\\])*"', re.S)
 
 
 def files() -> list[pathlib.Path]:
-    """The sources of the product, without the table and the signs of makers."""
+    """The sources of the product, without the table."""
     found = TOP.glob("crates/*/src/**/*.rt")
-    return sorted(file for file in found if file not in (TABLE, SIGNS) and not re.search(r"_(tests|cases|fixtures)/src/", file.as_posix()))
+    return sorted(file for file in found if file != TABLE and not re.search(r"_(tests|cases|fixtures)/src/", file.as_posix()))
 
 
 def places() -> typing.Iterator[str]:

@@ -2,11 +2,12 @@
 """Runs glyph programs that the symbolic profile accepts on the machine with control values: a plain interpreter draws each number that the
 machine leaves open.
 
-Usage: bench/symbolic_runs.py PROGRAM [RUNS [SEED]]
+Usage: bench/symbolic_runs.py [--exchanged] PROGRAM [RUNS [SEED]]
 PROGRAM is a built hintcheck. Fonts of random programs, which compute their indices, are handed to `PROGRAM verdict --symbolic`. Where the
 font program and the CVT program are accepted, they are run, and then accepted glyph programs, one after another in a random order, each with a
 memory whose entries are those with which the one before started or those that it left. That is done until RUNS (10,000) runs of glyph programs were made. A fault is printed with all that led
-to it, and the exit status is then 1. At last it tells how many programs were accepted and run, and how many steps they made.
+to it, and the exit status is then 1. At last it tells how many programs were accepted and run, and how many steps they made. With --exchanged the
+interpreter takes MAX for MIN and MIN for MAX, which no accepted program has to stand: it has to find a fault, or its runs would show little.
 """
 
 import collections
@@ -83,11 +84,14 @@ class Machine(checker.Step):
             self.state.stack.pop()
             self.push(self.computed(code, *operands))
 
+    # Whether it takes MAX for MIN and MIN for MAX.
+    is_exchanged = False
+
     def computed(self, code, *operands):
         """MAX, MIN, FLOOR, CEILING, MUL and DIV: the number, or None where it may be any."""
         a, b = operands[0], operands[-1]
         if code in (0x8B, 0x8C):
-            return max(a, b) if code == 0x8B else min(a, b)
+            return max(a, b) if (code == 0x8B) != self.is_exchanged else min(a, b)
         if code in (0x66, 0x67):
             return checker.exact(b // 64 * 64 if code == 0x66 else -(-b // 64) * 64)
         if code == 0x63:
@@ -303,11 +307,13 @@ def run_font(font, accepted, source, most):
 
 
 def main():
-    if len(sys.argv) < 2:
+    words = [word for word in sys.argv[1:] if word != "--exchanged"]
+    if not words:
         print(__doc__, file=sys.stderr)
         return 2
-    program, wanted = sys.argv[1], int((sys.argv[2:] or ["10000"])[0])
-    source = random.Random(int((sys.argv[3:] or ["1"])[0]))
+    Machine.is_exchanged = len(words) < len(sys.argv) - 1
+    program, wanted = words[0], int((words[1:] or ["10000"])[0])
+    source = random.Random(int((words[2:] or ["1"])[0]))
     runs = steps = taken = all_programs = 0
     with tempfile.TemporaryDirectory(prefix="runs-") as folder:
         file = pathlib.Path(folder) / "font.ttf"

@@ -80,8 +80,9 @@ class Known(typing.NamedTuple):
     lines: frozenset[bytes]
 
     def has(self, answer: Answer, refusal: Refusal) -> bool:
-        """Whether a line lists the refusal."""
-        return f"{refusal.reason} {refusal.program} {answer.font}".encode() in self.lines
+        """Whether a line lists the refusal, by the program or, after a slash, by the name of its glyph."""
+        words = [refusal.program] if refusal.glyph is None else [refusal.program, f"/{refusal.glyph}"]
+        return any(f"{refusal.reason} {word} {answer.font}".encode() in self.lines for word in words)
 
 
 def refusal_of(told: dict) -> Refusal:

@@ -180,7 +180,9 @@ class Answers(unittest.TestCase):
         answer = read(told("a b.ttf", refused("g350", UNDERFLOW, glyph="uni019C")))[0]
         for line, is_known in {
             "26 g350 a b.ttf": True,
+            "26 /uni019C a b.ttf": True,
             "26 uni019C a b.ttf": False,
+            "27 /uni019C a b.ttf": False,
             "27 g350 a b.ttf": False,
             "26 g351 a b.ttf": False,
             "26 g350 b.ttf": False,
@@ -191,6 +193,7 @@ class Answers(unittest.TestCase):
         answer = read(told("a.ttf", refused("g73", UNDERFLOW, glyph="f")))[0]
         self.assertFalse(known("26 f a.ttf").has(answer, answer.refusals[0]))
         self.assertTrue(known("26 g73 a.ttf").has(answer, answer.refusals[0]))
+        self.assertTrue(known("26 /f a.ttf").has(answer, answer.refusals[0]))
 
     def test_known_of_a_face(self) -> None:
         answer = read(told("a.ttc", refused("g350", UNDERFLOW), face=2))[0]

@@ -1,5 +1,5 @@
 -- What the exit status of a scan tells of its font files.
-use Rattle.std.proofs.Common.{◌≡◌, ◌≢◌, ◌≤◌, ◌⊎◌, ℕ, Bool, true, false, cond, List, [], ◌∷◌, map, max, Option, None, Some, arith, inl, inr, refl, subst, sym, ◌∙◌}
+use Rattle.std.proofs.Common.{◌≡◌, ◌≢◌, ◌≤◌, ◌⊎◌, ℕ, Bool, true, false, cond, List, [], ◌∷◌, map, max, Option, None, Some, ap, arith, inl, inr, refl, subst, sym, ◌∙◌}
 use Rattle.std.specs.Prelude.{All, Contains, option_map}
 use Rattle.std.specs.List.{list_any}
 use Rattle.std.proofs.lemmas.Bool.{cases_eq, cases_lt}
@@ -15,14 +15,14 @@ use Rattle.hintcheck_words.specs.Requests.{Texts, scan}
 use Rattle.hintcheck.specs.Representation.Answers.{IsAnswered}
 use Rattle.hintcheck.specs.CommandFaults.{IsFaultOfFontFile}
 use Rattle.hintcheck.specs.Commands.{collection_status, font_status, status_of}
-use Rattle.hintcheck.specs.KnownRefusals.{fails_for, is_unknown, none_known}
+use Rattle.hintcheck.specs.KnownRefusals.{fails_for, is_listed, is_unknown, none_listed}
 use Rattle.hintcheck.specs.MeansSafe.{HoldFailing, HoldNoneCounted, HoldPassing, HoldRefusedBy, HoldSafeBy, HoldSomeCounted, IsRefusedScan, IsSafeScan, IsVerdictBy}
 use Rattle.hintcheck.specs.FontLabels.{Label}
-use Rattle.hintcheck.specs.Representation.Known.{are_alone, is_known_by}
+use Rattle.hintcheck.specs.Representation.Known.{are_alone, is_known_by, is_listed_by}
 use Rattle.hintcheck.specs.ScannedNames.{HoldsOfLabels, HoldsOfNames, HoldsOfScanned, shown_names}
 use Rattle.hintcheck.specs.declared.commands.known_refusals.Known.{Known}
 use Rattle.hintcheck.specs.declared.commands.known_refusals.Known.TheVariants as held
-use Rattle.hintcheck.specs.Scans.{Answer, HasMore, asks_lines_alone, IsAnswer, PrintsScan, PrintsScanning, Scanned, greatest_status, judged, status_of_answer, unread}
+use Rattle.hintcheck.specs.Scans.{Answer, IsAnswer, PrintsScan, PrintsScanning, Scanned, greatest_status, judged, status_of_answer, unread}
 use Rattle.hintcheck_programs.specs.Verdicts.{Judgement}
 use Rattle.hintcheck.specs.declared.commands.faults.CommandFault.{CommandFault}
 use Rattle.hintcheck.specs.declared.commands.faults.CommandFault.TheVariants as fault
@@ -97,44 +97,44 @@ answer_few : (d : Refused → Bool) (answer : Answer) → status_of_answer d ans
 answer_few d (judged by j) = omega (arith, flag_few (list_any d j.refused))
 answer_few d (unread f) = (fault_range f).1
 
-greatest_few : (d : Label → Refused → Bool) (scanned : List Scanned) → greatest_status d scanned ≤ 3
+greatest_few : (d : Label → List ℕ → Refused → Bool) (scanned : List Scanned) → greatest_status d scanned ≤ 3
 greatest_few d [] = omega arith
-greatest_few d (s ∷ others) = omega (arith, answer_few (d s.label) s.answer, greatest_few d others)
+greatest_few d (s ∷ others) = omega (arith, answer_few (d s.label s.bytes) s.answer, greatest_few d others)
 
 -- what they tell of the verdicts
 
 abbrev Answered : Profile → Scanned → Type 0
-Answered profile s = IsAnswer profile s.answer
+Answered profile s = IsAnswer profile s.bytes s.answer
 
-abbrev HoldsNone : Profile → (Label → Refused → Bool) → Label → Type 0
-HoldsNone profile d label = (bytes : List ℕ) × HoldNoneCounted profile (d label) bytes
+abbrev HoldsNone : Profile → (Label → List ℕ → Refused → Bool) → Label → Type 0
+HoldsNone profile d label = (bytes : List ℕ) × HoldNoneCounted profile (d label bytes) bytes
 
-one_none : (profile : Profile) (d : Refused → Bool) (answer : Answer) → status_of_answer d answer ≡ 0 → IsAnswer profile answer → (bytes : List ℕ) × HoldNoneCounted profile d bytes
-one_none profile d (judged by j) zero (bytes, given) = (bytes, record { by = by; judgement = j; given = given; none = flag_zero (list_any d j.refused) zero })
-one_none profile d (unread f) zero is = absurd (omega (arith, fault_range f))
+one_none : (profile : Profile) (d : Refused → Bool) (bytes : List ℕ) (answer : Answer) → status_of_answer d answer ≡ 0 → IsAnswer profile bytes answer → HoldNoneCounted profile d bytes
+one_none profile d bytes (judged by j) zero given = record { by = by; judgement = j; given = given; none = flag_zero (list_any d j.refused) zero }
+one_none profile d bytes (unread f) zero is = absurd (omega (arith, fault_range f))
 
-all_none : (profile : Profile) (d : Label → Refused → Bool) (scanned : List Scanned) → greatest_status d scanned ≡ 0 → All (Answered profile) scanned → All (HoldsNone profile d) (map (λ s. s.label) scanned)
+all_none : (profile : Profile) (d : Label → List ℕ → Refused → Bool) (scanned : List Scanned) → greatest_status d scanned ≡ 0 → All (Answered profile) scanned → All (HoldsNone profile d) (map (λ s. s.label) scanned)
 all_none profile d [] zero answers = All-nil (HoldsNone profile d)
 all_none profile d (s ∷ others) zero answers =
-    All-cons (HoldsNone profile d) s.label (map (λ s. s.label) others) (one_none profile (d s.label) s.answer (omega arith) (All-head (Answered profile) s others answers))
+    All-cons (HoldsNone profile d) s.label (map (λ s. s.label) others) (s.bytes, one_none profile (d s.label s.bytes) s.bytes s.answer (omega arith) (All-head (Answered profile) s others answers))
     (all_none profile d others (omega arith) (All-tail (Answered profile) s others answers))
 
-one_some : (profile : Profile) (d : Refused → Bool) (answer : Answer) → status_of_answer d answer ≡ 1 → IsAnswer profile answer → (bytes : List ℕ) × HoldSomeCounted profile d bytes
-one_some profile d (judged by j) one (bytes, given) = (bytes, record { by = by; judgement = j; given = given; some = flag_one (list_any d j.refused) one })
-one_some profile d (unread f) one is = absurd (omega (arith, fault_range f))
+one_some : (profile : Profile) (d : Refused → Bool) (bytes : List ℕ) (answer : Answer) → status_of_answer d answer ≡ 1 → IsAnswer profile bytes answer → HoldSomeCounted profile d bytes
+one_some profile d bytes (judged by j) one given = record { by = by; judgement = j; given = given; some = flag_one (list_any d j.refused) one }
+one_some profile d bytes (unread f) one is = absurd (omega (arith, fault_range f))
 
 -- a program of one of the fonts counts
-abbrev SomeAmong : Profile → (Label → Refused → Bool) → List Label → Type 0
-SomeAmong profile d labels = (label : Label) × (bytes : List ℕ) × Contains labels label × HoldSomeCounted profile (d label) bytes
+abbrev SomeAmong : Profile → (Label → List ℕ → Refused → Bool) → List Label → Type 0
+SomeAmong profile d labels = (label : Label) × (bytes : List ℕ) × Contains labels label × HoldSomeCounted profile (d label bytes) bytes
 
-some_among : (profile : Profile) (d : Label → Refused → Bool) (scanned : List Scanned) → greatest_status d scanned ≡ 1 → All (Answered profile) scanned → SomeAmong profile d (map (λ s. s.label) scanned)
+some_among : (profile : Profile) (d : Label → List ℕ → Refused → Bool) (scanned : List Scanned) → greatest_status d scanned ≡ 1 → All (Answered profile) scanned → SomeAmong profile d (map (λ s. s.label) scanned)
 some_among profile d [] one answers = absurd (omega arith)
 some_among profile d (s ∷ others) one answers =
     let labels : List Label = map (λ s. s.label) others in
-    elim (cases_eq (status_of_answer (d s.label) s.answer) 1) [
+    elim (cases_eq (status_of_answer (d s.label s.bytes) s.answer) 1) [
       | inl first ↦
-          let some = one_some profile (d s.label) s.answer first (All-head (Answered profile) s others answers) in
-          (s.label, some.0, Contains-append_left (s.label ∷ []) labels s.label (Contains-push [] s.label), some.1)
+          let some = one_some profile (d s.label s.bytes) s.bytes s.answer first (All-head (Answered profile) s others answers) in
+          (s.label, s.bytes, Contains-append_left (s.label ∷ []) labels s.label (Contains-push [] s.label), some)
       | inr not_first ↦
           let rest = some_among profile d others (omega arith) (All-tail (Answered profile) s others answers) in
           (rest.0, rest.1, Contains-append_right (s.label ∷ []) labels rest.0 rest.2, rest.3)
@@ -144,18 +144,18 @@ some_among profile d (s ∷ others) one answers =
 abbrev HasFault : ℕ → Type 0
 HasFault status = (reported : CommandFault) × IsFaultOfFontFile reported × (status_of reported ≡ status)
 
-one_fault : (profile : Profile) (d : Refused → Bool) (answer : Answer) → 2 ≤ status_of_answer d answer → IsAnswer profile answer → HasFault (status_of_answer d answer)
-one_fault profile d (judged by j) two is = absurd (omega (arith, flag_few (list_any d j.refused)))
-one_fault profile d (unread f) two is = (f, is, refl)
+one_fault : (profile : Profile) (d : Refused → Bool) (bytes : List ℕ) (answer : Answer) → 2 ≤ status_of_answer d answer → IsAnswer profile bytes answer → HasFault (status_of_answer d answer)
+one_fault profile d bytes (judged by j) two is = absurd (omega (arith, flag_few (list_any d j.refused)))
+one_fault profile d bytes (unread f) two is = (f, is, refl)
 
-some_fault : (profile : Profile) (d : Label → Refused → Bool) (scanned : List Scanned) → 2 ≤ greatest_status d scanned → All (Answered profile) scanned → HasFault (greatest_status d scanned)
+some_fault : (profile : Profile) (d : Label → List ℕ → Refused → Bool) (scanned : List Scanned) → 2 ≤ greatest_status d scanned → All (Answered profile) scanned → HasFault (greatest_status d scanned)
 some_fault profile d [] two answers = absurd (omega arith)
 some_fault profile d (s ∷ others) two answers =
-    let first = status_of_answer (d s.label) s.answer in
+    let first = status_of_answer (d s.label s.bytes) s.answer in
     let rest = greatest_status d others in
     elim (cases_lt first rest) [
       | inl less ↦ let is : max first rest ≡ rest = omega arith in rw is (some_fault profile d others (omega arith) (All-tail (Answered profile) s others answers))
-      | inr most ↦ let is : max first rest ≡ first = omega arith in rw is (one_fault profile (d s.label) s.answer (omega arith) (All-head (Answered profile) s others answers))
+      | inr most ↦ let is : max first rest ≡ first = omega arith in rw is (one_fault profile (d s.label s.bytes) s.bytes s.answer (omega arith) (All-head (Answered profile) s others answers))
     ]
 
 -- without known refusals
@@ -182,17 +182,17 @@ failing None profile bytes h = refused_by profile h.by bytes h.judgement h.given
 
 safe_scan : (options : ScanOptions) (labels : List Label) (expected : Option (List ℕ)) (status : ℕ) (old new : Option (List ℕ)) → PrintsScanning options labels expected status old new → status ≡ 0 → IsSafeScan options labels expected
 safe_scan options labels None status old new p zero =
-    All-weaker (HoldsNone options.profile (is_unknown options.fail_on none_known)) (λ l. (bytes : List ℕ) × HoldPassing options.fail_on options.profile bytes) (λ l h. (h.0, passing options.fail_on options.profile h.0 h.1)) labels
-    (subst (All (HoldsNone options.profile (is_unknown options.fail_on none_known))) p.labels_are (all_none options.profile (is_unknown options.fail_on none_known) p.scanned (sym p.greatest ∙ zero) p.answers))
+    All-weaker (HoldsNone options.profile (is_unknown options.fail_on none_listed)) (λ l. (bytes : List ℕ) × HoldPassing options.fail_on options.profile bytes) (λ l h. (h.0, passing options.fail_on options.profile h.0 h.1)) labels
+    (subst (All (HoldsNone options.profile (is_unknown options.fail_on none_listed))) p.labels_are (all_none options.profile (is_unknown options.fail_on none_listed) p.scanned (sym p.greatest ∙ zero) p.answers))
 safe_scan options labels (Some file) status old new (is, p) zero =
-    (is, subst (All (HoldsNone options.profile (is_unknown options.fail_on is))) p.labels_are (all_none options.profile (is_unknown options.fail_on is) p.scanned (sym p.greatest ∙ zero) p.answers))
+    (is, subst (All (HoldsNone options.profile (is_unknown options.fail_on (is_listed is)))) p.labels_are (all_none options.profile (is_unknown options.fail_on (is_listed is)) p.scanned (sym p.greatest ∙ zero) p.answers))
 
 refused_scan : (options : ScanOptions) (labels : List Label) (expected : Option (List ℕ)) (status : ℕ) (old new : Option (List ℕ)) → PrintsScanning options labels expected status old new → status ≡ 1 → IsRefusedScan options labels expected
 refused_scan options labels None status old new p one =
-    let some = some_among options.profile (is_unknown options.fail_on none_known) p.scanned (sym p.greatest ∙ one) p.answers in
+    let some = some_among options.profile (is_unknown options.fail_on none_listed) p.scanned (sym p.greatest ∙ one) p.answers in
     (some.1, failing options.fail_on options.profile some.1 some.3)
 refused_scan options labels (Some file) status old new (is, p) one =
-    let some = some_among options.profile (is_unknown options.fail_on is) p.scanned (sym p.greatest ∙ one) p.answers in
+    let some = some_among options.profile (is_unknown options.fail_on (is_listed is)) p.scanned (sym p.greatest ∙ one) p.answers in
     (is, some.0, some.1, subst (λ ls. Contains ls some.0) p.labels_are some.2, some.3)
 
 few_scan : (options : ScanOptions) (labels : List Label) (expected : Option (List ℕ)) (status : ℕ) (old new : Option (List ℕ)) → PrintsScanning options labels expected status old new → status ≤ 3
@@ -200,8 +200,8 @@ few_scan options labels None status old new p = rw p.greatest (greatest_few _ p.
 few_scan options labels (Some file) status old new (is, p) = rw p.greatest (greatest_few _ p.scanned)
 
 fault_scan : (options : ScanOptions) (labels : List Label) (expected : Option (List ℕ)) (status : ℕ) (old new : Option (List ℕ)) → PrintsScanning options labels expected status old new → 2 ≤ status → HasFault status
-fault_scan options labels None status old new p two = rw p.greatest (some_fault options.profile (is_unknown options.fail_on none_known) p.scanned (subst (λ n. 2 ≤ n) p.greatest two) p.answers)
-fault_scan options labels (Some file) status old new (is, p) two = rw p.greatest (some_fault options.profile (is_unknown options.fail_on is) p.scanned (subst (λ n. 2 ≤ n) p.greatest two) p.answers)
+fault_scan options labels None status old new p two = rw p.greatest (some_fault options.profile (is_unknown options.fail_on none_listed) p.scanned (subst (λ n. 2 ≤ n) p.greatest two) p.answers)
+fault_scan options labels (Some file) status old new (is, p) two = rw p.greatest (some_fault options.profile (is_unknown options.fail_on (is_listed is)) p.scanned (subst (λ n. 2 ≤ n) p.greatest two) p.answers)
 
 -- what the words of the fonts name: themselves, or what lists give
 abbrev pub AreNamed : FontWords → List (List ℕ) → List (List ℕ) → Type 0
@@ -228,18 +228,17 @@ scan_answered words names options texts status old new named (labels, are, p) = 
 }
 
 -- what a scan without a file of known refusals, or with one, printed
--- what more is told where lines are alone may be told where they aren't
-never_alone : (alone : Bool) (scanned : List Scanned) → All (λ s. HasMore alone s.answer s.more) scanned → All (λ s. HasMore false s.answer s.more) scanned
-never_alone alone scanned all = All-weaker (λ s. HasMore alone s.answer s.more) (λ s. HasMore false s.answer s.more) (λ s is. tt) scanned all
-
-pub scanning : (options : ScanOptions) (known : Known) (labels : List Label) (expected : Option (List ℕ)) (status : ℕ) (old new : Option (List ℕ)) → (expected ≡ None → known ≡ held.Nothing) → PrintsScan options (are_alone options known) (is_known_by known) labels status old new
-    → PrintsScanning options labels expected status old new
-scanning options known labels None status old new none p = subst (λ k. PrintsScan options (are_alone options k) (is_known_by k) labels status old new) (none refl) p
-scanning options held.Nothing labels (Some file) status old new none p =
-    (none_known, record { scanned = p.scanned; labels_are = p.labels_are; answers = p.answers; told = never_alone (asks_lines_alone options) p.scanned p.told; greatest = p.greatest; written = p.written })
-scanning options (held.Lines lines) labels (Some file) status old new none p = (is_known_by (held.Lines lines), p)
+pub scanning : (options : ScanOptions) (known : Known) (labels : List Label) (expected : Option (List ℕ)) (status : ℕ) (old new : Option (List ℕ)) → (expected ≡ None → known ≡ held.Nothing) → (known ≡ held.Nothing → expected ≡ None)
+    → PrintsScan options (are_alone options known) (is_listed_by known) labels status old new → PrintsScanning options labels expected status old new
+scanning options known labels None status old new none given p = subst (λ k. PrintsScan options (are_alone options k) (is_listed_by k) labels status old new) (none refl) p
+scanning options held.Nothing labels (Some file) status old new none given p = let no = given refl in cc
+scanning options (held.Lines lines) labels (Some file) status old new none given p = (is_known_by (held.Lines lines), p)
 
 -- no name is there where it has no text
 pub none_named : {X Y : Type 0} (f : X → List ℕ) (g : Y → List ℕ) (o : Option X) (n : Option Y) → option_map f o ≡ option_map g n → option_map g n ≡ None → o ≡ None
 none_named f g None n same none = refl
 none_named f g (Some x) n same none = absurd cc
+
+-- and no text where there is no name
+pub none_spelled : {X Y : Type 0} (f : X → List ℕ) (g : Y → List ℕ) (o : Option X) (n : Option Y) → option_map f o ≡ option_map g n → o ≡ None → option_map g n ≡ None
+none_spelled f g o n same none = sym same ∙ ap (option_map f) none

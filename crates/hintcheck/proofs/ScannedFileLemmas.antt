@@ -4,17 +4,17 @@ use Rattle.std.specs.Prelude.{All}
 use Rattle.std.proofs.lemmas.List.{length-append, map-append, take_all, take_more}
 use Rattle.std.proofs.lemmas.List.Elements.{All-append, All-cons, All-nil}
 use Rattle.hintcheck.specs.FontLabels.{Label, more, none}
-use Rattle.hintcheck.specs.Representation.Known.{are_alone, is_known_by}
+use Rattle.hintcheck.specs.Representation.Known.{are_alone, is_listed_by}
 use Rattle.hintcheck.specs.Representation.ScannedFiles.{ScansFaces, ScansFile, ScansFiles, ScansLabels}
 use Rattle.hintcheck.specs.declared.commands.scan_task.Plan.{Plan}
 use Rattle.hintcheck.proofs.ScannedLines.{scans_both, scans_none}
 
 -- no file, and no face
 pub no_file : (plan : Plan) (old : Option (List ℕ)) → ScansFiles plan [] 0 old old
-no_file plan old = ([], none, scans_none plan.options (are_alone plan.options plan.known.now) (is_known_by plan.known.now) old)
+no_file plan old = ([], none, scans_none plan.options (are_alone plan.options plan.known.now) (is_listed_by plan.known.now) old)
 
 pub no_face : (plan : Plan) (file : List ℕ) (old : Option (List ℕ)) → ScansFaces plan file 0 0 old old
-no_face plan file old = record { labels = []; count_is = refl; faces = All-nil (λ l. l.file ≡ file); scanned = scans_none plan.options (are_alone plan.options plan.known.now) (is_known_by plan.known.now) old }
+no_face plan file old = record { labels = []; count_is = refl; faces = All-nil (λ l. l.file ≡ file); scanned = scans_none plan.options (are_alone plan.options plan.known.now) (is_listed_by plan.known.now) old }
 
 -- one label of a file
 pub one_label : (plan : Plan) (label : Label) (file : List ℕ) (status : ℕ) (old new : Option (List ℕ)) → label.file ≡ file → ScansLabels plan (label ∷ []) status old new → ScansFile plan file status old new
@@ -26,7 +26,7 @@ next_face plan file label count s t m old mid new same before scanned greatest =
   labels = before.labels ++ label ∷ [];
   count_is = omega (arith, length-append before.labels (label ∷ []), before.count_is);
   faces = All-append (λ l. l.file ≡ file) before.labels (label ∷ []) before.faces (All-cons (λ l. l.file ≡ file) label [] same (All-nil (λ l. l.file ≡ file)));
-  scanned = rw greatest (scans_both plan.options (are_alone plan.options plan.known.now) (is_known_by plan.known.now) before.labels (label ∷ []) s t old mid new before.scanned scanned);
+  scanned = rw greatest (scans_both plan.options (are_alone plan.options plan.known.now) (is_listed_by plan.known.now) before.labels (label ∷ []) s t old mid new before.scanned scanned);
 }
 
 -- all faces, of which there is one
@@ -40,7 +40,7 @@ all_faces plan file count status old new some faces = (faces.labels, (nonempty f
 -- a file after others
 after_files : (plan : Plan) (files : List (List ℕ)) (file : List ℕ) (s t : ℕ) (old mid new : Option (List ℕ)) → ScansFiles plan files s old mid → ScansFile plan file t mid new → ScansFiles plan (files ++ file ∷ []) (max s t) old new
 after_files plan files file s t old mid new (labels, are, first) (own, own_are, second) =
-    (labels ++ own, more files file labels own are own_are, scans_both plan.options (are_alone plan.options plan.known.now) (is_known_by plan.known.now) labels own s t old mid new first second)
+    (labels ++ own, more files file labels own are own_are, scans_both plan.options (are_alone plan.options plan.known.now) (is_listed_by plan.known.now) labels own s t old mid new first second)
 
 -- the only file
 pub only_file : (plan : Plan) (file : List ℕ) (status : ℕ) (old new : Option (List ℕ)) → ScansFile plan file status old new → ScansFiles plan (file ∷ []) status old new

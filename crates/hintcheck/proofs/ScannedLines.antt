@@ -50,25 +50,25 @@ only_both old mid new first second = record { bytes = first.bytes ++ second.byte
 pub first_then : (text : List ℕ) (old mid new : Option (List ℕ)) → Appends old mid text → AppendsOnly mid new → WritesFirst text old new
 first_then text old mid new first others = record { others = others.bytes; written = appends_both old mid new text others.bytes first others.appended }
 
-greatest-append : (d : Label → Refused → Bool) (xs ys : List Scanned) → greatest_status d (xs ++ ys) ≡ max (greatest_status d xs) (greatest_status d ys)
+greatest-append : (d : Label → List ℕ → Refused → Bool) (xs ys : List Scanned) → greatest_status d (xs ++ ys) ≡ max (greatest_status d xs) (greatest_status d ys)
 greatest-append d [] ys = omega arith
 greatest-append d (x ∷ xs) ys = omega (arith, greatest-append d xs ys)
 
 abbrev Answered : ScanOptions → Scanned → Type 0
-Answered options s = IsAnswer options.profile s.answer
+Answered options s = IsAnswer options.profile s.bytes s.answer
 
 abbrev HasItsMore : Bool → Scanned → Type 0
 HasItsMore alone s = HasMore alone s.answer s.more
 
 -- no font file
-pub scans_none : (options : ScanOptions) (alone : Bool) (is : List ℕ → Bool) (old : Option (List ℕ)) → PrintsScan options alone is [] 0 old old
+pub scans_none : (options : ScanOptions) (alone : Bool) (is : Label → List ℕ → Refused → Bool) (old : Option (List ℕ)) → PrintsScan options alone is [] 0 old old
 scans_none options alone is old = record { scanned = []; labels_are = refl; answers = All-nil (Answered options); told = All-nil (HasItsMore alone); greatest = refl; written = appends_nothing old }
 
 -- one font file
-pub scans_one : (options : ScanOptions) (alone : Bool) (is : List ℕ → Bool) (label : Label) (answer : Answer) (status : ℕ) (old new : Option (List ℕ)) → IsAnswer options.profile answer
-    → status ≡ status_of_answer (is_unknown options.fail_on is label) answer → TellsFont options alone label answer old new → PrintsScan options alone is (label ∷ []) status old new
-scans_one options alone is label answer status old new answers same tells =
-    let s : Scanned = record { label = label; answer = answer; more = tells.more } in
+pub scans_one : (options : ScanOptions) (alone : Bool) (is : Label → List ℕ → Refused → Bool) (label : Label) (bytes : List ℕ) (answer : Answer) (status : ℕ) (old new : Option (List ℕ)) → IsAnswer options.profile bytes answer
+    → status ≡ status_of_answer (is_unknown options.fail_on is label bytes) answer → TellsFont options alone label answer old new → PrintsScan options alone is (label ∷ []) status old new
+scans_one options alone is label bytes answer status old new answers same tells =
+    let s : Scanned = record { label = label; bytes = bytes; answer = answer; more = tells.more } in
     record {
       scanned = s ∷ [];
       labels_are = refl;
@@ -79,7 +79,7 @@ scans_one options alone is label answer status old new answers same tells =
     }
 
 -- font files, and then others
-pub scans_both : (options : ScanOptions) (alone : Bool) (is : List ℕ → Bool) (a b : List Label) (s t : ℕ) (old mid new : Option (List ℕ)) → PrintsScan options alone is a s old mid → PrintsScan options alone is b t mid new
+pub scans_both : (options : ScanOptions) (alone : Bool) (is : Label → List ℕ → Refused → Bool) (a b : List Label) (s t : ℕ) (old mid new : Option (List ℕ)) → PrintsScan options alone is a s old mid → PrintsScan options alone is b t mid new
     → PrintsScan options alone is (a ++ b) (max s t) old new
 scans_both options alone is a b s t old mid new first second = record {
   scanned = first.scanned ++ second.scanned;

@@ -14,7 +14,7 @@ use Rattle.hintcheck_explain.specs.declared.asked.Explained.{Explained}
 use Rattle.hintcheck_programs.specs.BarePrograms.{bare_font, bare_subject}
 use Rattle.hintcheck.specs.Explanations.{HoldAcceptedProgram, HoldExplained, HoldRefusedProgram}
 use Rattle.hintcheck_programs.specs.FontPrograms.{IsSafeFont, IsSafeGlyph}
-use Rattle.hintcheck.specs.KnownRefusals.{fails_for, is_unknown}
+use Rattle.hintcheck.specs.KnownRefusals.{fails_for, is_listed, is_unknown}
 use Rattle.hintcheck.specs.Listing.{HoldUnlistedProgram}
 use Rattle.hintcheck_programs.specs.Programs.{HasGoodFamily, IsRefusal}
 use Rattle.hintcheck.specs.FontLabels.{Label}
@@ -106,13 +106,14 @@ HoldPassing (Some Possible) profile bytes =
 HoldPassing other profile bytes = HoldSafeBy profile bytes
 
 -- What status 0 of a scan tells. With a file of known refusals it tells that each refused program for
--- which it fails is known, by the line that names it: no contract of the runtime tells which lines
--- the file has.
+-- which it fails is known, by a line that names it or its glyph: no contract of the runtime tells
+-- which lines the file has.
 abbrev pub IsSafeScan : ScanOptions → List Label → Option (List ℕ) → Type 0
 IsSafeScan options labels None =
     All (λ l. (bytes : List ℕ) × HoldPassing options.fail_on options.profile bytes) labels
 IsSafeScan options labels (Some file) = (is_known : List ℕ → Bool) × All (λ l. (bytes : List ℕ)
-    × HoldNoneCounted options.profile (is_unknown options.fail_on is_known l) bytes) labels
+    × HoldNoneCounted options.profile (is_unknown options.fail_on (is_listed is_known) l bytes) bytes)
+    labels
 
 -- What is asked for is safe, where it names a profile by that one, and otherwise by the strict one:
 -- the glyph program of `bare`, which has no bytes where its word is left out. For `verdict`, `find`
@@ -233,7 +234,8 @@ IsRefusedScan options labels None =
     (bytes : List ℕ) × HoldFailing options.fail_on options.profile bytes
 IsRefusedScan options labels (Some file) = (is_known : List ℕ → Bool) × (label : Label)
     × (bytes : List ℕ) × Contains labels label
-    × HoldSomeCounted options.profile (is_unknown options.fail_on is_known label) bytes
+    × HoldSomeCounted options.profile
+    (is_unknown options.fail_on (is_listed is_known) label bytes) bytes
 
 -- What is asked for is refused: the glyph program of `bare`. For `verdict`, `find` and `scan`, some
 -- bytes hold a font whose verdict names refused programs, for `scan` some for which it fails, and

@@ -20,7 +20,7 @@ use Rattle.hintcheck.specs.Commands.{status_of}
 use Rattle.hintcheck.specs.CommandFaults.{IsFaultOfFontFile}
 use Rattle.hintcheck.specs.FontLabels.{Label, face_text}
 use Rattle.hintcheck.specs.JsonObjects.{beginning, profile_name, request_name}
-use Rattle.hintcheck.specs.KnownRefusals.{fails_for, is_unknown, none_known}
+use Rattle.hintcheck.specs.KnownRefusals.{fails_for, is_listed, is_unknown, none_listed}
 use Rattle.hintcheck.specs.Listing.{hex_digits}
 use Rattle.hintcheck.specs.MeansSafe.{IsVerdictBy}
 use Rattle.hintcheck.specs.RefusalClasses.{class_text, number_of_class}
@@ -35,12 +35,10 @@ pub data Answer : Type 0 where
   judged : VerdictRequest → Judgement → Answer
   unread : CommandFault → Answer
 
--- The verdict is that of this profile on the font in some bytes: no contract of the runtime tells
--- that they are those of the file. Or the fault is one of a font file.
-abbrev pub IsAnswer : Profile → Answer → Type 0
-IsAnswer profile (judged by judgement) =
-    (bytes : List ℕ) × IsVerdictBy profile by bytes judgement
-IsAnswer profile (unread reported) = IsFaultOfFontFile reported
+-- The verdict is that of this profile on the font in these bytes. Or the fault is one of a font file.
+abbrev pub IsAnswer : Profile → List ℕ → Answer → Type 0
+IsAnswer profile bytes (judged by judgement) = IsVerdictBy profile by bytes judgement
+IsAnswer profile bytes (unread reported) = IsFaultOfFontFile reported
 
 -- the exit status of a verdict that refuses these programs: 1 where one of them counts
 abbrev pub status_of_refused : (Refused → Bool) → List Refused → ℕ
@@ -98,9 +96,11 @@ abbrev pub line_of : Label → Answer → List ℕ
 line_of label answer =
     (flat_map shown_byte label.file ++ face_text label.face) ++ answer_text answer
 
--- A font file that was scanned: its label, what came of it, and what more is told of it.
+-- A font file that was scanned: its label, the bytes of the font, what came of it, and what more is told
+-- of it. No contract of the runtime tells that the bytes are those of the file.
 pub record Scanned : Type 0 where
   pub label : Label
+  pub bytes : List ℕ
   pub answer : Answer
   pub more : List ℕ
 
@@ -162,30 +162,31 @@ pub record TellsFont (options : ScanOptions) (is_alone : Bool) (label : Label) (
   pub more : List ℕ
   pub has : HasMore is_alone answer more
   pub written : Appends old new
-      (text_of options (record { label = label; answer = answer; more = more }))
+      (text_of options (record { label = label; bytes = []; answer = answer; more = more }))
 
 -- the greatest exit status of font files, 0 of none, where these refused programs of each count
-abbrev pub greatest_status : (Label → Refused → Bool) → List Scanned → ℕ
+abbrev pub greatest_status : (Label → List ℕ → Refused → Bool) → List Scanned → ℕ
 greatest_status does_count [] = 0
 greatest_status does_count (s ∷ others) =
-    max (status_of_answer (does_count s.label) s.answer) (greatest_status does_count others)
+    max (status_of_answer (does_count s.label s.bytes) s.answer) (greatest_status does_count others)
 
 -- Font files with these labels were scanned with these options, this is the greatest exit status of
--- them, where refused programs count whose lines aren't known, and their lines, which are alone or
--- not, or objects were written in the order of the labels, where the written bytes are known.
-pub record PrintsScan (options : ScanOptions) (is_alone : Bool) (is_known : List ℕ → Bool)
-    (labels : List Label) (status : ℕ) (old new : Option (List ℕ)) : Type 0 where
+-- them, where refused programs count that aren't known by this test, and their lines, which are alone
+-- or not, or objects were written in the order of the labels, where the written bytes are known.
+pub record PrintsScan (options : ScanOptions) (is_alone : Bool)
+    (is_listed : Label → List ℕ → Refused → Bool) (labels : List Label) (status : ℕ)
+    (old new : Option (List ℕ)) : Type 0 where
   pub scanned : List Scanned
   pub labels_are : map (λ s. s.label) scanned ≡ labels
-  pub answers : All (λ s. IsAnswer options.profile s.answer) scanned
+  pub answers : All (λ s. IsAnswer options.profile s.bytes s.answer) scanned
   pub told : All (λ s. HasMore is_alone s.answer s.more) scanned
-  pub greatest : status ≡ greatest_status (is_unknown options.fail_on is_known) scanned
+  pub greatest : status ≡ greatest_status (is_unknown options.fail_on is_listed) scanned
   pub written : Appends old new (flat_map (text_of options) scanned)
 
 -- what a scan prints, with a file of known refusals or without one
 abbrev pub PrintsScanning : ScanOptions → List Label → Option (List ℕ) → ℕ
     → Option (List ℕ) → Option (List ℕ) → Type 0
 PrintsScanning options labels None status old new =
-    PrintsScan options (asks_lines_alone options) none_known labels status old new
+    PrintsScan options (asks_lines_alone options) none_listed labels status old new
 PrintsScanning options labels (Some file) status old new =
-    (is_known : List ℕ → Bool) × PrintsScan options false is_known labels status old new
+    (is_known : List ℕ → Bool) × PrintsScan options false (is_listed is_known) labels status old new

@@ -6,7 +6,7 @@ use std::collections::HashMap;
 
 /// What programs that are refused for one cause have in common: the place, where that is in the font
 /// program or in the CVT program, and the reason, by its number.
-#[derive(Clone, Copy, Debug, PartialEq, Eq, Hash, Drop)]
+#[derive(Clone, Copy, PartialEq, Eq, Hash, Drop)]
 enum CauseKey {
     /// At this offset of the font program.
     Font(u32, u8),
@@ -27,7 +27,7 @@ fn key_of(refused: &Refused) -> CauseKey {
 }
 
 /// A cause of refusal, with the programs that are refused for it.
-#[derive(Debug, Drop)]
+#[derive(Drop)]
 pub(crate) struct Cause {
     /// The first of them.
     pub(crate) first: Refused,

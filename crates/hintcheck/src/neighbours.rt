@@ -7,7 +7,7 @@ use std::fmt;
 use tt_code::name;
 
 /// An instruction of a program: where it begins, and its code.
-#[derive(Clone, Copy, Debug, PartialEq, Eq)]
+#[derive(Clone, Copy)]
 pub struct Neighbour {
     offset: u32,
     code: u8,
@@ -31,7 +31,7 @@ impl fmt::Display for Neighbour {
 
 /// What is around an offset of a program at which no instruction begins. Its text follows another
 /// one.
-#[derive(Clone, Copy, Debug, PartialEq, Eq)]
+#[derive(Clone, Copy)]
 pub enum Neighbours {
     /// The last instruction before it, and the first one after it.
     Between(Neighbour, Neighbour),

@@ -5,7 +5,7 @@ use tt_setting::Name;
 use tt_symbolic_check::Site;
 
 /// A program, and the site that is asked for.
-#[derive(Clone, Copy, Debug, PartialEq, Eq)]
+#[derive(Clone, Copy)]
 pub struct Asked {
     pub program: Name,
     /// Where what is known is asked for, if it is: in the program, or in a function that the font
@@ -19,7 +19,7 @@ pub(crate) fn place_of(program: Name, site: Site) -> Place {
 }
 
 /// Whether the program that was explained is accepted or refused.
-#[derive(Clone, Copy, Debug, PartialEq, Eq)]
+#[derive(Clone, Copy)]
 pub enum Explained {
     Accepted,
     /// It is refused so; or one before it is, so that it isn't checked.

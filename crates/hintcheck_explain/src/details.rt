@@ -11,7 +11,7 @@ use tt_setting::setting::body_offset;
 use tt_setting::{Failed, Name, Register, Role, Spot, ZoneCell};
 
 /// A number with which an instruction fails a test.
-#[derive(Clone, Copy, Debug, PartialEq, Eq)]
+#[derive(Clone, Copy)]
 pub struct Operand {
     /// What the instruction takes it as, in a word or two, as `point`.
     pub kind: &'static str,
@@ -26,7 +26,7 @@ pub struct Operand {
 }
 
 /// A call that is open at a place.
-#[derive(Clone, Copy, Debug, PartialEq, Eq)]
+#[derive(Clone, Copy)]
 pub struct OpenedCall {
     /// Where it is called.
     pub at: Place,
@@ -37,7 +37,7 @@ pub struct OpenedCall {
 }
 
 /// What a refusal tells in numbers.
-#[derive(Debug, Drop)]
+#[derive(Drop)]
 pub struct Details {
     /// Whether a run that comes to the place with what is known there is sure to fail.
     pub is_certain: bool,

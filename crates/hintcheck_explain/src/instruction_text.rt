@@ -16,6 +16,14 @@ pub(crate) fn count_of_data(push: Push, data: &[u8]) -> usize {
     }
 }
 
+/// Returns the data of a push instruction, of the bytes after its code.
+fn data_of(push: Push, rest: &[u8]) -> &[u8] {
+    match push {
+        Push::CountedBytes | Push::CountedWords => rest.get(1..).unwrap_or(&[]),
+        Push::Bytes(_) | Push::Words(_) => rest,
+    }
+}
+
 /// Returns the number at this index among those that the data of a push instruction spell.
 fn number_of_data(push: Push, data: &[u8], index: usize) -> Option<i32> {
     match push {
@@ -30,6 +38,42 @@ fn number_of_data(push: Push, data: &[u8], index: usize) -> Option<i32> {
 /// Returns the name of the instruction with this code: `?` where the instruction set has none.
 pub(crate) fn name_of(code: u8) -> &'static str {
     name(code).unwrap_or("?")
+}
+
+/// An instruction that is looked for: by its name, and where it pushes, by the one number that it pushes.
+#[derive(Clone, Copy)]
+pub(crate) enum Sought {
+    /// An instruction with this name that is one byte.
+    Plain(&'static str),
+    /// A push instruction with this name that pushes this number alone.
+    Push(&'static str, i32),
+}
+
+/// Returns the number that these bytes push, if they are a push instruction that pushes just one.
+fn only_number(bytes: &[u8]) -> Option<i32> {
+    let [code, rest @ ..] = bytes else {
+        return None;
+    };
+    let Effect::Push(push) = entry(*code) else {
+        return None;
+    };
+    let data = data_of(*push, rest);
+    if count_of_data(*push, data) == 1 {
+        number_of_data(*push, data, 0)
+    } else {
+        None
+    }
+}
+
+/// Whether these bytes are the instruction that is looked for.
+pub(crate) fn is_sought(bytes: &[u8], sought: Sought) -> bool {
+    let code = bytes.first().copied().unwrap_or(0);
+    match sought {
+        Sought::Plain(called) => name_of(code) == called && bytes.len() == 1,
+        Sought::Push(called, number) => {
+            name_of(code) == called && only_number(bytes) == Some(number)
+        }
+    }
 }
 
 /// Writes the numbers that a push instruction pushes.
@@ -55,12 +99,8 @@ impl fmt::Display for InstructionText<'_> {
         match entry(*code) {
             Effect::NoEntry => write!(f, "? (code 0x{code:02x})"),
             Effect::Push(push) => {
-                let data = match push {
-                    Push::CountedBytes | Push::CountedWords => rest.get(1..).unwrap_or(&[]),
-                    Push::Bytes(_) | Push::Words(_) => rest,
-                };
                 f.write_str(name_of(*code))?;
-                write_data(*push, data, f)
+                write_data(*push, data_of(*push, rest), f)
             }
             _ => f.write_str(name_of(*code)),
         }

@@ -2,6 +2,7 @@
 //! do about them in the maker's terms.
 
 use crate::explored_program::code_of;
+use crate::instruction_text::{Sought, is_sought};
 use tt_code::{Limits, Program, Reason};
 use tt_setting::{Setting, Spot};
 use tt_symbolic_check::Site;
@@ -13,13 +14,28 @@ enum Maker {
     FontForge,
 }
 
-/// How font programs of ttfautohint begin: PUSHB 0, FDEF, DUP, PUSHB 0, NEQ, IF, RCVT, EIF, DUP, DUP.
-const TTFAUTOHINT: &[u8] = &[
-    0xb0, 0x00, 0x2c, 0x20, 0xb0, 0x00, 0x55, 0x58, 0x45, 0x59, 0x20, 0x20,
+/// How font programs of ttfautohint begin.
+const TTFAUTOHINT: &[Sought] = &[
+    Sought::Push("PUSHB", 0),
+    Sought::Plain("FDEF"),
+    Sought::Plain("DUP"),
+    Sought::Push("PUSHB", 0),
+    Sought::Plain("NEQ"),
+    Sought::Plain("IF"),
+    Sought::Plain("RCVT"),
+    Sought::Plain("EIF"),
+    Sought::Plain("DUP"),
+    Sought::Plain("DUP"),
 ];
 
-/// How font programs of FontForge begin: PUSHB 0, FDEF, PUSHB 0, SZP0, MPPEM.
-const FONTFORGE: &[u8] = &[0xb0, 0x00, 0x2c, 0xb0, 0x00, 0x13, 0x4b];
+/// How font programs of FontForge begin.
+const FONTFORGE: &[Sought] = &[
+    Sought::Push("PUSHB", 0),
+    Sought::Plain("FDEF"),
+    Sought::Push("PUSHB", 0),
+    Sought::Plain("SZP0"),
+    Sought::Plain("MPPEM"),
+];
 
 /// What to do where ttfautohint looks for widths of stems which a style doesn't have.
 const NO_WIDTHS: &str =
@@ -56,99 +72,145 @@ struct Sign {
     maker: Maker,
     /// For which reasons the program is refused: one of these two.
     reasons: [Reason; 2],
-    /// The bytes of these instructions.
-    bytes: &'static [u8],
-    /// How many of them are before the place.
+    /// These instructions.
+    instructions: &'static [Sought],
+    /// How many bytes of them are before the place.
     before: u32,
     /// What to do.
     advice: &'static str,
 }
 
+/// A control value, scaled, is the index of another one.
+const INDEX_FROM_VALUE: &[Sought] = &[
+    Sought::Plain("RS"),
+    Sought::Plain("RCVT"),
+    Sought::Plain("MUL"),
+    Sought::Plain("RCVT"),
+];
+
+/// A loop over widths, which begins at such an index.
+const LOOP_OVER_WIDTHS: &[Sought] = &[
+    Sought::Plain("DUP"),
+    Sought::Plain("RCVT"),
+    Sought::Plain("DUP"),
+    Sought::Push("PUSHB", 4),
+    Sought::Plain("CINDEX"),
+    Sought::Plain("SUB"),
+    Sought::Plain("ABS"),
+    Sought::Plain("DUP"),
+];
+
+/// A loop that scales control values.
+const LOOP_THAT_SCALES: &[Sought] = &[
+    Sought::Plain("DUP"),
+    Sought::Plain("DUP"),
+    Sought::Plain("RCVT"),
+    Sought::Plain("DUP"),
+    Sought::Push("PUSHB", 11),
+    Sought::Plain("RS"),
+    Sought::Plain("MUL"),
+    Sought::Push("PUSHW", 1024),
+    Sought::Plain("DIV"),
+];
+
+/// The width of a stem is stored.
+const WIDTH_STORED: &[Sought] = &[
+    Sought::Plain("DUP"),
+    Sought::Plain("ABS"),
+    Sought::Push("PUSHB", 22),
+    Sought::Plain("RS"),
+    Sought::Plain("SWAP"),
+    Sought::Plain("WS"),
+];
+
+/// The width of a stem is stored by another function.
+const OTHER_WIDTH_STORED: &[Sought] = &[
+    Sought::Plain("DUP"),
+    Sought::Push("PUSHB", 2),
+    Sought::Plain("RS"),
+    Sought::Plain("SWAP"),
+    Sought::Plain("WS"),
+];
+
+/// Where two ways of function 20 meet.
+const END_OF_FUNCTION_20: &[Sought] = &[
+    Sought::Push("PUSHB", 25),
+    Sought::Plain("NEG"),
+    Sought::Plain("JMPR"),
+    Sought::Plain("POP"),
+    Sought::Plain("EIF"),
+    Sought::Plain("ELSE"),
+    Sought::Plain("POP"),
+    Sought::Plain("POP"),
+    Sought::Plain("EIF"),
+    Sought::Plain("ENDF"),
+];
+
 /// The signs of the faults that are known.
 const SIGNS: &[Sign] = &[
-    // RS, RCVT, MUL, RCVT: a control value, scaled, is the index of another one.
     Sign {
         maker: Maker::Ttfautohint,
         reasons: [Reason::UnknownOperand, Reason::Cvt],
-        bytes: &[0x43, 0x45, 0x63, 0x45],
+        instructions: INDEX_FROM_VALUE,
         before: 3,
         advice: NO_WIDTHS,
     },
-    // DUP, RCVT, DUP, PUSHB 4, CINDEX, SUB, ABS, DUP: a loop over widths, which begins at such an index.
     Sign {
         maker: Maker::Ttfautohint,
         reasons: [Reason::UnknownOperand, Reason::Cvt],
-        bytes: &[0x20, 0x45, 0x20, 0xb0, 0x04, 0x25, 0x61, 0x64, 0x20],
+        instructions: LOOP_OVER_WIDTHS,
         before: 1,
         advice: NO_WIDTHS,
     },
-    // DUP, DUP, RCVT, DUP, PUSHB 11, RS, MUL, PUSHW 1024, DIV: a loop that scales control values.
     Sign {
         maker: Maker::Ttfautohint,
         reasons: [Reason::Cvt, Reason::Cvt],
-        bytes: &[
-            0x20, 0x20, 0x45, 0x20, 0xb0, 0x0b, 0x43, 0x63, 0xb8, 0x04, 0x00, 0x62,
-        ],
+        instructions: LOOP_THAT_SCALES,
         before: 2,
         advice: WRONG_COUNT,
     },
-    // DUP, ABS, PUSHB 22, RS, SWAP, WS: the width of a stem is stored.
     Sign {
         maker: Maker::Ttfautohint,
         reasons: [Reason::Storage, Reason::Storage],
-        bytes: &[0x20, 0x64, 0xb0, 0x16, 0x43, 0x23, 0x42],
+        instructions: WIDTH_STORED,
         before: 6,
         advice: NO_ROOM,
     },
-    // DUP, PUSHB 2, RS, SWAP, WS: the same in another function.
     Sign {
         maker: Maker::Ttfautohint,
         reasons: [Reason::Storage, Reason::Storage],
-        bytes: &[0x20, 0xb0, 0x02, 0x43, 0x23, 0x42],
+        instructions: OTHER_WIDTH_STORED,
         before: 5,
         advice: NO_ROOM,
     },
-    // PUSHB 25, NEG, JMPR, POP, EIF, ELSE, POP, POP, EIF, ENDF: where two ways of function 20 meet.
     Sign {
         maker: Maker::FontForge,
         reasons: [Reason::DepthMismatch, Reason::DepthMismatch],
-        bytes: &[
-            0xb0, 0x19, 0x65, 0x1c, 0x21, 0x59, 0x1b, 0x21, 0x21, 0x59, 0x2d,
-        ],
+        instructions: END_OF_FUNCTION_20,
         before: 10,
         advice: FUNCTION_20,
     },
 ];
 
-/// Returns the rest of these bytes after the instruction at an offset of a program, if they begin with
-/// it, and the offset after it.
-fn rest_after<'a>(program: &Program<'_>, offset: u32, bytes: &'a [u8]) -> Option<(u32, &'a [u8])> {
+/// Returns the offset after the instruction at an offset of a program, if it is this one.
+fn after(program: &Program<'_>, offset: u32, sought: Sought) -> Option<u32> {
     let found = program.at(offset)?.bytes();
-    let count = found.len();
-    if bytes.get(..count)? != found {
+    if !is_sought(found, sought) {
         return None;
     }
-    let after = offset.checked_add(u32::try_from(count).ok()?)?;
-    Some((after, bytes.get(count..)?))
+    offset.checked_add(u32::try_from(found.len()).ok()?)
 }
 
-/// Whether a program has instructions of just these bytes from an offset on.
-fn has_at(program: &Program<'_>, offset: u32, bytes: &[u8]) -> bool {
+/// Whether a program has these instructions, and no others between them, from an offset on.
+fn has_at(program: &Program<'_>, offset: u32, instructions: &[Sought]) -> bool {
     let mut at = offset;
-    let mut left = bytes;
-    for _ in 0..bytes.len() {
-        if left.is_empty() {
-            break;
-        }
-        match rest_after(program, at, left) {
-            Some((after, rest)) => {
-                at = after;
-                left = rest;
-            }
-            None => return false,
-        }
+    for sought in instructions {
+        let Some(next) = after(program, at, *sought) else {
+            return false;
+        };
+        at = next;
     }
-    left.is_empty()
+    true
 }
 
 /// Whether a font program begins as those of this maker do.
@@ -168,7 +230,7 @@ fn has_sign(sign: &Sign, setting: &Setting<'_>, site: Site, reason: Reason) -> b
     let [one, other] = sign.reasons;
     (reason == one || reason == other)
         && is_by(sign.maker, setting.font)
-        && has_at(code_of(setting, site.spot), start, sign.bytes)
+        && has_at(code_of(setting, site.spot), start, sign.instructions)
 }
 
 /// Whether a font declares no room at all for its programs.

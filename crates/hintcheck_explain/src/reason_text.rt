@@ -21,8 +21,8 @@ fn meaning_of_program(reason: Reason) -> &'static str {
         }
         Reason::ProgramTooLong => "a glyph program has more bytes than maxSizeOfInstructions.",
         Reason::Opcode => {
-            "the byte is the code of no instruction, or of one that isn't followed: 0x91, 0x92, or \
-            one that an IDEF defines."
+            "the byte is the code of no instruction, or of one that isn't followed: GETVARIATION, \
+            GETDATA, or one that an IDEF defines."
         }
         Reason::InstructionDefinition => "the program comes to an IDEF.",
         Reason::Recursion => "a call enters the body of a function that is running already.",

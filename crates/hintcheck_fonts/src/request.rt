@@ -19,7 +19,7 @@ use tt_family::Budget;
 use tt_font::Font;
 
 /// By which profile a font is judged, and how much may be done for it.
-#[derive(Clone, Copy, Debug, PartialEq, Eq)]
+#[derive(Clone, Copy)]
 pub enum Request {
     /// The strict profile, without further premises. How many points may be made is said by a
     /// budget, which goes from font to font.

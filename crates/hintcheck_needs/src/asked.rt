@@ -14,7 +14,7 @@ use tt_family::Budget;
 use tt_font::Font;
 
 /// Which numbers of a font are asked for.
-#[derive(Clone, Copy, Debug, PartialEq, Eq)]
+#[derive(Clone, Copy, PartialEq, Eq)]
 pub enum Asked {
     /// Those that a program passes: the verdict on the font, with its own numbers, refuses it for
     /// the reason that names the number.

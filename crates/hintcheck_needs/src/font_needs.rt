@@ -26,7 +26,7 @@ const TIMES: u64 = 10;
 const FEW_STEPS: u64 = 1_000_000;
 
 /// What a font needs of one number, and what it declares.
-#[derive(Clone, Copy, Debug, PartialEq, Eq)]
+#[derive(Clone, Copy)]
 pub struct Need {
     /// Which number it is.
     pub bound: Bound,

@@ -13,7 +13,7 @@ use tt_family::Budget;
 use tt_font::Font;
 
 /// Numbers of which one is the least that is enough, as far as verdicts tell.
-#[derive(Clone, Copy, Debug, PartialEq, Eq)]
+#[derive(Clone, Copy, PartialEq, Eq)]
 pub(crate) struct Range {
     /// The number before it, if there is one, isn't enough.
     pub(crate) least: u16,

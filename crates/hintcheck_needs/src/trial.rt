@@ -29,7 +29,7 @@ pub(crate) struct Trial {
 }
 
 /// What a verdict with another number tells.
-#[derive(Clone, Copy, Debug, PartialEq, Eq)]
+#[derive(Clone, Copy, PartialEq, Eq)]
 pub(crate) enum Told {
     /// It refuses the programs that it is to refuse, each at the same place for the same reason.
     Same,

@@ -7,7 +7,7 @@ pub use hintcheck_report::{Name, Place, Refused};
 use std::marker::Model;
 
 /// What comes of one program of a font: nothing, where it is accepted, or why it is refused.
-#[derive(Clone, Copy, Debug, PartialEq, Eq)]
+#[derive(Clone, Copy)]
 pub struct Outcome {
     pub program: Name,
     pub refused: Option<Refused>,

@@ -7,7 +7,7 @@ ghost use Rattle.hintcheck_report.specs.Bounds.{cvt_count_with, declared_number,
 use tt_code::Limits;
 
 /// A number of a font that bounds what its programs may use.
-#[derive(Clone, Copy, Debug, PartialEq, Eq)]
+#[derive(Clone, Copy, PartialEq, Eq)]
 pub enum Bound {
     /// maxStackElements of `maxp`: how deep the stack may be.
     StackElements,

@@ -8,7 +8,7 @@ use tt_code::Reason;
 use tt_setting::{Name, Spot};
 
 /// An offset in a program.
-#[derive(Clone, Copy, Debug, PartialEq, Eq)]
+#[derive(Clone, Copy, PartialEq, Eq)]
 pub struct Place {
     /// The program in which the offset is: for a function's instruction the one in which its body
     /// is.
@@ -51,7 +51,7 @@ pub fn program_at(name: Name, spot: Spot) -> Name
 }
 
 /// A program that is refused, with where and why.
-#[derive(Clone, Copy, Debug, PartialEq, Eq)]
+#[derive(Clone, Copy)]
 pub struct Refused {
     pub program: Name,
     pub place: Place,

@@ -19,7 +19,7 @@ const VERSION: &str = "0.9.0 (rattle-kit-13f logic dac8208d650f15bf)";
 /// The limit is a number of steps. The symbolic profile makes one each time that it carries a state
 /// over an instruction, and the strict one each time that it carries a state on from a place of a
 /// program.
-#[derive(Clone, Copy, Debug, PartialEq, Eq)]
+#[derive(Clone, Copy, Debug)]
 pub enum Profile {
     /// The strict profile, which has no further premises and gives up values that are computed.
     Strict {
@@ -112,7 +112,7 @@ pub enum AskedNeeds {
 }
 
 /// How the font files of a scan are checked, and what is printed of them.
-#[derive(Clone, Copy, Debug, PartialEq, Eq)]
+#[derive(Clone, Copy, Debug)]
 pub struct ScanOptions {
     /// By which profile each font is checked.
     pub profile: Profile,
@@ -147,7 +147,7 @@ pub struct ScanTexts {
 }
 
 /// How the programs of a font file are checked for their verdict, and what is printed of it.
-#[derive(Clone, Copy, Debug, PartialEq, Eq)]
+#[derive(Clone, Copy, Debug)]
 pub struct VerdictOptions {
     /// By which profile they are checked.
     pub profile: Profile,
@@ -160,7 +160,7 @@ pub struct VerdictOptions {
 }
 
 /// How a program of a font file is explained.
-#[derive(Clone, Copy, Debug, PartialEq, Eq)]
+#[derive(Clone, Copy, Debug)]
 pub struct ExplainOptions {
     /// By which profile it is checked.
     pub profile: Profile,
@@ -173,7 +173,7 @@ pub struct ExplainOptions {
 }
 
 /// How the instructions of a program are listed.
-#[derive(Clone, Copy, Debug, PartialEq, Eq)]
+#[derive(Clone, Copy, Debug)]
 pub struct ListOptions {
     /// What is listed of each of them.
     pub detail: Detail,
@@ -184,7 +184,7 @@ pub struct ListOptions {
 }
 
 /// How a font's certificate is found or checked.
-#[derive(Clone, Copy, Debug, PartialEq, Eq)]
+#[derive(Clone, Copy, Debug)]
 pub struct CertificateOptions {
     /// How many steps the strict profile may make; None for as many as it takes.
     pub max_steps: Option<u64>,

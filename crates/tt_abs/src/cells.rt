@@ -10,7 +10,7 @@ use std::default::MadeWith;
 use tt_setting::ZoneCell;
 
 /// What is known of a number: the number itself, or nothing.
-#[derive(Clone, Copy, Debug, PartialEq, Eq)]
+#[derive(Clone, Copy, PartialEq, Eq)]
 pub enum Cell {
     /// This number.
     Known(i32),

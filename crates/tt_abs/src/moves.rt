@@ -9,7 +9,7 @@ ghost use Rattle.tt_abs.specs.Moves.{nexts_of, ways_of};
 use tt_code::Frame;
 
 /// Where a program goes on.
-#[derive(Clone, Copy, Debug, PartialEq, Eq)]
+#[derive(Clone, Copy)]
 pub enum Move {
     /// To an offset of the same body, or to the main program's end.
     To(u32),
@@ -23,7 +23,7 @@ pub enum Move {
 
 /// The ways in which a program may go on, all with one state: a short list, which is read by
 /// `first` and `get`.
-#[derive(Clone, Copy, Debug, PartialEq, Eq)]
+#[derive(Clone, Copy)]
 pub enum Moves {
     /// To one place.
     One(Move),

@@ -7,7 +7,7 @@ ghost use Rattle.tt_cert.specs.Forms.{IsFormNumber, form_number, form_numbered, 
 pub const NEWEST_FORM: u16 = 4;
 
 /// A form of certificate files. Form 4 is written, all are read.
-#[derive(Clone, Copy, Debug, PartialEq, Eq)]
+#[derive(Clone, Copy, PartialEq, Eq)]
 pub enum Form {
     /// Each state is listed, without its storage cells; at most 4,095 contexts besides the main
     /// one.

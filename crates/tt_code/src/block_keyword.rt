@@ -2,7 +2,7 @@
 //! "Managing the flow of control", "Defining and using functions and instructions").
 
 /// What an instruction is for a program's structure: one of six keywords, or none of them.
-#[derive(Clone, Copy, Debug, PartialEq, Eq)]
+#[derive(Clone, Copy, PartialEq, Eq)]
 pub enum BlockKeyword {
     /// IF, which begins a conditional part.
     If,

@@ -210,7 +210,7 @@ pub enum Control {
 
 /// What the machine with control values says more of an instruction than the hint machine, to which
 /// control values, and these results, are any numbers.
-#[derive(Clone, Copy, Debug, PartialEq, Eq)]
+#[derive(Clone, Copy, PartialEq, Eq)]
 pub enum Refinement {
     /// RCVT: reads a control value.
     ReadsControl,
@@ -238,7 +238,7 @@ pub enum Refinement {
 
 /// What an instruction writes of the memory that programs share: the storage area and the control
 /// values.
-#[derive(Clone, Copy, Debug, PartialEq, Eq)]
+#[derive(Clone, Copy, PartialEq, Eq)]
 pub enum Written {
     /// WS: the storage cell whose index is under the top.
     StorageCell,

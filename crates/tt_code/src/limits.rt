@@ -1,7 +1,7 @@
 //! What a font allows its programs (OpenType specification, `maxp`).
 
 /// The limits of the font's `maxp` table, version 1.0 (OpenType specification, `maxp`).
-#[derive(Clone, Copy, Debug, PartialEq, Eq)]
+#[derive(Clone, Copy)]
 pub struct Limits {
     /// maxStorage: how many cells the storage area has.
     pub storage: u16,

@@ -7,7 +7,7 @@ ghost use Rattle.tt_code.specs.States.{pointer as pointer_of, reference as refer
 use crate::kinds::{Pointer, Reference};
 
 /// A call that hasn't returned.
-#[derive(Clone, Copy, Debug, PartialEq, Eq)]
+#[derive(Clone, Copy)]
 pub struct Frame {
     /// The function's body: its offset in the font program, or 2^31 more than its offset in the CVT
     /// program.
@@ -23,7 +23,7 @@ pub struct Frame {
 /// The part of the graphics state that decides which points, zones and counts are in range. `N` and
 /// `Z` are numbers and zones in a state of the machine, and what is known of these in an abstract
 /// state.
-#[derive(Clone, Copy, Debug, PartialEq, Eq)]
+#[derive(Clone, Copy)]
 pub struct Graphics<N, Z> {
     /// The point number of the reference point rp0.
     pub rp0: N,
@@ -88,7 +88,7 @@ impl<N: Copy, Z: Copy> Graphics<N, Z> {
 }
 
 /// Which part of a program an instruction belongs to.
-#[derive(Clone, Copy, Debug, PartialEq, Eq)]
+#[derive(Clone, Copy, PartialEq, Eq)]
 pub enum Body {
     /// Outside all definitions: an FDEF or IDEF itself is still outside.
     Main,

@@ -79,7 +79,7 @@ pub enum Reason {
 }
 
 /// What a reason tells the font's maker.
-#[derive(Clone, Copy, Debug, PartialEq, Eq, Drop)]
+#[derive(Clone, Copy, PartialEq, Eq, Drop)]
 pub enum ReasonClass {
     /// The bytes are no program, or too many (20 to 22); or what is known at the place doesn't rule
     /// the fault out: a run may reach it.

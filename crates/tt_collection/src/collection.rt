@@ -48,7 +48,7 @@ fn header_length(bytes: &[u8]) -> usize
 }
 
 /// A font collection, whose header was read. Its faces are numbered from 0.
-#[derive(Clone, Copy, Debug)]
+#[derive(Clone, Copy)]
 pub struct Collection<'a> {
     /// The whole file.
     pub bytes: &'a [u8],

@@ -9,7 +9,7 @@ use std::error::Error;
 use std::fmt;
 
 /// Why a file isn't read as a font collection, or one of its faces isn't unpacked.
-#[derive(Clone, Copy, Debug, PartialEq, Eq, Drop)]
+#[derive(Clone, Copy, Debug, Drop)]
 pub enum CollectionFault {
     /// The file doesn't begin with `ttcf` and the version 1.0 or 2.0.
     NotCollection,

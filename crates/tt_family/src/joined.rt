@@ -4,7 +4,7 @@ ghost use Rattle.std.specs.Prelude.{◌≡◌, ◌≢◌};
 ghost use Rattle.tt_family.specs.Joins.{is_change as is_change_of};
 
 /// What putting a state makes of the one at its point.
-#[derive(Clone, Copy, Debug, PartialEq, Eq)]
+#[derive(Clone, Copy, PartialEq, Eq)]
 pub enum Joined {
     /// There was none, and now this one is there.
     New,

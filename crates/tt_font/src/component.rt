@@ -29,7 +29,7 @@ const WE_HAVE_INSTRUCTIONS: u16 = 0x0100;
 
 /// One of the glyphs of which a composite glyph is made (OpenType specification, `glyf`, "Composite
 /// glyph description").
-#[derive(Clone, Copy, Debug, PartialEq, Eq)]
+#[derive(Clone, Copy)]
 pub struct Component {
     /// Its flags, which say what follows.
     pub flags: u16,
@@ -83,7 +83,7 @@ impl Component {
 }
 
 /// Reads the components of glyphs, and counts how often it does.
-#[derive(Debug, Drop)]
+#[derive(Drop)]
 pub struct ComponentReader {
     /// How many components have been read, one that is read again counted again.
     reads: u64,

@@ -23,7 +23,7 @@ pub(crate) struct Directory<'a> {
 }
 
 /// Where a table is in the file.
-#[derive(Clone, Copy, PartialEq, Eq)]
+#[derive(Clone, Copy)]
 pub(crate) struct Extent {
     /// The offset in the file at which the table begins, in bytes.
     offset: u32,

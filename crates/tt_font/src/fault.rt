@@ -10,7 +10,7 @@ use std::error::Error;
 use std::fmt;
 
 /// Why the bytes of a file aren't a font whose programs can be checked.
-#[derive(Clone, Copy, Debug, PartialEq, Eq, Drop)]
+#[derive(Clone, Copy, Debug, Drop)]
 pub enum FontFault {
     /// The file doesn't begin with a version of TrueType outlines.
     NotSfnt,

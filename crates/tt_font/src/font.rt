@@ -54,7 +54,7 @@ fn program_facts(program: &[u8])
 
 /// A font file, read: the limits of its programs, and its programs as slices of the file (OpenType
 /// specification, "Font tables").
-#[derive(Debug)]
+
 pub struct Font<'a> {
     /// What the font allows its programs.
     limits: Limits,

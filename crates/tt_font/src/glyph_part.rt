@@ -1,7 +1,7 @@
 //! What is kept of a glyph (OpenType specification, `glyf`).
 
 /// A glyph of a font: how many points and contours it has, and its program.
-#[derive(Clone, Copy, Debug, PartialEq, Eq)]
+#[derive(Clone, Copy)]
 pub struct GlyphPart<'a> {
     /// How many points the glyph has: its own, or those of all its components, phantom points not
     /// counted.

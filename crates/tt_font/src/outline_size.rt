@@ -13,7 +13,7 @@ use crate::glyph::{is_composite, simple_contours, simple_points};
 const TOO_MANY: u32 = 65536;
 
 /// The size of a glyph's outline, as far as it is known after some iterations.
-#[derive(Clone, Copy, Debug, PartialEq, Eq)]
+#[derive(Clone, Copy, PartialEq, Eq)]
 pub(crate) struct OutlineSize {
     /// Whether a chain of its components leads to a number that is no glyph's, or has more steps
     /// than there were iterations.

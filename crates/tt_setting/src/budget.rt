@@ -7,7 +7,7 @@ use crate::exhausted::Exhausted;
 
 /// A bound on the points that finders and checks make: one is made each time that a state is
 /// carried on. It goes from program to program, and from call to call, as long as it is handed on.
-#[derive(Clone, Copy, Debug)]
+#[derive(Clone, Copy)]
 pub struct Budget {
     /// How many points may be made in all.
     most: u64,

@@ -3,7 +3,7 @@
 use std::fmt;
 
 /// A program of a font.
-#[derive(Clone, Copy, Debug, PartialEq, Eq)]
+#[derive(Clone, Copy, PartialEq, Eq)]
 pub enum Name {
     /// The font program, `fpgm`.
     Font,

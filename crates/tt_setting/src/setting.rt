@@ -24,7 +24,7 @@ const PHANTOM_POINTS: u32 = 4;
 const CVT_BODIES: u32 = 1 << 31;
 
 /// Which program runs.
-#[derive(Clone, Copy, Debug, PartialEq, Eq)]
+#[derive(Clone, Copy)]
 pub enum Kind {
     /// The font program, `fpgm`.
     Font,

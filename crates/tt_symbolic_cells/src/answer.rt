@@ -3,7 +3,7 @@
 use tt_symbolic_state::cell::{Cell, Range};
 
 /// What is known of a number that an instruction computes.
-#[derive(Clone, Copy, Debug, PartialEq, Eq)]
+#[derive(Clone, Copy)]
 pub enum Answer {
     /// It is this cell's value.
     Exactly(Cell),

@@ -16,7 +16,7 @@ use tt_symbolic_state::cell::{
 };
 
 /// An instruction whose result the machine with control values fixes.
-#[derive(Clone, Copy, Debug, PartialEq, Eq)]
+#[derive(Clone, Copy, PartialEq, Eq)]
 pub enum Exact {
     /// MAX.
     Greatest,

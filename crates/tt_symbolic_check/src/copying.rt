@@ -11,7 +11,7 @@ use tt_symbolic_state::stack::Stack;
 use tt_symbolic_state::state::State;
 
 /// Where a symbol's range is split.
-#[derive(Clone, Copy, Debug, PartialEq, Eq)]
+#[derive(Clone, Copy)]
 pub struct Split {
     /// The symbol.
     pub symbol: u32,

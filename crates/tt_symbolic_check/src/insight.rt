@@ -6,7 +6,7 @@ use tt_symbolic_state::cell::Cell;
 use tt_symbolic_state::state::State;
 
 /// What is asked of a program that is searched.
-#[derive(Clone, Copy, Debug, PartialEq, Eq)]
+#[derive(Clone, Copy)]
 pub struct Question {
     /// Where an instruction begins, of the main program or of a function that it calls, if what is
     /// known there is asked for.
@@ -36,7 +36,7 @@ fn holder(kind: Kind, spot: Spot) -> Spot {
 }
 
 /// Where a number comes from that isn't known, as far as the search tells.
-#[derive(Clone, Copy, Debug, PartialEq, Eq)]
+#[derive(Clone, Copy)]
 pub enum SymbolOrigin {
     /// The instruction at this place makes it, or reads it where nothing is known of it.
     Made(Site),

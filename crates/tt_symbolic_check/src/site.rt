@@ -9,7 +9,7 @@ use tt_setting::{Refusal, Spot, StepFault};
 use tt_symbolic_state::state::State;
 
 /// Where a state is: in which program, and at which offset there.
-#[derive(Clone, Copy, Debug, PartialEq, Eq)]
+#[derive(Clone, Copy)]
 pub struct Site {
     /// The main program, or the program in which the function is that runs.
     pub spot: Spot,

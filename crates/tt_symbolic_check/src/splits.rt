@@ -10,7 +10,7 @@ use tt_symbolic_state::state::State;
 const MOST_FUNCTIONS: i64 = 16;
 
 /// What an instruction decides by numbers that a split can tell apart.
-#[derive(Clone, Copy, Debug, PartialEq, Eq)]
+#[derive(Clone, Copy, PartialEq, Eq)]
 pub enum Decision {
     /// LT and GTEQ: whether the first number is less than the second.
     IsLess,

@@ -90,7 +90,7 @@ impl Symbols {
 }
 
 /// Whether cells that have a symbol in common are to have one in common still.
-#[derive(Clone, Copy, Debug, PartialEq, Eq)]
+#[derive(Clone, Copy, PartialEq, Eq)]
 pub(crate) enum Sharing {
     /// They are.
     Kept,
@@ -180,7 +180,7 @@ pub(crate) fn is_wide(range: Option<Range>, width: i64) -> bool {
 }
 
 /// A memory area.
-#[derive(Clone, Copy, Debug, PartialEq, Eq)]
+#[derive(Clone, Copy, PartialEq, Eq)]
 pub(crate) enum Area {
     /// The storage area.
     Storage,

@@ -1,7 +1,7 @@
 //! Names of the cells of states, which are the same wherever a body is called from.
 
 /// Which cell of a state it is.
-#[derive(Clone, Copy, Debug, PartialEq, Eq, Hash)]
+#[derive(Clone, Copy, PartialEq, Eq, Hash)]
 pub(crate) enum Part {
     /// How many turns are left of a call of the body.
     Left,
@@ -22,7 +22,7 @@ pub(crate) enum Part {
 }
 
 /// A cell of the states in a body.
-#[derive(Clone, Copy, Debug, PartialEq, Eq, Hash)]
+#[derive(Clone, Copy, PartialEq, Eq, Hash)]
 pub(crate) struct CellName {
     /// The name of the body; none is the main program.
     pub body: Option<u32>,

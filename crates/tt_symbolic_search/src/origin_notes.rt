@@ -11,7 +11,7 @@ use tt_symbolic_state::State;
 pub(crate) const FIRST_MAKER: OriginNumber = 1 << 31;
 
 /// An offset of a body.
-#[derive(Clone, Copy, Debug, PartialEq, Eq, Hash)]
+#[derive(Clone, Copy, PartialEq, Eq, Hash)]
 pub(crate) struct Point {
     /// The name of the body; none is the main program.
     pub body: Option<u32>,
@@ -41,7 +41,7 @@ impl Point {
 }
 
 /// A merge of two numbers.
-#[derive(Clone, Copy, Debug, PartialEq, Eq)]
+#[derive(Clone, Copy)]
 pub(crate) struct Meeting {
     /// Where it was.
     pub at: Point,

@@ -41,7 +41,7 @@ pub(crate) fn origin_in(origins: &[OriginNumber], cell: Cell) -> OriginNumber {
 }
 
 /// What made a symbol.
-#[derive(Clone, Copy, Debug, PartialEq, Eq, Hash)]
+#[derive(Clone, Copy, PartialEq, Eq, Hash)]
 struct Origin {
     /// The cell that was merged; none where an instruction computed it.
     merged: Option<CellName>,
@@ -65,7 +65,7 @@ pub(crate) struct Origins {
 }
 
 /// Which merges are looked for.
-#[derive(Clone, Copy, Debug, PartialEq, Eq)]
+#[derive(Clone, Copy, PartialEq, Eq)]
 pub(crate) enum Wanted {
     /// Those that lost a known number.
     LostNumbers,

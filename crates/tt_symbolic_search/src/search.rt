@@ -42,7 +42,7 @@ const MOVES_PER_STEP: u64 = 1 << 14;
 const MORE_MOVES: u64 = 1 << 30;
 
 /// How much may be done for a program.
-#[derive(Clone, Copy, Debug, PartialEq, Eq)]
+#[derive(Clone, Copy)]
 pub struct Effort {
     /// How many steps all walks of it may have together.
     pub steps: u64,

@@ -249,7 +249,7 @@ fn origin_of_result(
 }
 
 /// Where a step has led.
-#[derive(Clone, Copy, Debug, PartialEq, Eq)]
+#[derive(Clone, Copy, PartialEq, Eq)]
 pub(crate) enum Led {
     /// On.
     On,

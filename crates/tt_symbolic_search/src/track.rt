@@ -13,7 +13,7 @@ use tt_symbolic_state::cell::Cell;
 const MOST_REMEMBERED: usize = 24;
 
 /// What is known of the main program, or of a call that hasn't returned.
-#[derive(Clone, Copy, Debug, PartialEq, Eq)]
+#[derive(Clone, Copy)]
 pub(crate) struct Level {
     /// How many turns of calls, and jumps back, it has seen.
     pub turn: u32,

@@ -12,7 +12,7 @@ use tt_symbolic_state::State;
 const MOST_SPARE: usize = 32;
 
 /// For what a state waits.
-#[derive(Clone, Copy, Debug, PartialEq, Eq)]
+#[derive(Clone, Copy, PartialEq, Eq)]
 pub(crate) enum Purpose {
     /// It is a start, or a part of a split state: it is joined with no other.
     Part,

@@ -6,7 +6,7 @@ ghost use Rattle.tt_code.specs.States.{is_number};
 ghost use Rattle.tt_code.specs.Computing.{equal};
 
 /// A number that is known up to a symbol: `factor * symbol + offset`.
-#[derive(Clone, Copy, Debug, PartialEq, Eq)]
+#[derive(Clone, Copy, PartialEq, Eq)]
 pub struct Cell {
     /// The symbol's number. Where the factor is 0 the cell has no symbol.
     pub symbol: u32,
@@ -17,7 +17,7 @@ pub struct Cell {
 }
 
 /// The numbers from `low` to `high`.
-#[derive(Clone, Copy, Debug, PartialEq, Eq)]
+#[derive(Clone, Copy, PartialEq, Eq)]
 pub struct Range {
     /// The least number.
     pub low: i32,

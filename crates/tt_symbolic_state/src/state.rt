@@ -12,7 +12,7 @@ use tt_code::{Graphics, Reason};
 use tt_setting::{SortedMap, StepFault};
 
 /// The zone that a pointer names.
-#[derive(Clone, Copy, Debug, PartialEq, Eq)]
+#[derive(Clone, Copy, PartialEq, Eq)]
 pub enum Zone {
     /// The twilight zone.
     Zero,
@@ -21,7 +21,7 @@ pub enum Zone {
 }
 
 /// A call that hasn't returned.
-#[derive(Clone, Copy, Debug, PartialEq, Eq)]
+#[derive(Clone, Copy)]
 pub struct OpenCall {
     /// The name of the body that runs.
     pub body: u32,

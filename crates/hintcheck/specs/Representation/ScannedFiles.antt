@@ -1,7 +1,7 @@
 -- What a scan prints of font files, as the code hands it on.
 use Rattle.std.specs.Prelude.{◌≡◌, ℕ, All, List, length, Option}
 use Rattle.hintcheck.specs.FontLabels.{AreOf, Label}
-use Rattle.hintcheck.specs.Representation.Known.{are_alone, is_known_by}
+use Rattle.hintcheck.specs.Representation.Known.{are_alone, is_listed_by}
 use Rattle.hintcheck.specs.ScannedNames.{HoldsOfLabels}
 use Rattle.hintcheck.specs.Scans.{PrintsScan}
 use Rattle.hintcheck.specs.declared.commands.font_label.FontLabel.{FontLabel}
@@ -14,7 +14,7 @@ label_of l = record { file = l.file.now; face = l.face }
 -- font files with these labels were scanned as planned
 abbrev pub ScansLabels : Plan → List Label → ℕ → Option (List ℕ) → Option (List ℕ) → Type 0
 ScansLabels plan labels status old new = PrintsScan plan.options
-    (are_alone plan.options plan.known.now) (is_known_by plan.known.now) labels status old new
+    (are_alone plan.options plan.known.now) (is_listed_by plan.known.now) labels status old new
 
 -- the font file with this name was scanned as planned, as one or by faces
 abbrev pub ScansFile : Plan → List ℕ → ℕ → Option (List ℕ) → Option (List ℕ) → Type 0

@@ -8,7 +8,6 @@ use hintcheck_certificates::certificate_upgrade::UpgradeFault;
 use hintcheck_report::AnswerFault;
 use hintcheck_words::{TaskFault, WordFault};
 use std::alloc::AllocError;
-use std::error::Error;
 use std::io::ErrorKind;
 use std::{fmt, io};
 use tt_abs::Exhausted;
@@ -23,7 +22,7 @@ const UNREADABLE: u8 = 2;
 const UNFINISHED: u8 = 3;
 
 /// Which word of a command names a file.
-#[derive(Clone, Copy, Debug, PartialEq, Eq)]
+#[derive(Clone, Copy)]
 pub enum FileWord {
     /// That of the font, the first one of several.
     Font,
@@ -39,7 +38,7 @@ pub enum FileWord {
 
 /// What a file holds that is neither a font with TrueType outlines nor a collection, by its first four
 /// bytes.
-#[derive(Clone, Copy, Debug, PartialEq, Eq)]
+#[derive(Clone, Copy, PartialEq, Eq)]
 pub enum Container {
     /// A font with CFF outlines, which have no hint programs of this kind.
     Cff,
@@ -79,7 +78,7 @@ impl fmt::Display for Container {
 }
 
 /// Why a file can't be opened.
-#[derive(Clone, Copy, Debug, PartialEq, Eq)]
+#[derive(Clone, Copy, PartialEq, Eq)]
 pub enum Unopened {
     /// No file has the name.
     NotFound,
@@ -116,7 +115,7 @@ impl fmt::Display for Unopened {
 
 /// Why a command gives no answer. Its text is the line for the user, after `fault: `; what more helps
 /// is in its note.
-#[derive(Debug, Drop)]
+#[derive(Drop)]
 pub enum CommandFault {
     /// The words aren't those of the command line. The text is clap's, and is printed alone.
     Usage(TaskFault),
@@ -262,8 +261,6 @@ impl fmt::Display for WholeFault<'_> {
         }
     }
 }
-
-impl Error for CommandFault {}
 
 impl From<PrintFailed> for CommandFault {
     ghost use Rattle.hintcheck.specs.Commands.{fault_of_print};

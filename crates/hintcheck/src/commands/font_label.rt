@@ -6,7 +6,7 @@ ghost use Rattle.std.specs.Prelude.{◌≡◌, None};
 use std::fmt;
 
 /// What a font file is called: as text `uming.ttc#2`.
-#[derive(Clone, Copy, Debug, PartialEq, Eq)]
+#[derive(Clone, Copy)]
 pub(super) struct FontLabel<'a> {
     /// The name of the file.
     pub file: &'a str,

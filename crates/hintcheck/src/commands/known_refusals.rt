@@ -1,9 +1,9 @@
 //! Which refused programs of a scan are known: those whose lines a file holds; and the files that hold
 //! such lines.
 
-ghost use Rattle.std.specs.Prelude.{◌≡◌, ◌<◌, IfErr, IfOk, None, length, string_bytes};
+ghost use Rattle.std.specs.Prelude.{◌≡◌, ◌<◌, IfErr, IfOk, None, length, option_map, string_bytes};
 ghost use Rattle.hintcheck.specs.Commands.{IsNoWriteFault};
-ghost use Rattle.hintcheck.specs.KnownRefusals.{refusal_line};
+ghost use Rattle.hintcheck.specs.KnownRefusals.{named_line, refusal_line};
 ghost use Rattle.hintcheck.specs.Representation.Known.{are_alone, is_known_by};
 ghost use Rattle.hintcheck.specs.Representation.ScannedFiles.{label_of};
 ghost use Rattle.hintcheck.specs.declared.commands.known_refusals.Known.TheVariants.{Nothing};
@@ -11,6 +11,7 @@ ghost use Rattle.hintcheck.specs.declared.commands.known_refusals.Known.TheVaria
 use super::faults::{CommandFault, FileWord};
 use super::files::{file_bytes, file_numbers, is_same_file};
 use super::font_label::FontLabel;
+use crate::glyph_names::called;
 use crate::instruction_list::{read_name, read_number};
 use hintcheck_programs::report::Refused;
 use hintcheck_words::{AskedNeeds, Format, ScanOptions};
@@ -19,9 +20,11 @@ use std::collections::HashSet;
 use std::fs;
 use std::io::Write;
 use std::rt::Files;
+use tt_names::GlyphNames;
 use tt_stream::{Counted, write_all};
 
-/// Returns the line of a refused program of the font file with this label, without its end.
+/// Returns the line of a refused program of the font file with this label, by the program's name, without
+/// its end.
 pub(super) fn line_of(
     alloc: Global,
     label: FontLabel<'_>,
@@ -35,8 +38,35 @@ pub(super) fn line_of(
     format!(in alloc; "{number} {program} {label}")
 }
 
-/// Whether the text is a line of known refusals: the number of a reason, the name of a program, and
-/// that of a font file, with a space between these.
+/// Returns the line of a refused program of the font file with this label by the name of its glyph, which
+/// a slash precedes, without its end, if the font has a name for it.
+pub(super) fn named_line_of(
+    alloc: Global,
+    label: FontLabel<'_>,
+    names: &GlyphNames<'_>,
+    refused: &Refused,
+) -> Result<Option<String>, AllocError>
+    ensures { IfOk result (λ line. option_map (λ s. string_bytes s) line
+        ≡ named_line (label_of label.entry) names.now.post.now refused.now) }
+{
+    let Some(name) = called(names, refused.program) else {
+        return Ok(None);
+    };
+    let number = refused.reason.number();
+    let line = format!(in alloc; "{number} /{name} {label}")?;
+    Ok(Some(line))
+}
+
+/// Whether the word names a program, or after a slash what can be a glyph.
+fn names_program(word: &str) -> bool {
+    match word.strip_prefix("/") {
+        Some(name) => !name.is_empty() && name.bytes().all(|byte| byte.is_ascii_graphic()),
+        None => read_name(word).is_some(),
+    }
+}
+
+/// Whether the text is a line of known refusals: the number of a reason, the name of a program, or of its
+/// glyph after a slash, and that of a font file, with a space between these.
 fn names_refusal(line: &str) -> bool {
     let Some((number, rest)) = line.split_once(' ') else {
         return false;
@@ -44,7 +74,7 @@ fn names_refusal(line: &str) -> bool {
     let Some((program, _font)) = rest.split_once(' ') else {
         return false;
     };
-    read_number(number).is_some() && read_name(program).is_some()
+    read_number(number).is_some() && names_program(program)
 }
 
 /// Returns the text of the line, if it names a refusal.
@@ -163,6 +193,7 @@ impl Known {
         max_bytes: u64,
     ) -> Result<Known, CommandFault>
         ensures none { IfOk result (λ known. file.entry ≡ None → known ≡ Nothing) }
+        ensures given { IfOk result (λ known. known ≡ Nothing → file.entry ≡ None) }
         ensures unwritten { IfErr result IsNoWriteFault }
     {
         let Some(file) = file else {

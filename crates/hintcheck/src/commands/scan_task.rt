@@ -2,13 +2,14 @@
 
 ghost use Rattle.std.specs.Prelude.{◌≡◌, ◌++◌, ◌∷◌, ◌≤◌, [], false, IfErr, IfOk, map, not, OnOk, option_map, string_bytes};
 ghost use Rattle.std.specs.List.{list_any};
+ghost use Rattle.tt_names.specs.Post.{post_of};
 ghost use Rattle.hintcheck_words.specs.declared.words.Format.TheVariants.{Lines};
 ghost use Rattle.hintcheck_words.specs.Requests.{scan, texts_spelled};
 ghost use Rattle.hintcheck.specs.Representation.Answers.{IsAnswered};
 ghost use Rattle.hintcheck.specs.Commands.{IsNoWriteFault, TellsFailure};
 ghost use Rattle.hintcheck.specs.CommandFaults.{IsFaultOfFontFile};
 ghost use Rattle.hintcheck.specs.KnownRefusals.{fails_for, is_unknown};
-ghost use Rattle.hintcheck.specs.Representation.Known.{are_alone, is_known_by};
+ghost use Rattle.hintcheck.specs.Representation.Known.{are_alone, is_listed_by};
 ghost use Rattle.hintcheck.specs.Representation.ScannedFiles.{ScansFile, ScansFiles, ScansLabels, label_of};
 ghost use Rattle.hintcheck.specs.ScannedNames.{HoldsOfLabels, shown_names};
 ghost use Rattle.hintcheck.specs.Scans.{PrintsScanning, TellsFont, is_silent as is_silent_of, judged as judged_so, names_none, status_of_refused, unread};
@@ -18,7 +19,9 @@ use super::files::file_bytes;
 use super::font_bytes::font_in_file;
 use super::font_label::FontLabel;
 use super::json_objects::{print_fault_object, print_verdict_object};
-use super::known_refusals::{Known, check_names, line_of as refusal_line_of, write_file};
+use super::known_refusals::{
+    Known, check_names, line_of as refusal_line_of, named_line_of, write_file,
+};
 use super::listed_names::listed_names;
 use super::scan_lines::{print_label, print_line};
 use super::scan_more::more_text;
@@ -32,6 +35,7 @@ use std::alloc::{AllocError, Global};
 use std::rt::Files;
 use tt_code::ReasonClass;
 use tt_collection::{Collection, is_collection};
+use tt_names::GlyphNames;
 use tt_stream::Sink;
 
 /// How the font files of a scan are checked and told, and which refused programs are known.
@@ -72,28 +76,38 @@ fn verdict_status(verdict: &Verdict, fail_on: Option<FailOn>) -> u8
     status
 }
 
-/// Whether the refused program of the font file with this label counts, and isn't known. One that is
-/// known is counted, and the line of one that counts is kept where lines are to be written.
+/// Whether the refused program of a font counts, and isn't known, by its name or by that of its glyph.
+/// One that is known is counted, and the line of one that counts is kept where lines are to be written.
 fn note_program(
     alloc: Global,
-    label: FontLabel<'_>,
+    font: ScannedFont<'_>,
+    names: &GlyphNames<'_>,
     refused: &Refused,
     plan: Plan<'_>,
     tally: &mut Tally,
 ) -> Result<bool, CommandFault>
+    requires { names.now.post.now ≡ post_of font.bytes.now }
     ensures unknown { IfOk result (λ unknown. unknown ≡ is_unknown plan.entry.options.fail_on
-        (is_known_by plan.entry.known.now) (label_of label.entry) refused.now) }
+        (is_listed_by plan.entry.known.now) (label_of font.entry.label) font.entry.bytes.now
+        refused.now) }
     ensures unwritten { IfErr result IsNoWriteFault }
 {
     if !does_count(refused, plan.options.fail_on) {
         return Ok(false);
     }
-    let line = refusal_line_of(alloc, label, refused)?;
+    let line = refusal_line_of(alloc, font.label, refused)?;
     tally.add_line(&line)?;
-    if !plan.known.has(&line) {
+    if plan.known.has(&line) {
+        tally.count_known(line)?;
+        return Ok(false);
+    }
+    let Some(named) = named_line_of(alloc, font.label, names, refused)? else {
+        return Ok(true);
+    };
+    if !plan.known.has(&named) {
         return Ok(true);
     }
-    tally.count_known(line)?;
+    tally.count_known(named)?;
     Ok(false)
 }
 
@@ -107,22 +121,22 @@ fn add_refused(others: &mut Vec<Refused>, refused: Refused) -> Result<(), AllocE
     Ok(others.push(refused)?)
 }
 
-/// Returns the refused programs of the font file with this label that count and aren't known.
+/// Returns the refused programs of a font that count and aren't known.
 fn unknown_of(
     alloc: Global,
-    label: FontLabel<'_>,
-    verdict: &Verdict,
+    font: ScannedFont<'_>,
     plan: Plan<'_>,
     tally: &mut Tally,
 ) -> Result<Vec<Refused>, CommandFault>
     ensures some { IfOk result (λ unknown. not (names_none unknown.items)
-        ≡ list_any (is_unknown plan.entry.options.fail_on (is_known_by plan.entry.known.now)
-        (label_of label.entry)) verdict.now.refused) }
+        ≡ list_any (is_unknown plan.entry.options.fail_on (is_listed_by plan.entry.known.now)
+        (label_of font.entry.label) font.entry.bytes.now) font.entry.judged.now.verdict.refused) }
     ensures unwritten { IfErr result IsNoWriteFault }
 {
+    let names = GlyphNames::of(alloc, font.bytes)?;
     let mut unknown = Vec::new(alloc);
-    for refused in verdict.refused() {
-        if note_program(alloc, label, refused, plan, tally)? {
+    for refused in font.judged.verdict.refused() {
+        if note_program(alloc, font, &names, refused, plan, tally)? {
             add_refused(&mut unknown, *refused)?;
         }
     }
@@ -138,19 +152,20 @@ struct Noted {
     unknown: Vec<Refused>,
 }
 
-/// Notes the verdict on the font file with this label.
+/// Notes the verdict on a font.
 fn note_verdict(
     alloc: Global,
-    label: FontLabel<'_>,
-    verdict: &Verdict,
+    font: ScannedFont<'_>,
     plan: Plan<'_>,
     tally: &mut Tally,
 ) -> Result<Noted, CommandFault>
     ensures status { IfOk result (λ noted. noted.status
         ≡ status_of_refused (is_unknown plan.entry.options.fail_on
-        (is_known_by plan.entry.known.now) (label_of label.entry)) verdict.now.refused) }
+        (is_listed_by plan.entry.known.now) (label_of font.entry.label) font.entry.bytes.now)
+        font.entry.judged.now.verdict.refused) }
     ensures unwritten { IfErr result IsNoWriteFault }
 {
+    let verdict = &font.judged.verdict;
     tally.count_verdict(verdict.accepted());
     if let Known::Nothing = plan.known
         && !tally.keeps_lines()
@@ -160,7 +175,7 @@ fn note_verdict(
             unknown: Vec::new(alloc),
         });
     }
-    let unknown = unknown_of(alloc, label, verdict, plan, tally)?;
+    let unknown = unknown_of(alloc, font, plan, tally)?;
     let status = if unknown.is_empty() {
         ACCEPTED
     } else {
@@ -293,12 +308,12 @@ fn scan_font<O: Sink>(
         Ok(judged) => judged,
         Err(fault) => return scan_unread(alloc, label, &fault, plan, tally, out),
     };
-    let noted = note_verdict(alloc, label, &judged.verdict, plan, tally)?;
     let font = ScannedFont {
         label,
         bytes,
         judged: &judged,
     };
+    let noted = note_verdict(alloc, font, plan, tally)?;
     tell_judged(alloc, out, font, &noted.unknown, plan)?;
     Ok(noted.status)
 }

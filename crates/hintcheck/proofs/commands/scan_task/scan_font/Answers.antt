@@ -1,4 +1,4 @@
-use Rattle.hintcheck.specs.Representation.Known.{are_alone, is_known_by}
+use Rattle.hintcheck.specs.Representation.Known.{are_alone, is_listed_by}
 use Rattle.hintcheck.specs.Representation.ScannedFiles.{label_of}
 use Rattle.hintcheck.specs.Scans.{judged}
 use Rattle.hintcheck.proofs.ScannedLines.{scans_one}
@@ -9,5 +9,5 @@ returns-clause-printed g c =
     let contents = g.O.Sink.contents in
     let plan = c.args.plan in
     let given = c.in-Ok.judged in
-    scans_one plan.options (are_alone plan.options plan.known.now) (is_known_by plan.known.now) (label_of c.args.label) (judged given.by given.verdict) c.in_ok-noted.noted.status (contents c.args.out.now) (contents c.tell_judged.new.out)
-    (c.args.bytes.now, c.in-Ok.ensures.given) c.in_ok-noted.ensures.status c.in_ok-tell_judged.ensures.written
+    scans_one plan.options (are_alone plan.options plan.known.now) (is_listed_by plan.known.now) (label_of c.args.label) c.args.bytes.now (judged given.by given.verdict) c.in_ok-noted.noted.status (contents c.args.out.now) (contents c.tell_judged.new.out)
+    c.in-Ok.ensures.given c.in_ok-noted.ensures.status c.in_ok-tell_judged.ensures.written
