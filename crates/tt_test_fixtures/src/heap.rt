@@ -9,8 +9,9 @@ const GREATEST: u32 = 46;
 const GREATEST_SMALL: u32 = 20;
 
 /// The room: blocks next to each other, of which a call may be left a part, how many they are and
-/// how many bytes each has.
-const ROOM: (usize, usize) = (12, 100_000);
+/// how many bytes each has. Where the blocks that the C library keeps lie in the middle of the room, either
+/// half still has the 1,100,000 bytes that a call is left at most.
+const ROOM: (usize, usize) = (30, 100_000);
 
 /// How many blocks that aren't small are taken at most.
 const LARGE_BLOCKS: usize = 100_000;
