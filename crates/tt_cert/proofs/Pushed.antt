@@ -1,6 +1,6 @@
 -- Texts of values that are put one after another.
-use Rattle.std.proofs.Common.{◌≡◌, ℕ, ℤ, ◌+◌, ◌^◌, ◌<◌, List, [], ◌∷◌, ◌++◌, length, take, Option, None, Some, Ok, Err, sym, ap, subst, ◌∙◌, append_assoc, append-nil}
-use Rattle.std.specs.Prelude.{FitsSigned, IfSome, IsSomeAnd, OnOk, Result, slice_get, slice_index_or}
+use Rattle.std.proofs.Common.{◌≡◌, ℕ, ℤ, ◌+◌, ◌^◌, ◌<◌, List, [], ◌∷◌, ◌++◌, length, take, Option, None, Some, sym, ap, subst, ◌∙◌, append_assoc, append-nil}
+use Rattle.std.specs.Prelude.{FitsSigned, IfSome, IsSomeAnd, slice_get, slice_index_or}
 use Rattle.std.specs.Int.{w32}
 use Rattle.std.specs.List.{AllByRecursion, flat_map}
 use Rattle.tt_cert.specs.Rules.{IsTextOf}
@@ -55,7 +55,3 @@ pub known_text : {X : Type 0} (before : Option X) (f : X → List (ℕ × ℕ)) 
     → IsSomeAnd before (λ s. f s ≡ functions) → IsTextOf text functions
 known_text None f text functions kept same = absurd same
 known_text (Some s) f text functions kept same = subst (λ (l : List (ℕ × ℕ)). IsTextOf text l) same kept
-
-pub on_any : {T E : Type 0} (r : Result T E) (P : Type 0) → P → OnOk r P
-on_any (Ok x) P h = h
-on_any (Err e) P h = tt
