@@ -387,8 +387,8 @@ fn push_known(
 }
 
 /// Appends what follows the stack in a state: the graphics state, the functions and the storage
-/// cells. `text` is that of the functions of the state before, if there is one, and then that of this
-/// state's functions.
+/// cells. `text` is that of the functions of the state before, if there is one, and then that of
+/// this state's functions.
 fn push_after_stack(
     out: &mut Vec<u8>,
     before: Option<&State>,
