@@ -1,4 +1,3 @@
-use Rattle.std.proofs.Common.{refl}
 use Rattle.std.proofs.lemmas.Result.{err_from_is_err_and}
 use Rattle.tt_stream.proofs.Beginnings.{consumes_then}
 use Rattle.tt_cert.specs.Reading.{cell_at, graphics_at, graphics_from, registers_at, zone_at}
@@ -94,15 +93,3 @@ returns-in_err-loop_number-clause-stopped g c =
     (stops_second zone_at (λ _. after_zone) _ _ _ _ _ _ e zone_steady c.in_ok-zp0.ensures.reads
     (stops_second zone_at (λ _. after_two_zones) _ _ _ _ _ _ e zone_steady c.in_ok-zp1.ensures.reads
     (stops_second zone_at (λ _. cell_at) _ _ _ _ _ _ e zone_steady c.in_ok-zp2.ensures.reads c.in_err-loop_number.ensures.stopped)))))))
-
-pub returns-clause-reads : goal.returns-clause-reads
-unfolding graphics_at
-returns-clause-reads g c = λ known.
-    let rp0 = c.in_ok-rp0.ensures.reads known in
-    let rp1 = c.in_ok-rp1.ensures.reads rp0.0 in
-    let rp2 = c.in_ok-rp2.ensures.reads rp1.0 in
-    let zp0 = c.in_ok-zp0.ensures.reads rp2.0 in
-    let zp1 = c.in_ok-zp1.ensures.reads zp0.0 in
-    let zp2 = c.in_ok-zp2.ensures.reads zp1.0 in
-    let loop_number = c.in_ok-loop_number.ensures.reads zp2.0 in
-    (loop_number.0, rw (rp0.1, rp1.1, rp2.1, zp0.1, zp1.1, zp2.1, loop_number.1) refl)
