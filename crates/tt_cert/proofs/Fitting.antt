@@ -1,5 +1,5 @@
 -- What was written of a family keeps the rules of a section.
-use Rattle.std.proofs.Common.{◌≡◌, ℕ, ℤ, zero, suc, ◌+◌, ◌^◌, ◌<◌, ◌≤◌, Bool, true, false, take_all, List, [], ◌∷◌, ◌++◌, length, take, reverse, Option, Some, Result, Ok, Err, refl, sym, ap, subst, ◌∙◌, append_assoc, append-nil, arith, inl, inr}
+use Rattle.std.proofs.Common.{◌≡◌, ℕ, zero, suc, ◌+◌, ◌^◌, ◌<◌, ◌≤◌, Bool, true, false, take_all, List, [], ◌∷◌, ◌++◌, length, take, reverse, Option, Some, Result, Ok, Err, refl, sym, ap, subst, ◌∙◌, append_assoc, append-nil, arith, inl, inr}
 use Rattle.std.specs.Prelude.{OnOk, nat_eq, nat_le, nat_lt, option_map, ◌&&◌, slice_get}
 use Rattle.std.specs.List.{AllByRecursion}
 use Rattle.std.specs.List.Sorted.{IsStrictlySortedBy}
@@ -33,7 +33,7 @@ use Rattle.tt_family.specs.Places.{place_cmp}
 use Rattle.tt_family.specs.Ascending.{IsFinished, IsContextAt}
 use Rattle.tt_cert.specs.declared.form.Form.TheVariants.{Four}
 use Rattle.tt_setting.specs.declared.name.Name.{Name}
-use Rattle.tt_cert.specs.Rules.{AreCallsInTurn, CallFits, CellFits, ContextFits, EachAfter, EntryFits, Fits, FunctionFits, GraphicsFits, HasRoom, NameFits, StateFits, StoredFits, is_above, is_above_context, is_new_body, is_turn, last_of, last_point}
+use Rattle.tt_cert.specs.Rules.{AreCallsInTurn, CallFits, CellFits, ContextFits, EachAfter, EntryFits, Fits, FunctionFits, GraphicsFits, HasRoom, IsTextOf, NameFits, StateFits, StoredFits, is_above, is_above_context, is_new_body, is_turn, last_of, last_point}
 use Rattle.tt_cert.specs.Sections.{Context, Entry, contexts_in, section_of}
 use Rattle.tt_cert.proofs.ContextLists.{last_taken}
 use Rattle.tt_cert.proofs.Fields.{PairFits, some_same}
@@ -99,17 +99,11 @@ state_fits s range few functions_few functions storage_few storage = record {
   };
 }
 
--- the same of a state that was written, by its lists
-pub state_written : {T E : Type 0} (r : Result T E) (s : State) (functions : List (ℕ × ℕ)) (storage : List (ℕ × ℤ)) → functions ≡ s.functions → storage ≡ s.storage
-    → length s.stack < 2 ^ 16 → length functions < 2 ^ 16 → AllByRecursion PairFits functions → OnOk r (length storage < 2 ^ 16) → OnOk r (AllByRecursion StoredPairFits storage)
-    → OnOk r (state_order.InRange s → StateFits Four s)
-state_written (Err e) s functions storage fe se stack few numbers stored_few stored = tt
-state_written (Ok x) s functions storage fe se stack few numbers stored_few stored = λ range.
-    let F : List (ℕ × ℕ) → Type 0 = λ l. (length l < 2 ^ 16) × AllByRecursion PairFits l in
-    let S : List (ℕ × ℤ) → Type 0 = λ l. (length l < 2 ^ 16) × AllByRecursion StoredPairFits l in
-    let fits = subst F fe (few, numbers) in
-    let stored_fits = subst S se (stored_few, stored) in
-    state_fits s range stack fits.0 fits.1 stored_fits.0 stored_fits.1
+-- the same of a state that was written
+pub state_written : {T E : Type 0} (r : Result T E) (s : State) (text : List ℕ) → length s.stack < 2 ^ 16 → OnOk r (IsTextOf text s.functions)
+    → OnOk r (length s.storage < 2 ^ 16) → OnOk r (AllByRecursion StoredPairFits s.storage) → OnOk r (state_order.InRange s → StateFits Four s)
+state_written (Err e) s text stack known stored_few stored = tt
+state_written (Ok x) s text stack known stored_few stored = λ range. state_fits s range stack known.few known.numbers stored_few stored
 
 -- the states of a family, by ascending places
 

@@ -1,8 +1,9 @@
 -- Texts of values that are put one after another.
 use Rattle.std.proofs.Common.{◌≡◌, ℕ, ℤ, ◌+◌, ◌^◌, ◌<◌, List, [], ◌∷◌, ◌++◌, length, take, Option, None, Some, Ok, Err, sym, ap, subst, ◌∙◌, append_assoc, append-nil}
-use Rattle.std.specs.Prelude.{FitsSigned, IfSome, IsSomeAnd, OnOk, Result, slice_get, slice_index_or}
+use Rattle.std.specs.Prelude.{FitsSigned, IfSome, IsSomeAnd, Result, slice_get, slice_index_or}
 use Rattle.std.specs.Int.{w32}
 use Rattle.std.specs.List.{AllByRecursion, flat_map}
+use Rattle.tt_cert.specs.Representation.Clauses.{Pushes}
 use Rattle.tt_cert.specs.Rules.{IsTextOf}
 use Rattle.std.proofs.lemmas.Grind.{flat_map-append}
 use Rattle.std.proofs.lemmas.List.{take_more}
@@ -56,6 +57,7 @@ pub known_text : {X : Type 0} (before : Option X) (f : X → List (ℕ × ℕ)) 
 known_text None f text functions kept same = absurd same
 known_text (Some s) f text functions kept same = subst (λ (l : List (ℕ × ℕ)). IsTextOf text l) same kept
 
-pub on_any : {T E : Type 0} (r : Result T E) (P : Type 0) → P → OnOk r P
-on_any (Ok x) P h = h
-on_any (Err e) P h = tt
+-- a text that is appended after another one
+pub pushes_first : {T E : Type 0} (r : Result T E) (a b old mid new : List ℕ) → mid ≡ old ++ a → Pushes b r mid new → Pushes (a ++ b) r old new
+pushes_first (Ok x) a b old mid new first more = more ∙ ap (λ (l : List ℕ). l ++ b) first ∙ append_assoc old a b
+pushes_first (Err e) a b old mid new first more = tt

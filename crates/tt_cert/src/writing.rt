@@ -133,6 +133,30 @@ fn keep_shared(text: &mut StackText, before: Option<&State>, state: &State) -> u
     shared
 }
 
+/// Spells a cell from the place `start` on, and returns where its text ends.
+#[inline]
+fn spell_cell(bytes: &mut [u8; 5 * BLOCK], start: usize, cell: Cell) -> usize
+    requires { start + 5 ≤ 320 }
+    ensures few { result ≤ start + 5 }
+    ensures spelled { take result bytes.new ≡ take start bytes.old ++ cell_text cell }
+{
+    match cell {
+        Cell::Unknown => {
+            bytes[start] = 0;
+            start + 1
+        }
+        Cell::Known(number) => {
+            let [b3, b2, b1, b0] = number.to_be_bytes();
+            bytes[start] = 1;
+            bytes[start + 1] = b3;
+            bytes[start + 2] = b2;
+            bytes[start + 3] = b1;
+            bytes[start + 4] = b0;
+            start + 5
+        }
+    }
+}
+
 /// Spells `count` cells of a stack, after the `from` lowest ones: sets the first bytes to their
 /// texts, and the first ends to where these end after a text of `start` bytes. Returns how many
 /// bytes they have.
@@ -155,21 +179,7 @@ fn spell_cells(
     let mut used = 0;
     for i in 0..count {
         let cell = state.cell(from + i).unwrap();
-        match cell {
-            Cell::Unknown => {
-                bytes[used] = 0;
-                used += 1;
-            }
-            Cell::Known(number) => {
-                let [b3, b2, b1, b0] = number.to_be_bytes();
-                bytes[used] = 1;
-                bytes[used + 1] = b3;
-                bytes[used + 2] = b2;
-                bytes[used + 3] = b1;
-                bytes[used + 4] = b0;
-                used += 5;
-            }
-        }
+        used = spell_cell(bytes, used, cell);
         ends[i] = start + used;
     }
     used
@@ -195,19 +205,6 @@ fn push_some(text: &mut StackText, state: &State, place: usize) -> Result<usize,
     Ok(place + count)
 }
 
-/// Appends the text of a stack's cells after the `shared` lowest ones, whose text is there.
-fn push_others(text: &mut StackText, state: &State, shared: usize) -> Result<(), AllocError>
-    requires text { IsStackText text.old (take shared (reverse state.now.stack)) }
-    requires small { length state.now.stack < 2 ^ 16 }
-    ensures { OnOk result (IsStackText text.new (reverse state.now.stack)) }
-{
-    let mut place = shared;
-    'cells: while place < state.depth() {
-        place = push_some(text, state, place)?;
-    }
-    Ok(())
-}
-
 /// Returns how many of the lowest cells are found to be the same in both states. It tries as many
 /// as both have, and then 8, 24, 56 and so on fewer.
 fn shared_depth(before: &State, state: &State) -> usize
@@ -225,6 +222,20 @@ fn shared_depth(before: &State, state: &State) -> usize
     0
 }
 
+/// Makes the text of a stack's cells, from that of the state before if there is one: anew only for
+/// those that aren't found to be the same.
+fn keep_stack(text: &mut StackText, before: Option<&State>, state: &State) -> Result<(), AllocError>
+    requires text { IfSome before (λ s. IsStackText text.old (reverse s.now.stack)) }
+    requires small { length state.now.stack < 2 ^ 16 }
+    ensures { OnOk result (IsStackText text.new (reverse state.now.stack)) }
+{
+    let mut place = keep_shared(text, before, state);
+    'cells: while place < state.depth() {
+        place = push_some(text, state, place)?;
+    }
+    Ok(())
+}
+
 /// Appends how many cells the stack has, and then each of them, from the bottom up. Text is made
 /// anew only for those that aren't found to be as in the state before.
 fn push_stack(
@@ -240,22 +251,50 @@ fn push_stack(
     ensures kept { OnOk result (IsStackText text.new (reverse state.now.stack)) }
 {
     push_count(out, state.depth())?;
-    let shared = keep_shared(text, before, state);
-    push_others(text, state, shared)?;
+    keep_stack(text, before, state)?;
     out.extend_from_slice(text.cells.as_slice())
+}
+
+/// Appends what is known of the reference points.
+fn push_points(out: &mut Vec<u8>, state: &State) -> Result<(), AllocError>
+    ensures { Pushes (cell_text state.now.graphics.rp0 ++ (cell_text state.now.graphics.rp1
+        ++ cell_text state.now.graphics.rp2)) result out.old.items out.new.items }
+{
+    push_cell(out, state.reference_point(Reference::Rp0))?;
+    push_cell(out, state.reference_point(Reference::Rp1))?;
+    push_cell(out, state.reference_point(Reference::Rp2))
+}
+
+/// Appends what is known of the zone pointers.
+fn push_zones(out: &mut Vec<u8>, state: &State) -> Result<(), AllocError>
+    ensures { Pushes (zone_text state.now.graphics.zp0 ++ (zone_text state.now.graphics.zp1
+        ++ zone_text state.now.graphics.zp2)) result out.old.items out.new.items }
+{
+    push_zone(out, state.zone_pointer(Pointer::Zp0))?;
+    push_zone(out, state.zone_pointer(Pointer::Zp1))?;
+    push_zone(out, state.zone_pointer(Pointer::Zp2))
 }
 
 /// Appends what is known of the graphics state.
 fn push_graphics(out: &mut Vec<u8>, state: &State) -> Result<(), AllocError>
     ensures { Pushes (graphics_text state.now.graphics) result out.old.items out.new.items }
 {
-    push_cell(out, state.reference_point(Reference::Rp0))?;
-    push_cell(out, state.reference_point(Reference::Rp1))?;
-    push_cell(out, state.reference_point(Reference::Rp2))?;
-    push_zone(out, state.zone_pointer(Pointer::Zp0))?;
-    push_zone(out, state.zone_pointer(Pointer::Zp1))?;
-    push_zone(out, state.zone_pointer(Pointer::Zp2))?;
+    push_points(out, state)?;
+    push_zones(out, state)?;
     push_cell(out, state.loop_cell())
+}
+
+/// Appends functions, one after the other.
+fn push_pairs(out: &mut Vec<u8>, functions: &[(u16, u32)]) -> Result<(), AllocError>
+    ensures written { Pushes (flat_map pair_text functions.now)
+        result out.old.items out.new.items }
+    ensures numbers { OnOk result
+        (AllByRecursion (λ e. (e.0 < 2 ^ 16) × (e.1 < 2 ^ 32)) functions.now) }
+{
+    for function in functions {
+        push_pair(out, *function)?;
+    }
+    Ok(())
 }
 
 /// Appends how many functions there are, and then each of them.
@@ -267,10 +306,7 @@ fn push_functions(out: &mut Vec<u8>, functions: &[(u16, u32)]) -> Result<(), All
 {
     push_count(out, functions.len())?;
     out.reserve(6 * functions.len())?;
-    for function in functions {
-        push_pair(out, *function)?;
-    }
-    Ok(())
+    push_pairs(out, functions)
 }
 
 /// Appends a storage cell's index with its number.
@@ -282,6 +318,18 @@ fn push_stored(out: &mut Vec<u8>, stored: (u16, i32)) -> Result<(), AllocError>
     out.extend_from_slice(&stored.1.to_be_bytes())
 }
 
+/// Appends storage cells with their numbers, one after the other.
+fn push_each_stored(out: &mut Vec<u8>, cells: &[(u16, i32)]) -> Result<(), AllocError>
+    ensures written { Pushes (flat_map stored_text cells.now) result out.old.items out.new.items }
+    ensures numbers { OnOk result
+        (AllByRecursion (λ e. (e.0 < 2 ^ 16) × FitsSigned w32 e.1) cells.now) }
+{
+    for cell in cells {
+        push_stored(out, *cell)?;
+    }
+    Ok(())
+}
+
 /// Appends how many storage cells there are, and then each of them.
 fn push_storage(out: &mut Vec<u8>, cells: &[(u16, i32)]) -> Result<(), AllocError>
     ensures written { Pushes (counted stored_text cells.now) result out.old.items out.new.items }
@@ -290,10 +338,7 @@ fn push_storage(out: &mut Vec<u8>, cells: &[(u16, i32)]) -> Result<(), AllocErro
         (AllByRecursion (λ e. (e.0 < 2 ^ 16) × FitsSigned w32 e.1) cells.now) }
 {
     push_count(out, cells.len())?;
-    for cell in cells {
-        push_stored(out, *cell)?;
-    }
-    Ok(())
+    push_each_stored(out, cells)
 }
 
 /// Whether the functions that are known in a state are those of the state before.
@@ -304,6 +349,23 @@ fn has_same(before: Option<&State>, state: &State) -> bool
         Some(before) => before.has_same_functions(state),
         None => false,
     }
+}
+
+/// Makes the text of the functions that are known in a state, unless they are those of the state
+/// before, whose text is there.
+fn keep_functions(
+    text: &mut Vec<u8>,
+    before: Option<&State>,
+    state: &State,
+) -> Result<(), AllocError>
+    requires { IfSome before (λ s. IsTextOf text.old.items s.now.functions) }
+    ensures { OnOk result (IsTextOf text.new.items state.now.functions) }
+{
+    if has_same(before, state) {
+        return Ok(());
+    }
+    text.clear();
+    push_functions(text, state.functions())
 }
 
 /// Appends how many functions are known in a state, and then each of them: by the text that was
@@ -320,12 +382,31 @@ fn push_known(
         result out.old.items out.new.items }
     ensures kept { OnOk result (IsTextOf text.new.items state.now.functions) }
 {
-    if has_same(before, state) {
-        return out.extend_from_slice(text.as_slice());
-    }
-    text.clear();
-    push_functions(text, state.functions())?;
+    keep_functions(text, before, state)?;
     out.extend_from_slice(text.as_slice())
+}
+
+/// Appends what follows the stack in a state: the graphics state, the functions and the storage
+/// cells. `text` is that of the functions of the state before, if there is one, and then that of
+/// this state's functions.
+fn push_after_stack(
+    out: &mut Vec<u8>,
+    before: Option<&State>,
+    state: &State,
+    text: &mut Vec<u8>,
+) -> Result<(), AllocError>
+    requires { IfSome before (λ s. IsTextOf text.old.items s.now.functions) }
+    ensures kept { OnOk result (IsTextOf text.new.items state.now.functions) }
+    ensures written { Pushes (graphics_text state.now.graphics
+        ++ (counted pair_text state.now.functions ++ counted stored_text state.now.storage))
+        result out.old.items out.new.items }
+    ensures few { OnOk result (length state.now.storage < 2 ^ 16) }
+    ensures numbers { OnOk result
+        (AllByRecursion (λ e. (e.0 < 2 ^ 16) × FitsSigned w32 e.1) state.now.storage) }
+{
+    push_graphics(out, state)?;
+    push_known(out, before, state, text)?;
+    push_storage(out, state.stored())
 }
 
 /// Appends a state with its context and offset. `texts` are those of the lists of the state before,
@@ -348,9 +429,7 @@ fn push_state(
 {
     push_pair(out, point)?;
     push_stack(out, before, state, &mut texts.stack)?;
-    push_graphics(out, state)?;
-    push_known(out, before, state, &mut texts.functions)?;
-    push_storage(out, state.stored())
+    push_after_stack(out, before, state, &mut texts.functions)
 }
 
 /// Appends a context: its parent's number, and its last call.
@@ -381,6 +460,28 @@ fn push_contexts(out: &mut Vec<u8>, certificate: &Certificate) -> Result<(), All
     Ok(())
 }
 
+/// Appends the states of a family, one after the other. `texts` become those of the last state's
+/// lists.
+fn push_each_state(
+    out: &mut Vec<u8>,
+    certificate: &Certificate,
+    texts: &mut KeptTexts,
+) -> Result<(), AllocError>
+    ensures written { Pushes (flat_map (state_text Form.Four) certificate.now.states)
+        result out.old.items out.new.items }
+    ensures room { OnOk result
+        (AllByRecursion (HasRoom (length certificate.now.contexts)) certificate.now.states) }
+    ensures ascends { OnOk result (IsStrictlySortedBy place_cmp (keys_of certificate.now.states)) }
+{
+    let mut states = certificate.states();
+    let mut before = None;
+    while let Some((context, offset, state)) = states.take_first() {
+        push_state(out, (context as u16, offset), before, state, texts)?;
+        before = Some(state);
+    }
+    Ok(())
+}
+
 /// Appends how many states there are, and then each of them.
 fn push_states(out: &mut Vec<u8>, certificate: &Certificate) -> Result<(), AllocError>
     ensures written { Pushes (long (length certificate.now.states)
@@ -391,18 +492,12 @@ fn push_states(out: &mut Vec<u8>, certificate: &Certificate) -> Result<(), Alloc
     ensures ascends { OnOk result (IsStrictlySortedBy place_cmp (keys_of certificate.now.states)) }
 {
     push_long(out, certificate.points())?;
-    let mut states = certificate.states();
-    let mut before = None;
     let alloc = *out.allocator();
     let mut texts = KeptTexts {
         functions: Vec::new(alloc),
         stack: StackText::new(alloc),
     };
-    while let Some((context, offset, state)) = states.take_first() {
-        push_state(out, (context as u16, offset), before, state, &mut texts)?;
-        before = Some(state);
-    }
-    Ok(())
+    push_each_state(out, certificate, &mut texts)
 }
 
 /// Makes the bytes of a section, in place of those that are there.

@@ -1,3 +1,4 @@
+use Rattle.std.proofs.Common.{◌≡◌, ◌∙◌, refl, sym, true}
 use Rattle.std.proofs.lemmas.Result.{err_from_is_err_and}
 use Rattle.tt_stream.proofs.Beginnings.{consumes_then}
 use Rattle.tt_cert.specs.Readers.{made_of}
@@ -65,3 +66,23 @@ returns-in_err-count-clause-stopped g c =
     (stops_second long_at (λ _. three_longs) _ _ _ _ _ _ e long_steady c.in_ok-call.ensures.reads
     (stops_second long_at (λ _. two_longs) _ _ _ _ _ _ e long_steady c.in_ok-body.ensures.reads
     (stops_second long_at (λ _. long_at) _ _ _ _ _ _ e long_steady c.in_ok-turn.ensures.reads c.in_err-count.ensures.stopped))))))
+
+pub returns-in_err-parent-clause-stopped : goal.returns-in_err-parent-clause-stopped
+unfolding context_at
+returns-in_err-parent-clause-stopped g c =
+    let p = err_from_is_err_and c.from_residual.result c.from_residual.ensures.1 in
+    let e = c.in_err-parent.field-0.0 in
+    rw (p.1, p.2) (stops_ruled (may_follow c.args.before.now) (made_of context_from numbers_at) _ _ _ e (stops_made context_from numbers_at _ _ _ e
+    (stops_first word_at (λ _. after_parent) _ _ _ e c.in_err-parent.ensures.stopped)))
+
+pub returns-clause-reads : goal.returns-clause-reads
+unfolding context_at
+returns-clause-reads g c = λ known.
+    let parent = c.in_ok-parent.ensures.reads known in
+    let call = c.in_ok-call.ensures.reads parent.0 in
+    let body = c.in_ok-body.ensures.reads call.0 in
+    let turn = c.in_ok-turn.ensures.reads body.0 in
+    let count = c.in_ok-count.ensures.reads turn.0 in
+    let follows : may_follow c.args.before.now (c.in_ok-parent.parent, record { body = c.in_ok-body.body; call = c.in_ok-call.call; turn = c.in_ok-turn.turn; count = c.in_ok-count.count }) ≡ true =
+    rw c.from.ensures at (sym c.may_follow.ensures ∙ c.if-not-may_follow.false) in
+    (count.0, rw (c.from.ensures, parent.1, call.1, body.1, turn.1, count.1, follows) refl)

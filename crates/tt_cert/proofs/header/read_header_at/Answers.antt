@@ -1,3 +1,4 @@
+use Rattle.std.proofs.Common.{refl}
 use Rattle.std.proofs.lemmas.Result.{err_from_is_err_and}
 use Rattle.tt_cert.specs.Readers.{and_then}
 use Rattle.tt_cert.specs.Reading.{form_at, header_at, header_from, long_at, magic_at}
@@ -32,3 +33,19 @@ returns-in_err-sections-clause-stopped g c =
     rw (p.1, p.2) (stops_made header_from (and_then magic_at (λ _. and_then form_at (λ _. long_at))) _ _ _ e
     (stops_second magic_at (λ _. and_then form_at (λ _. long_at)) _ _ _ _ _ _ e magic_steady c.in_ok-_magic.ensures.reads
     (stops_second form_at (λ _. long_at) _ _ _ _ _ _ e form_steady c.in_ok-form.ensures.reads c.in_err-sections.ensures.stopped)))
+
+pub returns-in_err-_magic-clause-stopped : goal.returns-in_err-_magic-clause-stopped
+unfolding header_at
+returns-in_err-_magic-clause-stopped g c =
+    let p = err_from_is_err_and c.from_residual.result c.from_residual.ensures.1 in
+    let e = c.in_err-_magic.field-0.0 in
+    rw (p.1, p.2) (stops_made header_from (and_then magic_at (λ _. and_then form_at (λ _. long_at))) _ _ _ e
+    (stops_first magic_at (λ _. and_then form_at (λ _. long_at)) _ _ _ e c.in_err-_magic.ensures.stopped))
+
+pub returns-clause-reads : goal.returns-clause-reads
+unfolding header_at
+returns-clause-reads g c = λ known.
+    let magic = c.in_ok-_magic.ensures.reads known in
+    let form = c.in_ok-form.ensures.reads magic.0 in
+    let sections = c.in_ok-sections.ensures.reads form.0 in
+    (sections.0, rw (magic.1, form.1, sections.1) refl)

@@ -5,9 +5,9 @@ use Rattle.tt_family.proofs.Moves.{entry_found}
 use Rattle.tt_cert.specs.declared.form.Form.TheVariants.{Four}
 use Rattle.tt_cert.specs.Rules.{HasRoom}
 use Rattle.tt_cert.specs.Sections.{Entry}
-use Rattle.tt_cert.specs.Text.{long, state_text}
+use Rattle.tt_cert.specs.Text.{state_text}
 use Rattle.tt_cert.proofs.Pushed.{all_more, one_written}
-use Rattle.tt_cert.proofs.writing.push_states.Goals as goal
+use Rattle.tt_cert.proofs.writing.push_each_state.Goals as goal
 
 pub overflow_cast-context : goal.overflow_cast-context
 overflow_cast-context c =
@@ -31,7 +31,7 @@ loop-context-preserved c =
     let range = family.in_range c.in-Some.context c.in-Some.offset c.in-Some.state.now found in (
       done ++ x ∷ [],
       split ∙ ap (λ (l : List Entry). done ++ l) c.in-Some.ensures.some ∙ sym (append_assoc done (x ∷ []) c.take_first.new.self),
-      one_written (state_text Four) c.args.out.now.items (long (length v.states)) c.loop-context.out.items _ done x written c.in_ok-push_state.ensures.written,
+      one_written (state_text Four) c.args.out.now.items [] c.loop-context.out.items _ done x written c.in_ok-push_state.ensures.written,
       all_more (HasRoom (length v.contexts)) done x room (held, c.in_ok-push_state.ensures.offset, c.in_ok-push_state.ensures.fits range),
       c.in_ok-push_state.ensures.functions,
       c.in_ok-push_state.ensures.stack,
