@@ -14,8 +14,7 @@ use Rattle.hintcheck_words.specs.declared.words.Format.{Format}
 use Rattle.hintcheck_words.specs.declared.words.Format.TheVariants.{Json, Lines}
 use Rattle.hintcheck_words.specs.declared.words.ScanOptions.{ScanOptions}
 use Rattle.hintcheck.specs.FontLabels.{Label}
-use Rattle.json.specs.Print.{quoted}
-use Rattle.hintcheck.specs.JsonObjects.{beginning, face_member}
+use Rattle.hintcheck.specs.JsonObjects.{beginning}
 use Rattle.hintcheck.specs.KnownRefusals.{fails_for, is_unknown}
 use Rattle.hintcheck.specs.RefusalClasses.{number_of_class}
 use Rattle.hintcheck.specs.Scans.{Answer, HasMore, IsAnswer, PrintsScan, Scanned, TellsFont, answer_text, counts_text, greatest_status, is_silent, judged, left_out_text, line_of, names_none, profile_word, status_of_answer, summary, text_of, unread}
@@ -133,27 +132,19 @@ tells_object options false label (judged by v) old new never loud is first = rec
 tells_object options false label (unread f) old new never loud is first = record { more = first.others; has = tt; written = rw is first.written }
 tells_object options true label answer old new never loud is first = absurd cc
 
--- the beginning of an object, by its parts
-pub beginning_written : (label : Label) (profile : List ℕ) (status : ℕ) (file : List ℕ) (o p q r : Option (List ℕ)) → file ≡ quoted label.file
-    → Appends o p (codes "{\"version\":1,\"tool\":{\"name\":\"hintcheck\",\"version\":\"0.9.0\"},\"file\":" ++ file) → Appends p q (face_member label.face)
-    → Appends q r (codes ",\"profile\":\"" ++ (profile ++ (codes "\",\"status\":" ++ (decimal status ++ codes ",")))) → Appends o r (beginning label profile status)
-beginning_written label profile status file o p q r file_is first face last =
-    let front : List ℕ = codes "{\"version\":1,\"tool\":{\"name\":\"hintcheck\",\"version\":\"0.9.0\"},\"file\":" in
-    let end : List ℕ = codes ",\"profile\":\"" ++ (profile ++ (codes "\",\"status\":" ++ (decimal status ++ codes ","))) in
-    let text : ((front ++ file) ++ face_member label.face) ++ end ≡ beginning label profile status = rw file_is (simp append_assoc) in
-    subst (Appends o r) text (appends_both o q r _ end (appends_both o p q (front ++ file) (face_member label.face) first face) last)
+counts_parts : (count programs possible undecided left end : List ℕ) → (codes ": refused: " ++ (count ++ (codes " of " ++ (programs ++ (codes " programs (" ++ (possible ++ (codes " possible faults, " ++ (undecided ++ (codes " undecided" ++ (left ++ (codes ")" ++ end))))))))))) ++ codes "\n"
+    ≡ codes ": refused: " ++ (((count ++ (codes " of " ++ (programs ++ (codes " programs (" ++ ((possible ++ (codes " possible faults, " ++ (undecided ++ (codes " undecided" ++ left)))) ++ codes ")"))))) ++ end) ++ codes "\n")
+counts_parts count programs possible undecided left end = simp append_assoc
 
--- the line of a font of which glyph programs are refused, by its parts, after what is before them
-pub counts_written : (by : Request) (front : List ℕ) (programs possible undecided left : ℕ) (rs : List Refused) (o p q r s : Option (List ℕ)) → possible ≡ number_of_class PossibleFault rs
-    → undecided ≡ number_of_class Undecided rs → left ≡ number_of_class LeftOut rs
-    → Appends o p (front ++ (codes ": refused: " ++ (decimal (length rs) ++ (codes " of " ++ (decimal programs ++ codes " programs ")))))
-    → Appends p q (codes "(" ++ (decimal possible ++ (codes " possible faults, " ++ (decimal undecided ++ codes " undecided")))) → Appends q r (left_out_text left) → Appends r s (codes ")" ++ (profile_text by ++ codes "\n"))
-    → Appends o s (front ++ (codes ": refused: " ++ ((counts_text programs rs ++ profile_text by) ++ codes "\n")))
-counts_written by front programs possible undecided left rs o p q r s some_possible some_undecided some_left first second third fourth =
-    let a : List ℕ = front ++ (codes ": refused: " ++ (decimal (length rs) ++ (codes " of " ++ (decimal programs ++ codes " programs ")))) in
-    let b : List ℕ = codes "(" ++ (decimal possible ++ (codes " possible faults, " ++ (decimal undecided ++ codes " undecided"))) in
-    let text : ((a ++ b) ++ left_out_text left) ++ (codes ")" ++ (profile_text by ++ codes "\n")) ≡ front ++ (codes ": refused: " ++ ((counts_text programs rs ++ profile_text by) ++ codes "\n")) = rw (some_possible, some_undecided, some_left) (simp append_assoc) in
-    subst (Appends o s) text (appends_both o r s _ _ (appends_both o q r _ _ (appends_both o p q a b first second) third) fourth)
+-- the line of a font of which glyph programs are refused, by its parts
+pub counts_written : (by : Request) (programs possible undecided left : ℕ) (end : List ℕ) (rs : List Refused) (o p : Option (List ℕ)) → possible ≡ number_of_class PossibleFault rs
+    → undecided ≡ number_of_class Undecided rs → left ≡ number_of_class LeftOut rs → end ≡ profile_text by
+    → Appends o p ((codes ": refused: " ++ (decimal (length rs) ++ (codes " of " ++ (decimal programs ++ (codes " programs (" ++ (decimal possible ++ (codes " possible faults, " ++ (decimal undecided ++ (codes " undecided" ++ (left_out_text left ++ (codes ")" ++ end))))))))))) ++ codes "\n")
+    → Appends o p (codes ": refused: " ++ ((counts_text programs rs ++ profile_text by) ++ codes "\n"))
+counts_written by programs possible undecided left end rs o p some_possible some_undecided some_left end_is written =
+    let parts : List ℕ = (codes ": refused: " ++ (decimal (length rs) ++ (codes " of " ++ (decimal programs ++ (codes " programs (" ++ (decimal possible ++ (codes " possible faults, " ++ (decimal undecided ++ (codes " undecided" ++ (left_out_text left ++ (codes ")" ++ end))))))))))) ++ codes "\n" in
+    let text : parts ≡ codes ": refused: " ++ ((counts_text programs rs ++ profile_text by) ++ codes "\n") = rw (some_possible, some_undecided, some_left, end_is) (counts_parts (decimal (length rs)) (decimal programs) (decimal (number_of_class PossibleFault rs)) (decimal (number_of_class Undecided rs)) (left_out_text (number_of_class LeftOut rs)) (profile_text by)) in
+    subst (Appends o p) text written
 
 glyph_summary : (programs : ℕ) (rs : List Refused) (r : Refused) (id : ℕ) → Some r ≡ slice_get rs 0 → r.program ≡ Glyph id → summary programs rs ≡ codes "refused: " ++ counts_text programs rs
 glyph_summary programs [] r id first is = cc

@@ -7,37 +7,68 @@ use crate::glyph_names::called;
 use hintcheck_programs::report::{Name, Place, Refused};
 use serde::Serialize;
 use std::alloc::{AllocError, Global};
+use std::fmt;
 use tt_names::GlyphNames;
 
 /// How many of a cause's programs its line names at most.
 const NAMED: usize = 5;
 
-/// Returns where the programs of a cause are refused, of which one is refused at this place.
-fn shared_place(alloc: Global, place: Place) -> Result<String, AllocError> {
-    match place.program {
-        Name::Font | Name::Cvt => format!(in alloc; "{place}"),
-        Name::Glyph(_) => String::from_str(alloc, "in glyph programs"),
+/// Where the programs of a cause are refused, of which one is refused at this place.
+#[derive(Clone, Copy)]
+struct SharedPlace(Place);
+
+impl fmt::Display for SharedPlace {
+    fn fmt<W: fmt::Write>(&self, f: &mut fmt::Formatter<W>) -> fmt::Result {
+        match self.0.program {
+            Name::Font | Name::Cvt => write!(f, "{}", self.0),
+            Name::Glyph(_) => f.write_str("in glyph programs"),
+        }
     }
 }
 
-/// Returns the programs with commas between them, and with the names that the font has for their
-/// glyphs.
-fn names_text(
-    alloc: Global,
-    names: &GlyphNames<'_>,
-    programs: &[Name],
-) -> Result<String, AllocError> {
-    let mut text = String::new(alloc);
-    let mut comma = "";
-    for &program in programs {
-        let named = match called(names, program) {
-            Some(name) => format!(in alloc; "{comma}{program} ({name})")?,
-            None => format!(in alloc; "{comma}{program}")?,
-        };
-        text.push_str(&named)?;
-        comma = ", ";
+/// A program, with the name that the font has for its glyph, if it has one.
+#[derive(Clone, Copy)]
+pub(super) struct Called<'a> {
+    program: Name,
+    glyph: Option<&'a str>,
+}
+
+impl<'a> Called<'a> {
+    /// Returns the program with the name that the font has for its glyph.
+    pub(super) fn of(names: &GlyphNames<'a>, program: Name) -> Called<'a> {
+        Called {
+            program,
+            glyph: called(names, program),
+        }
     }
-    Ok(text)
+}
+
+impl fmt::Display for Called<'_> {
+    fn fmt<W: fmt::Write>(&self, f: &mut fmt::Formatter<W>) -> fmt::Result {
+        let program = self.program;
+        match self.glyph {
+            Some(name) => write!(f, "{program} ({name})"),
+            None => write!(f, "{program}"),
+        }
+    }
+}
+
+/// The programs with commas between them, and with the names that the font has for their glyphs.
+#[derive(Clone, Copy)]
+struct Programs<'a> {
+    names: &'a GlyphNames<'a>,
+    programs: &'a [Name],
+}
+
+impl fmt::Display for Programs<'_> {
+    fn fmt<W: fmt::Write>(&self, f: &mut fmt::Formatter<W>) -> fmt::Result {
+        let mut comma = "";
+        for &program in self.programs {
+            write!(f, "{comma}{}", Called::of(self.names, program))?;
+            comma = ", ";
+        }
+        Ok(())
+    }
 }
 
 /// Returns the line of a cause.
@@ -45,11 +76,14 @@ fn cause_line(alloc: Global, names: &GlyphNames<'_>, cause: &Cause) -> Result<St
     let programs = cause.programs.as_slice();
     let count = programs.len();
     let word = if count == 1 { "program" } else { "programs" };
-    let place = shared_place(alloc, cause.first.place)?;
+    let place = SharedPlace(cause.first.place);
     let reason = cause.first.reason;
     let number = reason.number();
     let class = text_of_class(reason);
-    let named = names_text(alloc, names, &programs[..count.min(NAMED)])?;
+    let named = Programs {
+        names,
+        programs: &programs[..count.min(NAMED)],
+    };
     let more = if NAMED < count { ", ..." } else { "" };
     format!(in alloc; "  {count} {word}: {place}: {number} {reason} ({class}): {named}{more}\n")
 }

@@ -5,7 +5,7 @@ ghost use Rattle.std.specs.Io.KnownBytes.{Appends};
 ghost use Rattle.json.specs.Print.{quoted};
 ghost use Rattle.tt_stream.specs.Streams.{AppendsOnly, CountsPrintFailure};
 ghost use Rattle.hintcheck.specs.Commands.{TellsFailure, status_of};
-ghost use Rattle.hintcheck.specs.JsonObjects.{beginning, face_member as face_member_of, profile_name, request_name};
+ghost use Rattle.hintcheck.specs.JsonObjects.{beginning, profile_name, request_name};
 ghost use Rattle.hintcheck.specs.Representation.ScannedFiles.{label_of};
 ghost use Rattle.hintcheck_explain.specs.Texts.{WritesFirst};
 
@@ -23,10 +23,10 @@ use hintcheck_words::{Profile, ScanOptions};
 use serde::{Described, Serialize, Serializer};
 use serde_json::Value;
 use std::alloc::{AllocError, Global};
-use std::fmt::Display;
+use std::fmt;
 use tt_code::Reason;
 use tt_names::GlyphNames;
-use tt_stream::{PrintFailed, Sink};
+use tt_stream::Sink;
 
 /// A value that is written as a string, in its own words.
 #[derive(Drop)]
@@ -34,7 +34,7 @@ pub(super) struct Shown<T>(pub T);
 
 impl<T> Described for Shown<T> {}
 
-impl<T: Display> Serialize for Shown<T> {
+impl<T: fmt::Display> Serialize for Shown<T> {
     fn serialize<S: Serializer>(&self, out: &mut S) -> Result<(), S::Error> {
         out.collect_str(&self.0)
     }
@@ -146,15 +146,23 @@ pub(super) fn name_of_request(by: Request) -> &'static str
     }
 }
 
-/// Prints the member that tells the number of a face, where there is one.
-fn print_face<O: Sink>(out: &mut O, face: Option<u32>) -> Result<(), PrintFailed>
-    ensures written { OnOk result
-        (Appends (O.contents out.old) (O.contents out.new) (face_member_of face)) }
-    ensures failures { CountsPrintFailure result (O.failures out.old) (O.failures out.new) }
-{
-    match face {
-        Some(number) => write!(out, ",\"face\":{number}"),
-        None => Ok(()),
+/// The member that tells the number of a face, where there is one, with a comma before it.
+#[derive(Clone, Copy)]
+struct FaceMember {
+    face: Option<u32>,
+}
+
+impl fmt::Display for FaceMember {
+    ghost use Rattle.std.specs.Prelude.{Some};
+    ghost use Rattle.hintcheck.specs.JsonObjects.{face_member};
+
+    ghost output = { λ member. Some (face_member member.face) };
+
+    fn fmt<W: fmt::Write>(&self, f: &mut fmt::Formatter<W>) -> fmt::Result {
+        match self.face {
+            Some(number) => write!(f, ",\"face\":{number}"),
+            None => Ok(()),
+        }
     }
 }
 
@@ -172,12 +180,11 @@ pub(super) fn print_beginning<O: Sink>(
     ensures failures { TellsFailure result (O.failures out.old) (O.failures out.new) }
 {
     let file = quoted_text(alloc, label.file)?;
+    let face = FaceMember { face: label.face };
     write!(
         out,
-        "{{\"version\":1,\"tool\":{{\"name\":\"hintcheck\",\"version\":\"0.9.0\"}},\"file\":{file}"
+        "{{\"version\":1,\"tool\":{{\"name\":\"hintcheck\",\"version\":\"0.9.0\"}},\"file\":{file}{face},\"profile\":\"{profile}\",\"status\":{status},"
     )?;
-    print_face(out, label.face)?;
-    write!(out, ",\"profile\":\"{profile}\",\"status\":{status},")?;
     Ok(())
 }
 
@@ -347,6 +354,11 @@ fn fault_object(alloc: Global, fault: &CommandFault) -> Result<Option<FaultObjec
     Ok(Some(FaultObject { number, text }))
 }
 
+/// Returns the number and the text of the fault as JSON, or `null` where a font file can't have it.
+fn fault_text(alloc: Global, fault: &CommandFault) -> Result<String, AllocError> {
+    json_text(alloc, &fault_object(alloc, fault)?)
+}
+
 /// Prints the object of a font file with this fault, for which a verdict of this profile was asked.
 pub(super) fn print_fault_object<O: Sink>(
     alloc: Global,
@@ -359,7 +371,7 @@ pub(super) fn print_fault_object<O: Sink>(
         (profile_name profile) (status_of fault.now)) (O.contents out.old) (O.contents out.new)) }
     ensures failures { TellsFailure result (O.failures out.old) (O.failures out.new) }
 {
-    let told = json_text(alloc, &fault_object(alloc, fault)?)?;
+    let told = fault_text(alloc, fault)?;
     print_beginning(alloc, out, label, name_of_profile(profile), fault.status())?;
     writeln!(out, "\"fault\":{told}}}")?;
     Ok(())

@@ -31,6 +31,24 @@ impl fmt::Display for Told<'_> {
     }
 }
 
+/// The line of needs: as `needs maxStorage 12 of 10`, or that there is none.
+#[derive(Clone, Copy)]
+struct NeedsLine<'a>(&'a [Need]);
+
+impl fmt::Display for NeedsLine<'_> {
+    fn fmt<W: fmt::Write>(&self, f: &mut fmt::Formatter<W>) -> fmt::Result {
+        if self.0.is_empty() {
+            return f.write_str("  needs no other number\n");
+        }
+        let mut before = "  needs ";
+        for need in self.0 {
+            write!(f, "{before}{}", Told(need))?;
+            before = ", ";
+        }
+        f.write_str("\n")
+    }
+}
+
 /// A need, as an object tells it.
 #[derive(Drop, Serialize)]
 struct NeedObject {
@@ -74,23 +92,10 @@ pub(super) fn needs_text(
     by: Request,
     needs: AskedNeeds,
 ) -> Result<String, AllocError> {
-    let mut text = String::new(alloc);
-    let Some(needs) = needs_of(alloc, font, by, needs)? else {
-        return Ok(text);
-    };
-    let mut before = "  needs ";
-    for need in &needs {
-        let told = Told(need);
-        text.push_str(&format!(in alloc; "{before}{told}")?)?;
-        before = ", ";
+    match needs_of(alloc, font, by, needs)? {
+        Some(needs) => format!(in alloc; "{}", NeedsLine(&needs)),
+        None => Ok(String::new(alloc)),
     }
-    let end = if needs.is_empty() {
-        "  needs no other number\n"
-    } else {
-        "\n"
-    };
-    text.push_str(end)?;
-    Ok(text)
 }
 
 /// Returns the member of an object that tells the needs that are asked for, with a comma before it;

@@ -7,7 +7,7 @@ ghost use Rattle.tt_stream.specs.Streams.{CountsPrintFailure};
 ghost use Rattle.hintcheck.specs.FontLabels.{face_text};
 ghost use Rattle.hintcheck.specs.RefusalClasses.{class_text, number_of_class};
 ghost use Rattle.hintcheck.specs.Representation.ScannedFiles.{label_of};
-ghost use Rattle.hintcheck.specs.Scans.{answer_text, counts_text, judged as judged_so, left_out_text, line_of, shown_byte};
+ghost use Rattle.hintcheck.specs.Scans.{answer_text, counts_text, judged as judged_so, line_of, shown_byte};
 ghost use Rattle.hintcheck.specs.Texts.{profile_text};
 
 use super::font_label::FontLabel;
@@ -15,6 +15,7 @@ use super::shown_names::print_shown;
 use super::verdict_lines::end_of_profile;
 use hintcheck_fonts::{Judged, Request};
 use hintcheck_programs::report::{Name, Refused, Verdict};
+use std::fmt;
 use tt_code::{Reason, ReasonClass};
 use tt_stream::{PrintFailed, Sink};
 
@@ -43,16 +44,25 @@ pub(super) fn text_of_class(reason: Reason) -> &'static str
     }
 }
 
-/// Prints how many programs are refused for what the analysis leaves out by choice, if some are.
-fn print_left_out<O: Sink>(out: &mut O, count: usize) -> Result<(), PrintFailed>
-    ensures written { OnOk result
-        (Appends (O.contents out.old) (O.contents out.new) (left_out_text count)) }
-    ensures failures { CountsPrintFailure result (O.failures out.old) (O.failures out.new) }
-{
-    if count == 0 {
-        return Ok(());
+/// How many programs are refused for what the analysis leaves out by choice, if some are.
+#[derive(Clone, Copy)]
+struct LeftOut {
+    count: usize,
+}
+
+impl fmt::Display for LeftOut {
+    ghost use Rattle.std.specs.Prelude.{Some};
+    ghost use Rattle.hintcheck.specs.Scans.{left_out_text};
+
+    ghost output = { λ programs. Some (left_out_text programs.count) };
+
+    fn fmt<W: fmt::Write>(&self, f: &mut fmt::Formatter<W>) -> fmt::Result {
+        let count = self.count;
+        if count == 0 {
+            return Ok(());
+        }
+        write!(f, ", {count} left out")
     }
-    write!(out, ", {count} left out")
 }
 
 /// Prints the end of the line of a font of which glyph programs are refused, with how many of them
@@ -71,12 +81,13 @@ fn print_counts<O: Sink>(
     let count = refused.len();
     let possible = count_of(refused, ReasonClass::PossibleFault);
     let undecided = count_of(refused, ReasonClass::Undecided);
-    let left_out = count_of(refused, ReasonClass::LeftOut);
-    write!(out, ": refused: {count} of {programs} programs ")?;
-    write!(out, "({possible} possible faults, {undecided} undecided")?;
-    print_left_out(out, left_out)?;
+    let left = count_of(refused, ReasonClass::LeftOut);
+    let left_out = LeftOut { count: left };
     let end = end_of_profile(by);
-    writeln!(out, "){end}")
+    writeln!(
+        out,
+        ": refused: {count} of {programs} programs ({possible} possible faults, {undecided} undecided{left_out}){end}"
+    )
 }
 
 /// Prints what follows a font's label in its line: its verdict.
@@ -99,7 +110,7 @@ fn print_answer<O: Sink>(out: &mut O, verdict: &Verdict, by: Request) -> Result<
 }
 
 /// Prints what a font file is called, with the control bytes of its name by their digits.
-pub(super) fn print_label<O: Sink>(out: &mut O, label: FontLabel<'_>) -> Result<(), PrintFailed>
+fn print_label<O: Sink>(out: &mut O, label: FontLabel<'_>) -> Result<(), PrintFailed>
     ensures written { OnOk result (Appends (O.contents out.old) (O.contents out.new)
         (flat_map shown_byte label.entry.file.now ++ face_text label.entry.face)) }
     ensures failures { CountsPrintFailure result (O.failures out.old) (O.failures out.new) }
@@ -109,6 +120,17 @@ pub(super) fn print_label<O: Sink>(out: &mut O, label: FontLabel<'_>) -> Result<
         Some(number) => write!(out, "#{number}"),
         None => Ok(()),
     }
+}
+
+/// Prints how the line of a font file without a verdict begins: what is before its fault.
+pub(super) fn print_unread<O: Sink>(out: &mut O, label: FontLabel<'_>) -> Result<(), PrintFailed>
+    ensures written { OnOk result (Appends (O.contents out.old) (O.contents out.new)
+        ((flat_map shown_byte label.entry.file.now ++ face_text label.entry.face)
+        ++ codes ": fault: ")) }
+    ensures failures { CountsPrintFailure result (O.failures out.old) (O.failures out.new) }
+{
+    print_label(out, label)?;
+    write!(out, ": fault: ")
 }
 
 /// Prints the line of a font.

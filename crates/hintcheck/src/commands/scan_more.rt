@@ -3,14 +3,13 @@
 ghost use Rattle.std.specs.Prelude.{IfErr};
 ghost use Rattle.hintcheck.specs.Commands.{IsNoWriteFault};
 
-use super::cause_lines::causes_text;
+use super::cause_lines::{Called, causes_text};
 use super::faults::CommandFault;
 use super::font_label::FontLabel;
 use super::need_lines::needs_text;
 use super::scan_task::ScannedFont;
 use super::shown_names::Shown;
 use crate::causes::causes_of;
-use crate::glyph_names::called;
 use hintcheck_programs::report::Refused;
 use hintcheck_words::ScanOptions;
 use std::alloc::{AllocError, Global};
@@ -24,15 +23,10 @@ fn new_line(
     refused: &Refused,
 ) -> Result<String, AllocError> {
     let number = refused.reason.number();
-    let program = refused.program;
+    let program = Called::of(names, refused.program);
     let place = refused.place;
     let label = Shown(label);
-    match called(names, program) {
-        Some(name) => {
-            format!(in alloc; "  new: {number} {program} ({name}) at {place} {label}\n")
-        }
-        None => format!(in alloc; "  new: {number} {program} at {place} {label}\n"),
-    }
+    format!(in alloc; "  new: {number} {program} at {place} {label}\n")
 }
 
 /// Returns the lines of the refused programs that aren't known.

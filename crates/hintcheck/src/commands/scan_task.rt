@@ -1,6 +1,6 @@
 //! The subcommand `scan`: the verdicts on font files, a line or an object for each.
 
-ghost use Rattle.std.specs.Prelude.{◌≡◌, ◌++◌, ◌∷◌, ◌≤◌, [], false, IfErr, IfOk, map, not, OnOk, option_map, string_bytes};
+ghost use Rattle.std.specs.Prelude.{◌≡◌, ◌++◌, ◌∷◌, ◌≤◌, ◌||◌, [], false, IfErr, IfOk, map, not, OnOk, option_map, string_bytes};
 ghost use Rattle.std.specs.List.{list_any};
 ghost use Rattle.tt_names.specs.Post.{post_of};
 ghost use Rattle.hintcheck_words.specs.declared.words.Format.TheVariants.{Lines};
@@ -23,7 +23,7 @@ use super::known_refusals::{
     Known, check_names, line_of as refusal_line_of, named_line_of, write_file,
 };
 use super::listed_names::listed_names;
-use super::scan_lines::{print_label, print_line};
+use super::scan_lines::{print_line, print_unread};
 use super::scan_more::more_text;
 use super::scan_summary::{Tally, tell_summary};
 use super::{ACCEPTED, REFUSED};
@@ -121,6 +121,29 @@ fn add_refused(others: &mut Vec<Refused>, refused: Refused) -> Result<(), AllocE
     Ok(others.push(refused)?)
 }
 
+/// Adds the refused program of a font to others, if it counts and isn't known.
+fn add_unknown(
+    alloc: Global,
+    font: ScannedFont<'_>,
+    names: &GlyphNames<'_>,
+    refused: &Refused,
+    plan: Plan<'_>,
+    tally: &mut Tally,
+    others: &mut Vec<Refused>,
+) -> Result<(), CommandFault>
+    requires { names.now.post.now ≡ post_of font.bytes.now }
+    ensures some { OnOk result (not (names_none others.new.items)
+        ≡ (not (names_none others.old.items) || is_unknown plan.entry.options.fail_on
+        (is_listed_by plan.entry.known.now) (label_of font.entry.label) font.entry.bytes.now
+        refused.now)) }
+    ensures unwritten { IfErr result IsNoWriteFault }
+{
+    if !note_program(alloc, font, names, refused, plan, tally)? {
+        return Ok(());
+    }
+    Ok(add_refused(others, *refused)?)
+}
+
 /// Returns the refused programs of a font that count and aren't known.
 fn unknown_of(
     alloc: Global,
@@ -136,9 +159,7 @@ fn unknown_of(
     let names = GlyphNames::of(alloc, font.bytes)?;
     let mut unknown = Vec::new(alloc);
     for refused in font.judged.verdict.refused() {
-        if note_program(alloc, font, &names, refused, plan, tally)? {
-            add_refused(&mut unknown, *refused)?;
-        }
+        add_unknown(alloc, font, &names, refused, plan, tally, &mut unknown)?;
     }
     Ok(unknown)
 }
@@ -265,8 +286,7 @@ fn tell_unread<O: Sink>(
         return print_fault_object(alloc, out, label, fault, plan.options.profile);
     }
     let whole = WholeFault(fault);
-    print_label(out, label)?;
-    write!(out, ": fault: ")?;
+    print_unread(out, label)?;
     writeln!(out, "{whole}")?;
     Ok(())
 }
@@ -366,6 +386,29 @@ fn scan_faces<O: Sink>(
     Ok(greatest)
 }
 
+/// Scans each face of the collection in the file with this name and these bytes.
+fn scan_collection<O: Sink>(
+    alloc: Global,
+    bytes: &[u8],
+    name: &str,
+    plan: Plan<'_>,
+    tally: &mut Tally,
+    out: &mut O,
+) -> Result<u8, CommandFault>
+    ensures printed { IfOk result (λ status. ScansFile plan.entry name.now status
+        (O.contents out.old) (O.contents out.new)) }
+    ensures failures { TellsFailure result (O.failures out.old) (O.failures out.new) }
+{
+    match Collection::read(bytes) {
+        Ok(collection) => scan_faces(alloc, &collection, name, plan, tally, out),
+        Err(fault) => {
+            let fault = CommandFault::from(fault);
+            let label = FontLabel::of_file(name);
+            scan_unread(alloc, label, &fault, plan, tally, out)
+        }
+    }
+}
+
 /// Scans what the file with this name and these bytes has: itself, the face of it that is asked for, or
 /// each one.
 fn scan_bytes<O: Sink>(
@@ -381,14 +424,7 @@ fn scan_bytes<O: Sink>(
     ensures failures { TellsFailure result (O.failures out.old) (O.failures out.new) }
 {
     if plan.options.faces == Faces::All && is_collection(&bytes) {
-        return match Collection::read(&bytes) {
-            Ok(collection) => scan_faces(alloc, &collection, name, plan, tally, out),
-            Err(fault) => {
-                let fault = CommandFault::from(fault);
-                let label = FontLabel::of_file(name);
-                scan_unread(alloc, label, &fault, plan, tally, out)
-            }
-        };
+        return scan_collection(alloc, &bytes, name, plan, tally, out);
     }
     match font_in_file(alloc, bytes, plan.options.faces) {
         Ok(font) => {
@@ -506,6 +542,35 @@ fn text_in(text: &Option<String>) -> Option<&str>
     }
 }
 
+/// Scans the font files with these names, which are told as `scan_shown` does, tells to `err` how many
+/// came to which end, and writes the lines of refused programs to the file that is named for them.
+///
+/// # Errors
+/// Those of `scan_shown`, and after them `File` where that file can't be written.
+fn scan_planned<R: Files + AllocGlobal, O: Sink, E: Sink>(
+    rt: &R,
+    fonts: &[String],
+    texts: &ScanTexts,
+    plan: Plan<'_>,
+    out: &mut O,
+    err: &mut E,
+) -> Result<u8, CommandFault>
+    ensures printed { IfOk result (λ status. ScansFiles plan.entry
+        (shown_names (texts_spelled texts.now).name (map (λ s. string_bytes s) fonts.now)) status
+        (O.contents out.old) (O.contents out.new)) }
+    ensures failures { TellsFailure result (O.failures out.old) (O.failures out.new) }
+    ensures untold { E.failures err.old ≤ E.failures err.new }
+{
+    let written = text_in(&texts.written);
+    let mut tally = Tally::new(rt.alloc(), written.is_some());
+    let status = scan_shown(rt, fonts, text_in(&texts.name), plan, &mut tally, out)?;
+    tell_summary(err, &tally, plan.known.count(), plan.options.format);
+    if let Some(file) = written {
+        write_file(rt, file, tally.lines())?;
+    }
+    Ok(status)
+}
+
 /// Prints a line or an object for each of the font files with these names, or each face, with what more
 /// is asked for, and to `err` a line that counts them, except in the form JSON; returns the greatest
 /// exit status of them: 0 where the scan fails for no program, 1 where it fails for one, and more where
@@ -545,13 +610,7 @@ fn scan_fonts<R: Files + AllocGlobal, O: Sink, E: Sink>(
         options,
         known: &known,
     };
-    let mut tally = Tally::new(rt.alloc(), written.is_some());
-    let status = scan_shown(rt, fonts, text_in(&texts.name), plan, &mut tally, out)?;
-    tell_summary(err, &tally, known.count(), options.format);
-    if let Some(file) = written {
-        write_file(rt, file, tally.lines())?;
-    }
-    Ok(status)
+    scan_planned(rt, fonts, texts, plan, out, err)
 }
 
 /// Scans the font files that these words name, or of which they name lists, as `scan_fonts` does.
