@@ -145,6 +145,22 @@ fn tell_explanation<R: Files + AllocGlobal, O: Sink>(
     explain_of_file(rt, font, request, out)
 }
 
+/// Prints the verdict that the task asks for, and returns the exit status.
+fn answer_verdict<R: Files + AllocGlobal, O: Sink>(
+    rt: &R,
+    task: &Task,
+    out: &mut O,
+) -> Result<u8, CommandFault>
+    requires { IsForVerdict (asked task.now) }
+    ensures answer { IfOk result (λ status.
+        IsAnswered (asked task.now) status (O.contents out.old) (O.contents out.new)) }
+    ensures faults { IfErr result (IsFaultOfTask (asked task.now)) }
+    ensures failures { TellsFailure result (O.failures out.old) (O.failures out.new) }
+{
+    let judged = verdict_on(rt, task)?;
+    tell_verdict(out, judged, asks_last_line(task))
+}
+
 /// Does the task, prints the answer to `out`, and what counts the fonts of a scan to `err`; returns
 /// the exit status: 0 accepted, listed or upgraded, 1 refused, and more where what is printed tells a
 /// fault, of a font file of a scan or in the object of an explanation. Reporting any other fault is
@@ -196,7 +212,7 @@ fn do_task<R: Files + AllocGlobal, O: Sink, E: Sink>(
             new,
             max_bytes,
         } => tell_upgrade(rt, old, new, *max_bytes, out),
-        task => tell_verdict(out, verdict_on(rt, task)?, asks_last_line(task)),
+        task => answer_verdict(rt, task, out),
     }
 }
 

@@ -65,6 +65,16 @@ pub(crate) fn read_number(text: &str) -> Option<u16>
     u16::try_from(read_decimal(text)?).ok()
 }
 
+/// Returns the number of the glyph whose program's name the word spells, if it spells one's.
+fn read_glyph(word: &str) -> Option<u16>
+    ensures read { IfSome result (λ number. word.now ≡ text_of (Name.Glyph number)) }
+    ensures range { IfSome result (λ number. number < 2 ^ 16) }
+    ensures each { (number : ℕ) → number < 2 ^ 16 → word.now ≡ text_of (Name.Glyph number)
+        → result ≡ Some number }
+{
+    read_number(word.strip_prefix("g")?)
+}
+
 /// Returns the program's name that the word spells, as names are printed, if it spells one.
 pub(crate) fn read_name(word: &str) -> Option<Name>
     ensures read { IfSome result (λ name. word.now ≡ text_of name) }
@@ -74,7 +84,7 @@ pub(crate) fn read_name(word: &str) -> Option<Name>
     match word {
         "f" => Some(Name::Font),
         "p" => Some(Name::Cvt),
-        _ => Some(Name::Glyph(read_number(word.strip_prefix("g")?)?)),
+        _ => Some(Name::Glyph(read_glyph(word)?)),
     }
 }
 

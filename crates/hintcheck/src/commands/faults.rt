@@ -64,16 +64,21 @@ impl Container {
             Container::Other
         }
     }
+
+    /// Returns the text of what the file holds, which is empty where that isn't told.
+    fn text(self) -> &'static str {
+        match self {
+            Container::Cff => "CFF outlines",
+            Container::Woff => "WOFF",
+            Container::Woff2 => "WOFF2",
+            Container::Other => "",
+        }
+    }
 }
 
 impl fmt::Display for Container {
     fn fmt<W: fmt::Write>(&self, f: &mut fmt::Formatter<W>) -> fmt::Result {
-        match self {
-            Container::Cff => write!(f, "CFF outlines"),
-            Container::Woff => write!(f, "WOFF"),
-            Container::Woff2 => write!(f, "WOFF2"),
-            Container::Other => Ok(()),
-        }
+        write!(f, "{}", self.text())
     }
 }
 
@@ -100,16 +105,21 @@ impl Unopened {
             _ => Unopened::Other,
         }
     }
+
+    /// Returns the text of the reason, which is empty where that isn't told.
+    fn text(self) -> &'static str {
+        match self {
+            Unopened::NotFound => "no such file",
+            Unopened::PermissionDenied => "permission denied",
+            Unopened::Directory => "a directory",
+            Unopened::Other => "",
+        }
+    }
 }
 
 impl fmt::Display for Unopened {
     fn fmt<W: fmt::Write>(&self, f: &mut fmt::Formatter<W>) -> fmt::Result {
-        match self {
-            Unopened::NotFound => write!(f, "no such file"),
-            Unopened::PermissionDenied => write!(f, "permission denied"),
-            Unopened::Directory => write!(f, "a directory"),
-            Unopened::Other => Ok(()),
-        }
+        write!(f, "{}", self.text())
     }
 }
 
@@ -179,34 +189,13 @@ impl fmt::Display for CommandFault {
     fn fmt<W: fmt::Write>(&self, f: &mut fmt::Formatter<W>) -> fmt::Result {
         match self {
             CommandFault::Usage(text) => write!(f, "{text}"),
-            CommandFault::MaxpWord => write!(f, "words: MAXP"),
-            CommandFault::ProgramWord | CommandFault::ProgramName => write!(f, "words: PROGRAM"),
-            CommandFault::NoOffset | CommandFault::OffsetWord(_) => write!(f, "words: OFFSET"),
-            CommandFault::ClassWord => write!(f, "words: CLASS"),
-            CommandFault::ExpectedWord => write!(f, "words: FILE"),
-            CommandFault::FontWord => write!(f, "words: FONT"),
-            CommandFault::NameWord => write!(f, "words: NAME"),
-            CommandFault::CertificateWord => write!(f, "words: CERT"),
-            CommandFault::NewWord => write!(f, "words: NEW"),
-            CommandFault::Font(font, _) => {
-                let number = font.number();
-                write!(f, "{number} {font}")
-            }
+            CommandFault::Font(font, _) => write!(f, "{} {font}", font.number()),
             CommandFault::Collection(collection) => {
-                let number = collection.number();
-                write!(f, "{number} {collection}")
+                write!(f, "{} {collection}", collection.number())
             }
             CommandFault::ManyFaces(count) => write!(f, "16 collection of {count} faces"),
             CommandFault::Form(place) => write!(f, "43 certificate form at byte {place}"),
-            CommandFault::NoCertificate => write!(f, "43 certificate form at byte 0"),
-            CommandFault::OutOfMemory => write!(f, "9 out of memory"),
-            CommandFault::Budget => write!(f, "46 budget"),
-            CommandFault::KnownLine(_)
-            | CommandFault::Unopened(..)
-            | CommandFault::TooLong(..)
-            | CommandFault::Read => write!(f, "44 read"),
-            CommandFault::Write | CommandFault::File => write!(f, "45 write"),
-            CommandFault::Text => write!(f, "text"),
+            fault => write!(f, "{}", fault.fixed_text()),
         }
     }
 }
@@ -218,32 +207,16 @@ pub(super) struct Note<'a>(&'a CommandFault);
 impl fmt::Display for Note<'_> {
     fn fmt<W: fmt::Write>(&self, f: &mut fmt::Formatter<W>) -> fmt::Result {
         match self.0 {
-            CommandFault::ProgramName => {
-                write!(
-                    f,
-                    "PROGRAM is f, p, g and the number of a glyph, or its name"
-                )
-            }
-            CommandFault::NoOffset => write!(f, "OFFSET is a number, alone or after f: or p:"),
             CommandFault::OffsetWord(told) => write!(f, "no instruction begins there{told}"),
-            CommandFault::ClassWord => write!(f, "CLASS is possible"),
-            CommandFault::ExpectedWord => write!(f, "FILE is a font of the scan"),
-            CommandFault::FontWord => write!(f, "a font has a line feed in its name"),
-            CommandFault::NameWord => write!(f, "NAME is for one font"),
             CommandFault::KnownLine(number) => {
                 write!(f, "line {number} isn't a number, a program and a font")
             }
-            CommandFault::CertificateWord => write!(f, "the font would be written over"),
-            CommandFault::NewWord => write!(f, "the old certificate would be written over"),
-            CommandFault::Font(_, container) => write!(f, "{container}"),
             CommandFault::ManyFaces(count) => {
                 let last = count.saturating_sub(1);
                 write!(f, "name one by --face, 0 to {last}")
             }
-            CommandFault::NoCertificate => write!(f, "not a certificate"),
-            CommandFault::Unopened(_, why) => write!(f, "{why}"),
             CommandFault::TooLong(_, most) => write!(f, "more than {most} bytes (--max-bytes)"),
-            _ => Ok(()),
+            fault => write!(f, "{}", fault.fixed_note()),
         }
     }
 }
@@ -360,6 +333,56 @@ impl From<UpgradeFault> for CommandFault {
 }
 
 impl CommandFault {
+    /// Returns the text of a fault that is told by its kind alone, and an empty one of another.
+    fn fixed_text(&self) -> &'static str {
+        match self {
+            CommandFault::MaxpWord => "words: MAXP",
+            CommandFault::ProgramWord | CommandFault::ProgramName => "words: PROGRAM",
+            CommandFault::NoOffset | CommandFault::OffsetWord(_) => "words: OFFSET",
+            CommandFault::ClassWord => "words: CLASS",
+            CommandFault::ExpectedWord => "words: FILE",
+            CommandFault::FontWord => "words: FONT",
+            CommandFault::NameWord => "words: NAME",
+            CommandFault::CertificateWord => "words: CERT",
+            CommandFault::NewWord => "words: NEW",
+            CommandFault::NoCertificate => "43 certificate form at byte 0",
+            CommandFault::OutOfMemory => "9 out of memory",
+            CommandFault::Budget => "46 budget",
+            CommandFault::KnownLine(_)
+            | CommandFault::Unopened(..)
+            | CommandFault::TooLong(..)
+            | CommandFault::Read => "44 read",
+            CommandFault::Write | CommandFault::File => "45 write",
+            CommandFault::Text => "text",
+            CommandFault::Usage(_)
+            | CommandFault::Font(..)
+            | CommandFault::Collection(_)
+            | CommandFault::ManyFaces(_)
+            | CommandFault::Form(_) => "",
+        }
+    }
+
+    /// Returns the text of a note without a number or an offset, and an empty one where the fault has
+    /// no such note.
+    fn fixed_note(&self) -> &'static str {
+        match self {
+            CommandFault::ProgramName => {
+                "PROGRAM is f, p, g and the number of a glyph, or its name"
+            }
+            CommandFault::NoOffset => "OFFSET is a number, alone or after f: or p:",
+            CommandFault::ClassWord => "CLASS is possible",
+            CommandFault::ExpectedWord => "FILE is a font of the scan",
+            CommandFault::FontWord => "a font has a line feed in its name",
+            CommandFault::NameWord => "NAME is for one font",
+            CommandFault::CertificateWord => "the font would be written over",
+            CommandFault::NewWord => "the old certificate would be written over",
+            CommandFault::Font(_, container) => container.text(),
+            CommandFault::NoCertificate => "not a certificate",
+            CommandFault::Unopened(_, why) => why.text(),
+            _ => "",
+        }
+    }
+
     /// Returns the fault of the font in these bytes. Only of a file that isn't an sfnt file it is
     /// told what it holds.
     pub(crate) fn of_font(fault: FontFault, bytes: &[u8]) -> CommandFault

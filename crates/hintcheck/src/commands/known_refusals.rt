@@ -93,6 +93,27 @@ fn first_line(bytes: &[u8]) -> (&[u8], &[u8])
     }
 }
 
+/// Puts the line with this number, which names a refusal, among the lines.
+///
+/// # Errors
+/// `KnownLine` where it names none; `OutOfMemory`.
+fn add_line(
+    alloc: Global,
+    lines: &mut HashSet<String>,
+    line: &[u8],
+    number: u64,
+) -> Result<(), CommandFault>
+    ensures { IfErr result IsNoWriteFault }
+{
+    let Some(text) = refusal_text(line) else {
+        return Err(CommandFault::KnownLine(number));
+    };
+    match lines.insert(String::from_str(alloc, text)?) {
+        Ok(_) => Ok(()),
+        Err(_) => Err(CommandFault::OutOfMemory),
+    }
+}
+
 /// Returns the lines of the bytes, each of which names a refusal.
 ///
 /// # Errors
@@ -106,12 +127,7 @@ fn lines_in(alloc: Global, bytes: &[u8]) -> Result<HashSet<String>, CommandFault
     while !rest.is_empty() {
         let (line, after) = first_line(rest);
         number = number.saturating_add(1);
-        let Some(text) = refusal_text(line) else {
-            return Err(CommandFault::KnownLine(number));
-        };
-        let Ok(_) = lines.insert(String::from_str(alloc, text)?) else {
-            return Err(CommandFault::OutOfMemory);
-        };
+        add_line(alloc, &mut lines, line, number)?;
         rest = after;
     }
     Ok(lines)
@@ -150,6 +166,12 @@ pub(super) fn check_names<R: Files>(
     Ok(())
 }
 
+/// Writes the text to the file, and returns whether that was done.
+fn is_written<F: Write + Drop>(file: F, text: &str) -> bool {
+    let mut sink = Counted::new(file);
+    write_all(&mut sink, text.as_bytes()).is_ok() && sink.into_inner().flush().is_ok()
+}
+
 /// Makes the file with this name, and writes the text to it.
 ///
 /// # Errors
@@ -160,14 +182,30 @@ pub(super) fn write_file<R: Files>(rt: &R, name: &str, text: &str) -> Result<(),
     let Ok(file) = fs::create(rt, name) else {
         return Err(CommandFault::File);
     };
-    let mut sink = Counted::new(file);
-    let Ok(()) = write_all(&mut sink, text.as_bytes()) else {
-        return Err(CommandFault::File);
-    };
-    match sink.into_inner().flush() {
-        Ok(()) => Ok(()),
-        Err(_) => Err(CommandFault::File),
+    if is_written(file, text) {
+        Ok(())
+    } else {
+        Err(CommandFault::File)
     }
+}
+
+/// Returns the lines of the file of known refusals with this name, with which these font files are
+/// scanned.
+///
+/// # Errors
+/// Those of `check_names`; `KnownLine` for the first line that names no refusal; `Unopened`, `TooLong`,
+/// `Read` and `OutOfMemory`.
+fn lines_of_file<R: Files + AllocGlobal>(
+    rt: &R,
+    fonts: &[String],
+    file: &str,
+    max_bytes: u64,
+) -> Result<HashSet<String>, CommandFault>
+    ensures { IfErr result IsNoWriteFault }
+{
+    check_names(rt, fonts, file)?;
+    let held = file_bytes(rt, file, FileWord::Known, max_bytes)?;
+    lines_in(rt.alloc(), &held)
 }
 
 /// Which refused programs of a scan are known.
@@ -184,8 +222,7 @@ impl Known {
     /// is named.
     ///
     /// # Errors
-    /// Those of `check_names`; `KnownLine` for the first line that names no refusal; `Unopened`, `TooLong`,
-    /// `Read` and `OutOfMemory`.
+    /// Those of `lines_of_file`.
     pub(super) fn of<R: Files + AllocGlobal>(
         rt: &R,
         fonts: &[String],
@@ -196,12 +233,10 @@ impl Known {
         ensures given { IfOk result (λ known. known ≡ Nothing → file.entry ≡ None) }
         ensures unwritten { IfErr result IsNoWriteFault }
     {
-        let Some(file) = file else {
-            return Ok(Known::Nothing);
-        };
-        check_names(rt, fonts, file)?;
-        let held = file_bytes(rt, file, FileWord::Known, max_bytes)?;
-        Ok(Known::Lines(lines_in(rt.alloc(), &held)?))
+        match file {
+            Some(file) => Ok(Known::Lines(lines_of_file(rt, fonts, file, max_bytes)?)),
+            None => Ok(Known::Nothing),
+        }
     }
 
     /// Whether the refused program with this line is known.

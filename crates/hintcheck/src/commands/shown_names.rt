@@ -47,6 +47,20 @@ pub(super) fn print_shown<O: Sink>(out: &mut O, name: &str) -> Result<(), PrintF
     print_bytes(out, name.as_bytes())
 }
 
+/// A letter of a name, a control byte by its digits.
+#[derive(Clone, Copy)]
+struct ShownLetter(char);
+
+impl fmt::Display for ShownLetter {
+    fn fmt<W: fmt::Write>(&self, f: &mut fmt::Formatter<W>) -> fmt::Result {
+        let letter = self.0;
+        match u8::try_from(letter) {
+            Ok(byte) if byte.is_ascii_control() => write!(f, "\\x{}", Digits(&[byte])),
+            _ => write!(f, "{letter}"),
+        }
+    }
+}
+
 /// What a font file is called in a line that no definition tells: its control bytes are told as `\x0a`.
 #[derive(Clone, Copy)]
 pub(super) struct Shown<'a>(pub FontLabel<'a>);
@@ -54,10 +68,7 @@ pub(super) struct Shown<'a>(pub FontLabel<'a>);
 impl fmt::Display for Shown<'_> {
     fn fmt<W: fmt::Write>(&self, f: &mut fmt::Formatter<W>) -> fmt::Result {
         for letter in self.0.file.chars() {
-            match u8::try_from(letter) {
-                Ok(byte) if byte.is_ascii_control() => write!(f, "\\x{}", Digits(&[byte]))?,
-                _ => write!(f, "{letter}")?,
-            }
+            write!(f, "{}", ShownLetter(letter))?;
         }
         match self.0.face {
             Some(number) => write!(f, "#{number}"),

@@ -2,6 +2,7 @@
 
 ghost use Rattle.std.specs.Prelude.{◌≢◌, IfErr, IfOk, IfSome, Ok, OnOk};
 ghost use Rattle.hintcheck_certificates.specs.CertificateTexts.{WritesText};
+ghost use Rattle.hintcheck_certificates.specs.CheckedFonts.{IsTold, bytes_in};
 ghost use Rattle.hintcheck.specs.Commands.{IsNoWriteFault, TellsFailure};
 ghost use Rattle.hintcheck.specs.CommandFaults.{IsFaultOfRewriting, IsFaultOfTask, IsFaultOfUpgrading};
 ghost use Rattle.hintcheck_words.specs.Requests.{upgrade as upgrade_of};
@@ -16,7 +17,31 @@ use std::alloc::Global;
 use std::fs;
 use std::io::{BufWriter, Read, Write};
 use std::rt::Files;
-use tt_stream::{Buffered, Counted, Sink};
+use tt_stream::{Buffered, Counted, Sink, Source};
+
+/// Upgrades the certificate that is left in the source to the new file: returns how many sections it
+/// has, and the new file.
+fn upgrade_to<S: Source, G: Write + Drop>(
+    alloc: Global,
+    source: &mut S,
+    new: G,
+) -> Result<(u32, G), CommandFault>
+    ensures exact { IsTold (S.remaining source.old)
+        → IfOk result (λ r. UpgradesTo (bytes_in (S.remaining source.old)) (Ok r.0)) }
+    ensures written { IsTold (S.remaining source.old) → IfOk result
+        (λ r. WritesText (G.contents new) (G.contents r.1) (IsUpgradeOf (bytes_in (S.remaining source.old)))) }
+    ensures number { IfOk result (λ r. IsNumberOfPrograms r.0) }
+    ensures fault { IfErr result IsNoWriteFault }
+    ensures faults { IfErr result IsFaultOfRewriting }
+{
+    let Ok(new) = BufWriter::with_capacity(alloc, ROOM, new) else {
+        return Err(CommandFault::OutOfMemory);
+    };
+    let mut sink = Counted::new(new);
+    let count = upgrade(alloc, source, &mut sink)?;
+    let new = write_rest(sink.into_inner())?;
+    Ok((count, new))
+}
 
 /// Upgrades the certificate that is left in the old file to the new one: returns how many sections
 /// it has, and the new file.
@@ -34,13 +59,7 @@ fn upgrade_file<F: Read + Drop, G: Write + Drop>(
     ensures faults { IfErr result IsFaultOfRewriting }
 {
     let mut source = Buffered::new(alloc, Counted::new(old))?;
-    let Ok(new) = BufWriter::with_capacity(alloc, ROOM, new) else {
-        return Err(CommandFault::OutOfMemory);
-    };
-    let mut sink = Counted::new(new);
-    let count = upgrade(alloc, &mut source, &mut sink)?;
-    let new = write_rest(sink.into_inner())?;
-    Ok((count, new))
+    upgrade_to(alloc, &mut source, new)
 }
 
 /// Upgrades the certificate in the file with the first name to the file with the second, which is

@@ -1,5 +1,4 @@
-use Rattle.std.proofs.Common.{◌≡◌, ℕ, Bool, OnOk, Option, String, Global, Vec, refl, subst}
-use Rattle.std.specs.Io.KnownBytes.{Appends}
+use Rattle.std.proofs.Common.{◌≡◌, ℕ, Option, String, Global, Vec, refl}
 use Rattle.std.proofs.lemmas.Result.{IfErr-weaker, IfOk-weaker}
 use Rattle.hintcheck_words.specs.Requests.{asked}
 use Rattle.hintcheck_words.specs.declared.words.ExplainOptions.{ExplainOptions}
@@ -9,8 +8,7 @@ use Rattle.hintcheck_words.specs.declared.words.ScanTexts.{ScanTexts}
 use Rattle.hintcheck_words.specs.declared.words.Task.{Task}
 use Rattle.hintcheck_words.specs.declared.words.Task.TheVariants as task
 use Rattle.hintcheck.specs.Commands.{IsForVerdict}
-use Rattle.hintcheck.specs.Texts.{told_text}
-use Rattle.hintcheck.proofs.AnswerLemmas.{any_fault, printing_fault, verdict_answered}
+use Rattle.hintcheck.proofs.AnswerLemmas.{any_fault}
 use Rattle.hintcheck.proofs.commands.do_task.Goals as goal
 
 for_verdict : (t : Task) → ((fonts : Vec (String Global) Global) (options : ScanOptions) (texts : ScanTexts) → t ≡ task.Scan fonts options texts → ⊥) → ((font : String Global) (program place : Option (String Global)) (options : ExplainOptions) → t ≡ task.Explain font program place options → ⊥)
@@ -25,8 +23,8 @@ for_verdict (task.Check font certificate options) scan explain other another = t
 for_verdict (task.List font program options) scan explain other another = absurd (other font program options refl)
 for_verdict (task.Upgrade old new max_bytes) scan explain other another = absurd (another old new max_bytes refl)
 
-pub verdict_on-requires : goal.verdict_on-requires
-verdict_on-requires g c = for_verdict c.args.task.now c.in_default.not-Scan c.in_default.not-Explain c.in_default.not-List c.in_default.not-Upgrade
+pub answer_verdict-requires : goal.answer_verdict-requires
+answer_verdict-requires g c = for_verdict c.args.task.now c.in_default.not-Scan c.in_default.not-Explain c.in_default.not-List c.in_default.not-Upgrade
 
 pub returns-in-Scan-clause-answer : goal.returns-in-Scan-clause-answer
 unfolding asked
@@ -59,17 +57,3 @@ returns-in-Upgrade-clause-answer g c = IfOk-weaker c.tell_upgrade.result _ _ (λ
 pub returns-in-Upgrade-clause-faults : goal.returns-in-Upgrade-clause-faults
 unfolding asked
 returns-in-Upgrade-clause-faults g c = IfErr-weaker c.tell_upgrade.result _ _ (λ told is. rw c.in-Upgrade.is (rw (← c.deref-in-Upgrade.ensures, ← c.deref-in-Upgrade-2.ensures) is)) c.tell_upgrade.ensures.faults
-
-pub returns-in_ok-verdict_on-in_default-clause-answer : goal.returns-in_ok-verdict_on-in_default-clause-answer
-returns-in_ok-verdict_on-in_default-clause-answer g c =
-    let contents = g.O.Sink.contents in
-    let old = contents c.args.out.now in
-    let new = contents c.tell_verdict.new.out in
-    let d = c.in_default in
-    let told = c.tell_verdict.ensures in
-    let j = c.in_ok-verdict_on-in_default.field-0 in
-    verdict_answered (asked c.args.task.now) c.tell_verdict.result j.by j.verdict old new (for_verdict c.args.task.now d.not-Scan d.not-Explain d.not-List d.not-Upgrade) c.in_ok-verdict_on-in_default.ensures.given told.status told.accepted told.refused
-    (subst (λ (last : Bool). OnOk c.tell_verdict.result (Appends old new (told_text last j.by j.verdict))) c.asks_last_line.ensures told.written)
-
-pub returns-in_ok-verdict_on-in_default-clause-faults : goal.returns-in_ok-verdict_on-in_default-clause-faults
-returns-in_ok-verdict_on-in_default-clause-faults g c = printing_fault (asked c.args.task.now) c.tell_verdict.result c.in_ok-verdict_on-in_default.ensures.given.none c.tell_verdict.ensures.faults
