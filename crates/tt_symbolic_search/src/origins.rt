@@ -54,7 +54,6 @@ struct Origin {
 }
 
 /// All origins of the symbols of a run.
-#[derive(Drop)]
 pub(crate) struct Origins {
     /// The origins, by their numbers.
     list: Vec<Origin>,
@@ -62,6 +61,20 @@ pub(crate) struct Origins {
     numbers: HashMap<Origin, OriginNumber>,
     /// What is noted to explain a refusal; nothing where none is to be explained.
     pub notes: Option<Notes>,
+}
+
+// Written out, so that who holds origins proves in one step that their memory is given back.
+impl Drop for Origins {
+    fn drop(self) {
+        let Origins {
+            list,
+            numbers,
+            notes,
+        } = self;
+        drop(list);
+        drop(numbers);
+        drop(notes);
+    }
 }
 
 /// Which merges are looked for.
@@ -108,18 +121,28 @@ impl Origins {
         self.list.get(place).copied()
     }
 
-    /// Returns the number of an origin, which it gets where it has none.
-    fn number_of(&mut self, origin: Origin) -> Result<OriginNumber, AllocError> {
-        if let Some(number) = self.numbers.get(&origin) {
-            return Ok(*number);
+    /// Returns the number of the latest origin.
+    fn latest(&self) -> Result<OriginNumber, AllocError> {
+        match u32::try_from(self.list.len()) {
+            Ok(number) if number < FIRST_MAKER => Ok(number),
+            _ => Err(AllocError),
         }
+    }
+
+    /// Adds an origin, and returns its number.
+    fn add(&mut self, origin: Origin) -> Result<OriginNumber, AllocError> {
         self.list.push(origin)?;
-        let number = u32::try_from(self.list.len()).map_err(|_| AllocError)?;
-        if number >= FIRST_MAKER {
-            return Err(AllocError);
-        }
+        let number = self.latest()?;
         self.numbers.insert(origin, number)?;
         Ok(number)
+    }
+
+    /// Returns the number of an origin, which it gets where it has none.
+    fn number_of(&mut self, origin: Origin) -> Result<OriginNumber, AllocError> {
+        match self.numbers.get(&origin) {
+            Some(number) => Ok(*number),
+            None => self.add(origin),
+        }
     }
 
     /// Returns the origin of a number that was computed from two others.
@@ -231,17 +254,27 @@ impl Origins {
         Ok(SymbolOrigin::Lost)
     }
 
+    /// Returns where symbols of these origins come from, as far as it was noted.
+    fn symbol_origins(
+        &self,
+        alloc: Global,
+        numbers: &[OriginNumber],
+    ) -> Result<Vec<SymbolOrigin>, AllocError> {
+        let mut origins = Vec::new(alloc);
+        for number in numbers {
+            origins.push(self.symbol_origin(alloc, *number)?)?;
+        }
+        Ok(origins)
+    }
+
     /// Returns the state of a track, with where the number of each of its symbols comes from.
     pub(crate) fn known_state(
         &self,
         alloc: Global,
         track: Track,
     ) -> Result<KnownState, AllocError> {
-        let Track { state, history } = track;
-        let mut origins = Vec::new(alloc);
-        for number in history.origins.as_slice() {
-            origins.push(self.symbol_origin(alloc, *number)?)?;
-        }
+        let origins = self.symbol_origins(alloc, track.history.origins.as_slice())?;
+        let Track { state, .. } = track;
         Ok(KnownState {
             state: Box::into_inner(state),
             origins,

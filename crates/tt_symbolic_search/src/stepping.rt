@@ -224,6 +224,25 @@ fn stored_origin(merges: &Merges, track: Seen<'_>, line: &Row) -> OriginNumber {
     }
 }
 
+/// Returns the origin of the symbols that the instruction of this code makes, which this line describes.
+fn origin_of_line(
+    merges: &mut Merges,
+    track: Seen<'_>,
+    code: u8,
+    line: &Row,
+) -> Result<OriginNumber, AllocError> {
+    match refinement(code) {
+        Refinement::Greatest | Refinement::Least | Refinement::Product | Refinement::Quotient =>
+            origin_of_two(merges, track),
+        Refinement::Floor | Refinement::Ceiling => Ok(element_origin(track, 0)),
+        Refinement::ReadsControl => Ok(read_origin(merges, track, Area::Controls)),
+        Refinement::WritesControl
+        | Refinement::ChangesControl
+        | Refinement::ChangesControls
+        | Refinement::Ordinary => Ok(stored_origin(merges, track, line)),
+    }
+}
+
 /// Returns the origin of the symbols that the instruction of this code makes.
 fn origin_of_result(
     merges: &mut Merges,
@@ -234,16 +253,7 @@ fn origin_of_result(
     match effect {
         Effect::Arithmetic(operation) if takes_one(*operation) => Ok(element_origin(track, 0)),
         Effect::Arithmetic(_) => origin_of_two(merges, track),
-        Effect::Plain(line) => match refinement(code) {
-            Refinement::Greatest | Refinement::Least | Refinement::Product | Refinement::Quotient =>
-                origin_of_two(merges, track),
-            Refinement::Floor | Refinement::Ceiling => Ok(element_origin(track, 0)),
-            Refinement::ReadsControl => Ok(read_origin(merges, track, Area::Controls)),
-            Refinement::WritesControl
-            | Refinement::ChangesControl
-            | Refinement::ChangesControls
-            | Refinement::Ordinary => Ok(stored_origin(merges, track, line)),
-        },
+        Effect::Plain(line) => origin_of_line(merges, track, code, line),
         _ => Ok(NOWHERE),
     }
 }
