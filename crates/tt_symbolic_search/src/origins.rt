@@ -98,6 +98,30 @@ fn see(seen: &mut [bool], number: OriginNumber) -> bool {
     }
 }
 
+/// How far it was looked for where a symbol comes from.
+#[derive(Drop)]
+struct Looks {
+    /// The cells that were found.
+    found: Vec<CellName>,
+    /// For each number whether its origin was looked at.
+    seen: Vec<bool>,
+    /// The origins to look at, in the order of their distance.
+    queue: Vec<OriginNumber>,
+}
+
+impl Looks {
+    /// Makes the first look, at one of so many origins.
+    fn new(alloc: Global, from: OriginNumber, count: usize) -> Result<Looks, AllocError> {
+        let seen = vec![in alloc; false; count.saturating_add(1)]?;
+        let queue = vec![in alloc; from]?;
+        Ok(Looks {
+            found: Vec::new(alloc),
+            seen,
+            queue,
+        })
+    }
+}
+
 impl Origins {
     /// Makes the origins of no symbol.
     pub(crate) fn new(alloc: Global) -> Origins {
@@ -281,6 +305,19 @@ impl Origins {
         })
     }
 
+    /// Returns the states of these tracks likewise.
+    pub(crate) fn known_states(
+        &self,
+        alloc: Global,
+        tracks: Vec<Track>,
+    ) -> Result<Vec<KnownState>, AllocError> {
+        let mut states = Vec::new(alloc);
+        for track in tracks {
+            states.push(self.known_state(alloc, track)?)?;
+        }
+        Ok(states)
+    }
+
     /// Returns the cell that an origin names, if its merge is one that is looked for and the cell
     /// isn't kept apart already.
     fn culprit(origin: Origin, wanted: Wanted, apart: &[CellName]) -> Option<CellName> {
@@ -304,31 +341,44 @@ impl Origins {
         wanted: Wanted,
         apart: &[CellName],
     ) -> Result<Vec<CellName>, AllocError> {
-        let mut found = Vec::new(alloc);
-        let mut seen = vec![in alloc; false; self.list.len().saturating_add(1)]?;
-        let mut queue = vec![in alloc; from]?;
-        let mut end = queue.len();
+        let mut looks = Looks::new(alloc, from, self.list.len())?;
+        let mut end = looks.queue.len();
         for index in 0..=self.list.len().saturating_mul(2) {
             if index == end {
-                if !found.is_empty() {
+                if !looks.found.is_empty() {
                     break;
                 }
-                end = queue.len();
+                end = looks.queue.len();
             }
-            let Some(number) = queue.get(index).copied() else {
+            let Some(number) = looks.queue.get(index).copied() else {
                 break;
             };
-            let Some(origin) = self.get(number) else {
-                continue;
-            };
-            if !see(seen.as_mut_slice(), number) {
-                continue;
-            }
-            match Origins::culprit(origin, wanted, apart) {
-                Some(name) => found.push(name)?,
-                None => queue.extend_from_slice(&[origin.first, origin.second])?,
-            }
+            self.look(&mut looks, number, wanted, apart)?;
         }
+        let Looks { found, .. } = looks;
         Ok(found)
+    }
+
+    /// Looks at the origin of this number.
+    fn look(
+        &self,
+        looks: &mut Looks,
+        number: OriginNumber,
+        wanted: Wanted,
+        apart: &[CellName],
+    ) -> Result<(), AllocError> {
+        let Some(origin) = self.get(number) else {
+            return Ok(());
+        };
+        if !see(looks.seen.as_mut_slice(), number) {
+            return Ok(());
+        }
+        match Origins::culprit(origin, wanted, apart) {
+            Some(name) => looks.found.push(name)?,
+            None => looks
+                .queue
+                .extend_from_slice(&[origin.first, origin.second])?,
+        }
+        Ok(())
     }
 }

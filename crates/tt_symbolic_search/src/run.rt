@@ -21,8 +21,8 @@ use tt_setting::{Failed, Setting, StepFault};
 use tt_symbolic::kept::Kept;
 use tt_symbolic::step::code_at;
 use tt_symbolic_check::{
-    Guide, Insight, KnownState, Move, Pool, Question, RefusedState, Site, Split, Start, Walk,
-    covers_by, decision_of, is_at_end, wanted,
+    Guide, Insight, Move, Pool, Question, RefusedState, Site, Split, Start, Walk, covers_by,
+    decision_of, is_at_end, wanted,
 };
 use tt_symbolic_state::State;
 
@@ -390,15 +390,15 @@ impl<'t, 'm> Run<'t, 'm> {
         }
     }
 
-    /// Takes out the states that came to the site that is asked for.
-    fn take_seen(&mut self) -> Result<Vec<KnownState>, AllocError> {
-        let alloc = self.task.alloc;
-        let mut seen = Vec::new(alloc);
-        for track in mem::replace(&mut self.seen, Vec::new(alloc)) {
-            let known = self.merges.origins.known_state(alloc, track)?;
-            seen.push(known)?;
+    /// Returns cells whose numbers are to be kept apart, after a refusal of the state in its step for
+    /// this reason.
+    fn culprits(&self, state: &State, reason: Reason) -> Result<Vec<CellName>, AllocError> {
+        let Task { alloc, apart, .. } = self.task;
+        let origins = &self.merges.origins;
+        match &self.way {
+            Some(way) => culprits(alloc, origins, way.seen(state), &self.before, reason, apart),
+            None => Ok(Vec::new(alloc)),
         }
-        Ok(seen)
     }
 
     /// Takes out the last state, if that was refused and no writes are noted.
@@ -418,7 +418,9 @@ impl<'t, 'm> Run<'t, 'm> {
     /// Takes out what is told of the run to explain it: also of the last state, if that was refused
     /// and no writes are noted.
     pub(crate) fn insight(&mut self) -> Result<Insight, AllocError> {
-        let seen = self.take_seen()?;
+        let alloc = self.task.alloc;
+        let tracks = mem::replace(&mut self.seen, Vec::new(alloc));
+        let seen = self.merges.origins.known_states(alloc, tracks)?;
         let refused = self.take_refused()?;
         Ok(Insight {
             steps: self.steps,
@@ -467,17 +469,7 @@ impl Guide for Run<'_, '_> {
         let StepFault::Refused(failed) = fault else {
             return Ok(());
         };
-        let apart = match &self.way {
-            Some(way) => culprits(
-                self.task.alloc,
-                &self.merges.origins,
-                way.seen(state),
-                &self.before,
-                failed.reason(),
-                self.task.apart,
-            )?,
-            None => Vec::new(self.task.alloc),
-        };
+        let apart = self.culprits(state, failed.reason())?;
         self.stop = Some(Stop {
             failed: *failed,
             apart,

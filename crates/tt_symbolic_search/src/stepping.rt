@@ -95,6 +95,21 @@ impl Before {
         }
     }
 
+    /// Notes the elements that an instruction may take.
+    fn note_taken(&mut self, state: &State, effect: &Effect) -> Result<(), AllocError> {
+        let count = match effect {
+            Effect::Plain(line) => taken_by(state, line),
+            _ => MOST_TAKEN,
+        };
+        let cells = state.stack.as_slice();
+        let first = cells.len().saturating_sub(count);
+        self.taken.clear();
+        match cells.get(first..) {
+            Some(taken) => self.taken.extend_from_slice(taken),
+            None => Ok(()),
+        }
+    }
+
     /// Notes what a state is before a step by the instruction of this code.
     pub(crate) fn note(
         &mut self,
@@ -104,16 +119,7 @@ impl Before {
     ) -> Result<(), AllocError> {
         let state = track.state;
         let effect = entry(code);
-        let count = match effect {
-            Effect::Plain(line) => taken_by(state, line),
-            _ => MOST_TAKEN,
-        };
-        let cells = state.stack.as_slice();
-        let first = cells.len().saturating_sub(count);
-        self.taken.clear();
-        if let Some(taken) = cells.get(first..) {
-            self.taken.extend_from_slice(taken)?;
-        }
+        self.note_taken(state, effect)?;
         self.graphics = state.graphics;
         self.left = state.calls.last().map(|call| call.left);
         self.effect = effect;
