@@ -7,7 +7,8 @@ use crate::origin_notes::{FIRST_MAKER, Meeting, Notes, Point};
 use crate::track::Track;
 use std::alloc::{AllocError, Global};
 use std::collections::HashMap;
-use tt_symbolic_check::{KnownState, SymbolOrigin};
+use tt_setting::Failed;
+use tt_symbolic_check::{KnownState, RefusedState, SymbolOrigin};
 use tt_symbolic_state::cell::Cell;
 
 /// The number of an origin; `NOWHERE` is that of symbols that no merge made. Those from
@@ -303,6 +304,20 @@ impl Origins {
             state: Box::into_inner(state),
             origins,
         })
+    }
+
+    /// Returns likewise the state of a track that was refused by this test, if there is one.
+    pub(crate) fn refused_state(
+        &self,
+        alloc: Global,
+        track: Option<Track>,
+        failed: Failed,
+    ) -> Result<Option<RefusedState>, AllocError> {
+        let Some(track) = track else {
+            return Ok(None);
+        };
+        let known = self.known_state(alloc, track)?;
+        Ok(Some(RefusedState { known, failed }))
     }
 
     /// Returns the states of these tracks likewise.

@@ -403,16 +403,12 @@ impl<'t, 'm> Run<'t, 'm> {
 
     /// Takes out the last state, if that was refused and no writes are noted.
     fn take_refused(&mut self) -> Result<Option<RefusedState>, AllocError> {
-        let (Some(stop), None) = (&self.stop, self.task.noted) else {
-            return Ok(None);
-        };
-        let Some(track) = self.last.take() else {
-            return Ok(None);
-        };
-        Ok(Some(RefusedState {
-            known: self.merges.origins.known_state(self.task.alloc, track)?,
-            failed: stop.failed,
-        }))
+        let alloc = self.task.alloc;
+        let origins = &self.merges.origins;
+        match (&self.stop, self.task.noted) {
+            (Some(stop), None) => origins.refused_state(alloc, self.last.take(), stop.failed),
+            _ => Ok(None),
+        }
     }
 
     /// Takes out what is told of the run to explain it: also of the last state, if that was refused
