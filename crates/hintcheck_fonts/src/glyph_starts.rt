@@ -211,6 +211,17 @@ pub fn check_glyph(
     Ok(())
 }
 
+/// Gives starts these functions.
+///
+/// # Errors
+/// If memory runs out.
+fn give_functions(starts: &mut [Start], functions: &SortedMap<u32>) -> Result<(), AllocError> {
+    for start in starts {
+        start.functions.copy_from(functions)?;
+    }
+    Ok(())
+}
+
 /// Makes the starts of glyph programs after the ends of the CVT program. Where the search proposes
 /// none that follow each of them, nothing but functions is known.
 ///
@@ -224,9 +235,7 @@ pub fn starts_after(
     ensures { IfOk result (StartGlyphs ends.now) }
 {
     let mut proposed = search.starts_after(ends.states.as_slice())?;
-    for start in &mut proposed {
-        start.functions.copy_from(&ends.functions)?;
-    }
+    give_functions(proposed.as_mut_slice(), &ends.functions)?;
     match GlyphStarts::new(alloc, ends, proposed)? {
         Some(starts) => Ok(starts),
         None => GlyphStarts::unknown(alloc, ends),

@@ -97,8 +97,7 @@ impl Run<'_, '_> {
                 return self.rise(here, pool, way);
             }
             if must {
-                let inserted = self.came_back.insert(way.signature);
-                inserted.map_err(|_| AllocError)?;
+                self.note_return(way.signature)?;
             }
         }
         if may_meet {
@@ -140,16 +139,40 @@ impl Run<'_, '_> {
             self.waiting.spare(way.history)?;
             return Ok(Move::Meet(index));
         }
-        let mut joined = self.copied(pool, way.seen(here.state))?;
-        self.blend_with(&other.state, index, &mut joined)?;
+        let joined = self.joined(pool, way.seen(here.state), &other.state, index)?;
         let Track { state, history } = joined;
         if !covers_both(&mut pool.assigned, here.state, &other.state, &state)? {
-            pool.keep(state)?;
-            return self.put_down(here, way);
+            return self.put_down_instead(here, pool, way, state);
         }
-        self.waiting.exchange(index, history)?;
-        self.waiting.spare(way.history)?;
+        self.waiting.exchange(index, history, way.history)?;
         Ok(Move::Join(index, state))
+    }
+
+    /// Lets a state wait where it is, in place of another one that was made from it.
+    fn put_down_instead(
+        &mut self,
+        here: Here<'_>,
+        pool: &mut Pool,
+        way: Way,
+        other: Box<State>,
+    ) -> Chosen
+        ensures fair { IfOk result (IsFair here.entry.walk.now here.entry.state.now) }
+    {
+        pool.keep(other)?;
+        self.put_down(here, way)
+    }
+
+    /// Makes a copy of a track that shows too what the state shows that waits at an index of the list.
+    fn joined(
+        &mut self,
+        pool: &mut Pool,
+        track: Seen<'_>,
+        other: &State,
+        index: usize,
+    ) -> Result<Track, AllocError> {
+        let mut joined = self.copied(pool, track)?;
+        self.blend_with(other, index, &mut joined)?;
+        Ok(joined)
     }
 
     /// Makes a track show what the state shows too that waits at an index of the list.
@@ -194,19 +217,29 @@ impl Run<'_, '_> {
         if let Some(index) = self.waiting.head(way.signature) {
             return self.join(here, pool, way, index);
         }
-        let walk = here.walk;
-        let mut wider = self.copied(pool, way.seen(here.state))?;
-        let rises = self.widen(walk, &mut wider, way.signature)?;
+        let (wider, rises) = self.widened(here, pool, &way)?;
         let Track { state, history } = wider;
         if !covers_by(&mut pool.assigned, here.state, &state)? {
-            pool.keep(state)?;
-            return self.put_down(here, way);
+            return self.put_down_instead(here, pool, way, state);
         }
         self.marks.set(Site::of(&state));
         let purpose = Purpose::Head(way.signature, rises);
-        let index = self.waiting.put(walk, &state, purpose, history)?;
         self.waiting.spare(way.history)?;
+        let index = self.waiting.put(here.walk, &state, purpose, history)?;
         Ok(Move::Widen(state, index))
+    }
+
+    /// Makes a copy of a state that is widened to become a head. Returns too how often the heads have
+    /// risen then.
+    fn widened(
+        &mut self,
+        here: Here<'_>,
+        pool: &mut Pool,
+        way: &Way,
+    ) -> Result<(Track, u32), AllocError> {
+        let mut wider = self.copied(pool, way.seen(here.state))?;
+        let rises = self.widen(here.walk, &mut wider, way.signature)?;
+        Ok((wider, rises))
     }
 
     /// Widens a state to what it shows and the latest head of its signature, or to each cell by
@@ -237,9 +270,20 @@ impl Run<'_, '_> {
             rises,
             history: self.waiting.copied(&way.history)?,
         };
-        let inserted = self.heads.insert(way.signature, head);
-        inserted.map_err(|_| AllocError)?;
+        self.put_head(way.signature, head)?;
         self.way = Some(way);
         Ok(Move::Head)
+    }
+
+    /// Makes a head the latest one of a signature.
+    fn put_head(&mut self, signature: u64, head: Head) -> Result<(), AllocError> {
+        self.heads.insert(signature, head)?;
+        Ok(())
+    }
+
+    /// Notes that a state of this signature came back.
+    fn note_return(&mut self, signature: u64) -> Result<(), AllocError> {
+        self.came_back.insert(signature)?;
+        Ok(())
     }
 }

@@ -70,6 +70,28 @@ fn is_direct(before: &Before, reason: Reason) -> bool {
     }
 }
 
+/// Lists where the unknown ones of these cells come from.
+fn push_unknown(
+    list: &mut Vec<OriginNumber>,
+    track: Seen<'_>,
+    cells: &[Cell],
+) -> Result<(), AllocError> {
+    for cell in cells {
+        if number(*cell, track.state.ranges.as_slice()).is_none() {
+            list.push(track.origin(*cell))?;
+        }
+    }
+    Ok(())
+}
+
+/// Lists where the symbols come from that were split, the latest first.
+fn push_splits(list: &mut Vec<OriginNumber>, splits: &[OriginNumber]) -> Result<(), AllocError> {
+    for origin in splits.iter().rev() {
+        list.push(*origin)?;
+    }
+    Ok(())
+}
+
 /// Lists where what a refusal may come from comes from: the unknown cells that the instruction looked
 /// at, the first ones first, and then the symbols that were split, the latest first.
 fn suspects(
@@ -80,15 +102,10 @@ fn suspects(
 ) -> Result<Vec<OriginNumber>, AllocError> {
     let mut list = Vec::new(alloc);
     if is_direct(before, reason) {
-        for cell in looked_at(alloc, before)? {
-            if number(cell, track.state.ranges.as_slice()).is_none() {
-                list.push(track.origin(cell))?;
-            }
-        }
+        let cells = looked_at(alloc, before)?;
+        push_unknown(&mut list, track, cells.as_slice())?;
     }
-    for origin in track.history.splits.as_slice().iter().rev() {
-        list.push(*origin)?;
-    }
+    push_splits(&mut list, track.history.splits.as_slice())?;
     Ok(list)
 }
 
@@ -109,6 +126,21 @@ fn nearest_of(
     Ok(Vec::new(alloc))
 }
 
+/// Returns the nearest cells from whose merges one of the suspects comes: those that lost a number, if
+/// there are such.
+fn nearest_culprits(
+    alloc: Global,
+    origins: &Origins,
+    suspects: &[OriginNumber],
+    apart: &[CellName],
+) -> Result<Vec<CellName>, AllocError> {
+    let lost = nearest_of(alloc, origins, suspects, Wanted::LostNumbers, apart)?;
+    if !lost.is_empty() {
+        return Ok(lost);
+    }
+    nearest_of(alloc, origins, suspects, Wanted::Any, apart)
+}
+
 /// Returns cells whose numbers are to be kept apart, after a refusal in a step; none, where no merge
 /// is to blame.
 pub(crate) fn culprits(
@@ -120,15 +152,5 @@ pub(crate) fn culprits(
     apart: &[CellName],
 ) -> Result<Vec<CellName>, AllocError> {
     let suspects = suspects(alloc, track, before, reason)?;
-    let lost = nearest_of(
-        alloc,
-        origins,
-        suspects.as_slice(),
-        Wanted::LostNumbers,
-        apart,
-    )?;
-    if !lost.is_empty() {
-        return Ok(lost);
-    }
-    nearest_of(alloc, origins, suspects.as_slice(), Wanted::Any, apart)
+    nearest_culprits(alloc, origins, suspects.as_slice(), apart)
 }

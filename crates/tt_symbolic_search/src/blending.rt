@@ -9,9 +9,9 @@ use crate::track::{History, Level, Seen, Track, cell_count, copy_list};
 use std::alloc::{AllocError, Global};
 use std::collections::HashMap;
 use std::mem;
-use tt_code::Graphics;
 use tt_setting::SortedMap;
 use tt_symbolic_check::listed_near;
+use tt_symbolic_state::OpenCall;
 use tt_symbolic_state::cell::{Cell, Range, bounds, known, number};
 use tt_symbolic_state::stack::Stack;
 
@@ -26,7 +26,6 @@ const MOST_SPARE_SYMBOLS: usize = 16;
 const MOST_DIVISIONS: u32 = 100;
 
 /// What the merges of a run know of one another.
-#[derive(Drop)]
 pub(crate) struct Merges {
     /// The origins of symbols.
     pub origins: Origins,
@@ -34,6 +33,20 @@ pub(crate) struct Merges {
     pub dropped: HashMap<Part, OriginNumber>,
     /// The thresholds of widening.
     pub thresholds: Vec<i64>,
+}
+
+// Written out, so that who holds merges proves in one step that their memory is given back.
+impl Drop for Merges {
+    fn drop(self) {
+        let Merges {
+            origins,
+            dropped,
+            thresholds,
+        } = self;
+        drop(origins);
+        drop(dropped);
+        drop(thresholds);
+    }
 }
 
 impl Merges {
@@ -166,6 +179,17 @@ pub(crate) fn part_of(area: Area, number: u16) -> Part {
     }
 }
 
+/// Returns the range that has all numbers of both ranges of a cell's symbol, where these differ.
+fn hull_of(cell: Cell, theirs: Option<&Range>, own: Option<&Range>) -> Option<Range> {
+    match (theirs, own) {
+        (Some(theirs), Some(own)) if cell.factor != 0 && *theirs != *own => Some(Range {
+            low: theirs.low.min(own.low),
+            high: theirs.high.max(own.high),
+        }),
+        _ => None,
+    }
+}
+
 /// A merge: a track is made to show what an old one shows too.
 #[derive(Drop)]
 struct Blending<'a> {
@@ -195,17 +219,10 @@ impl Blending<'_> {
     /// Lets a cell that is the same in both states have each value of both.
     fn share(&mut self, cell: Cell) -> Result<(), AllocError> {
         let place = cell.symbol as usize;
-        let theirs = self.old.state.ranges.get(place).copied();
-        let own = self.mine.ranges.get(place).copied();
-        let (Some(theirs), Some(own)) = (theirs, own) else {
+        let theirs = self.old.state.ranges.as_slice().get(place);
+        let range = hull_of(cell, theirs, self.mine.ranges.as_slice().get(place));
+        let Some(range) = range else {
             return Ok(());
-        };
-        if cell.factor == 0 || theirs == own {
-            return Ok(());
-        }
-        let range = Range {
-            low: theirs.low.min(own.low),
-            high: theirs.high.max(own.high),
         };
         let (first, second) = (self.old.origin(cell), self.mine.origin(cell));
         let origin = self.merges.origins.computed(first, second)?;
@@ -256,46 +273,67 @@ impl Blending<'_> {
         }
         let lost_number = old.factor == 0 && mine.factor == 0;
         let origin = origins.merged(name, lost_number, theirs, own)?;
-        if let Some(notes) = &mut origins.notes {
-            let meeting = Meeting {
-                at: Point::of(self.old.state),
-                first: number(old, self.old.state.ranges.as_slice()),
-                second: number(mine, self.mine.ranges.as_slice()),
-            };
-            notes.note_meeting(origin, meeting)?;
-        }
+        self.note_meeting(origin, old, mine)?;
         Ok(origin)
+    }
+
+    /// Notes where two cells are merged, if notes are taken.
+    fn note_meeting(
+        &mut self,
+        origin: OriginNumber,
+        old: Cell,
+        mine: Cell,
+    ) -> Result<(), AllocError> {
+        let Some(notes) = &mut self.merges.origins.notes else {
+            return Ok(());
+        };
+        let meeting = Meeting {
+            at: Point::of(self.old.state),
+            first: number(old, self.old.state.ranges.as_slice()),
+            second: number(mine, self.mine.ranges.as_slice()),
+        };
+        notes.note_meeting(origin, meeting)
+    }
+
+    /// Merges what is left of a call.
+    fn call(&mut self, old: &OpenCall, call: &mut OpenCall) -> Result<(), AllocError> {
+        let name = CellName {
+            body: Some(call.body),
+            part: Part::Left,
+        };
+        call.left = self.cell(old.left, call.left, name)?;
+        Ok(())
     }
 
     /// Merges what is left of the calls.
     fn calls(&mut self, track: &mut Track) -> Result<(), AllocError> {
         let theirs = self.old.state.calls.as_slice().iter();
         for (call, other) in track.state.calls.iter_mut().zip(theirs) {
-            let name = CellName {
-                body: Some(call.body),
-                part: Part::Left,
-            };
-            call.left = self.cell(other.left, call.left, name)?;
+            self.call(other, call)?;
         }
         Ok(())
     }
 
-    /// Merges the graphics states.
-    fn graphics(&mut self, track: &mut Track) -> Result<(), AllocError> {
+    /// Merges the reference points.
+    fn references(&mut self, track: &mut Track) -> Result<(), AllocError> {
         let old = self.old.state.graphics;
         let mine = track.state.graphics;
         let rp0 = self.cell(old.rp0, mine.rp0, track.seen().name(Part::Rp0))?;
         let rp1 = self.cell(old.rp1, mine.rp1, track.seen().name(Part::Rp1))?;
         let rp2 = self.cell(old.rp2, mine.rp2, track.seen().name(Part::Rp2))?;
+        let graphics = &mut track.state.graphics;
+        graphics.rp0 = rp0;
+        graphics.rp1 = rp1;
+        graphics.rp2 = rp2;
+        Ok(())
+    }
+
+    /// Merges the loop numbers.
+    fn loop_number(&mut self, track: &mut Track) -> Result<(), AllocError> {
         let name = track.seen().name(Part::Loop);
-        let loop_number = self.cell(old.loop_number, mine.loop_number, name)?;
-        track.state.graphics = Graphics {
-            rp0,
-            rp1,
-            rp2,
-            loop_number,
-            ..mine
-        };
+        let old = self.old.state.graphics.loop_number;
+        let mine = track.state.graphics.loop_number;
+        track.state.graphics.loop_number = self.cell(old, mine, name)?;
         Ok(())
     }
 
@@ -303,6 +341,13 @@ impl Blending<'_> {
     fn stack(&mut self, track: &mut Track) -> Result<(), AllocError> {
         let empty = Stack::new(self.alloc);
         let mut cells = mem::replace(&mut track.state.stack, empty).into_cells();
+        self.elements(track, cells.as_mut_slice())?;
+        track.state.stack = Stack::from_cells(cells);
+        Ok(())
+    }
+
+    /// Merges the elements of the track's stack with those of the old one.
+    fn elements(&mut self, track: &Track, cells: &mut [Cell]) -> Result<(), AllocError> {
         let theirs = self.old.state.stack.as_slice().iter();
         for (height, (cell, other)) in cells.iter_mut().zip(theirs).enumerate() {
             if self.is_shared(*other, *cell) {
@@ -312,7 +357,6 @@ impl Blending<'_> {
                 *cell = self.cell(*other, *cell, name)?;
             }
         }
-        track.state.stack = Stack::from_cells(cells);
         Ok(())
     }
 
@@ -356,41 +400,60 @@ impl Blending<'_> {
         Ok(if is_dropped { None } else { Some(cell) })
     }
 
-    /// Finds out which entries of a memory area that the track lists get another cell, or none, where
+    /// Lists which entries of a memory area that the track lists get another cell, or none, where
     /// they are no longer listed.
-    fn changes(
+    fn list_changes(
         &mut self,
+        changes: &mut Vec<(u16, Option<Cell>)>,
         track: &Track,
         area: Area,
-    ) -> Result<Vec<(u16, Option<Cell>)>, AllocError> {
+    ) -> Result<(), AllocError> {
         let (mine, theirs) = (area.of(&track.state), area.of(self.old.state));
-        let mut changes = Vec::new(self.alloc);
         for (place, entry) in mine.as_slice().iter().enumerate() {
             let (number, cell) = *entry;
-            let other = listed_near(theirs, place, number);
-            if other.is_some_and(|other| self.is_shared(other, cell)) {
-                self.share(cell)?;
-                continue;
+            match listed_near(theirs, place, number) {
+                Some(other) if self.is_shared(other, cell) => self.share(cell)?,
+                other => {
+                    let name = track.seen().name(part_of(area, number));
+                    let cell = self.entry(area, other, cell, name)?;
+                    changes.push((number, cell))?;
+                }
             }
-            let name = track.seen().name(part_of(area, number));
-            changes.push((number, self.entry(area, other, cell, name)?))?;
         }
-        Ok(changes)
+        Ok(())
     }
 
     /// Merges the entries of a memory area.
     fn entries(&mut self, track: &mut Track, area: Area) -> Result<(), AllocError> {
         self.drop_old_entries(track, area)?;
-        let changes = self.changes(track, area)?;
-        let entries = area.of_mut(&mut track.state);
-        for (number, cell) in changes {
-            match cell {
-                Some(cell) => entries.put(number, cell)?,
-                None => entries.remove(number),
-            }
-        }
-        Ok(())
+        let mut changes = Vec::new(self.alloc);
+        self.list_changes(&mut changes, track, area)?;
+        change_entries(area.of_mut(&mut track.state), changes.as_slice())
     }
+
+    /// Merges all cells of the states.
+    fn cells(&mut self, track: &mut Track) -> Result<(), AllocError> {
+        self.calls(track)?;
+        self.references(track)?;
+        self.loop_number(track)?;
+        self.stack(track)?;
+        self.entries(track, Area::Storage)?;
+        self.entries(track, Area::Controls)
+    }
+}
+
+/// Gives entries of a memory area other cells, and leaves out those that get none.
+fn change_entries(
+    entries: &mut SortedMap<Cell>,
+    changes: &[(u16, Option<Cell>)],
+) -> Result<(), AllocError> {
+    for change in changes {
+        match change.1 {
+            Some(cell) => entries.put(change.0, cell)?,
+            None => entries.remove(change.0),
+        }
+    }
+    Ok(())
 }
 
 /// Whether the place of the old track is the later one.
@@ -444,11 +507,7 @@ pub(crate) fn blend(
         new,
         manner,
     };
-    blending.calls(track)?;
-    blending.graphics(track)?;
-    blending.stack(track)?;
-    blending.entries(track, Area::Storage)?;
-    blending.entries(track, Area::Controls)?;
+    blending.cells(track)?;
     blend_histories(old.history, &mut track.history)?;
     let Blending { new, .. } = blending;
     new.put(track);

@@ -130,11 +130,16 @@ impl Renaming {
         Ok(Cell { symbol, ..cell })
     }
 
-    /// Renames the symbols of what is left of the calls, and of the graphics state.
-    fn registers(&mut self, track: &mut Track) -> Result<(), AllocError> {
+    /// Renames the symbols of what is left of the calls.
+    fn calls(&mut self, track: &mut Track) -> Result<(), AllocError> {
         for call in track.state.calls.iter_mut() {
             call.left = self.cell(call.left)?;
         }
+        Ok(())
+    }
+
+    /// Renames the symbols of the graphics state.
+    fn graphics(&mut self, track: &mut Track) -> Result<(), AllocError> {
         let graphics = &mut track.state.graphics;
         graphics.rp0 = self.cell(graphics.rp0)?;
         graphics.rp1 = self.cell(graphics.rp1)?;
@@ -147,10 +152,16 @@ impl Renaming {
     fn stack(&mut self, track: &mut Track) -> Result<(), AllocError> {
         let empty = Stack::new(self.alloc);
         let mut cells = mem::replace(&mut track.state.stack, empty).into_cells();
-        for cell in cells.iter_mut() {
+        self.elements(cells.as_mut_slice())?;
+        track.state.stack = Stack::from_cells(cells);
+        Ok(())
+    }
+
+    /// Renames the symbols of elements of the stack.
+    fn elements(&mut self, cells: &mut [Cell]) -> Result<(), AllocError> {
+        for cell in cells {
             *cell = self.cell(*cell)?;
         }
-        track.state.stack = Stack::from_cells(cells);
         Ok(())
     }
 
@@ -160,14 +171,35 @@ impl Renaming {
         let entries = area.of_mut(&mut track.state);
         let mut symbolic = Vec::from_slice(self.alloc, entries.as_slice())?;
         symbolic.retain(|entry| entry.1.factor != 0);
-        for (number, cell) in symbolic {
-            if self.sharing == Sharing::Dropped && is_wide(self.old.range(cell), area.width()) {
-                entries.remove(number);
-            } else {
-                entries.put(number, self.cell(cell)?)?;
-            }
+        for entry in symbolic.as_slice() {
+            self.entry(entries, area, *entry)?;
         }
         Ok(())
+    }
+
+    /// Renames the symbol of an entry, or leaves the entry out.
+    fn entry(
+        &mut self,
+        entries: &mut SortedMap<Cell>,
+        area: Area,
+        entry: (u16, Cell),
+    ) -> Result<(), AllocError> {
+        let (number, cell) = entry;
+        if self.sharing == Sharing::Dropped && is_wide(self.old.range(cell), area.width()) {
+            entries.remove(number);
+            return Ok(());
+        }
+        let cell = self.cell(cell)?;
+        entries.put(number, cell)
+    }
+
+    /// Renames all symbols of a state.
+    fn cells(&mut self, track: &mut Track) -> Result<(), AllocError> {
+        self.calls(track)?;
+        self.graphics(track)?;
+        self.stack(track)?;
+        self.entries(track, Area::Storage)?;
+        self.entries(track, Area::Controls)
     }
 }
 
@@ -228,10 +260,7 @@ pub(crate) fn rename(alloc: Global, track: &mut Track, sharing: Sharing) -> Resu
         sharing,
         numbers,
     };
-    renaming.registers(track)?;
-    renaming.stack(track)?;
-    renaming.entries(track, Area::Storage)?;
-    renaming.entries(track, Area::Controls)?;
+    renaming.cells(track)?;
     let Renaming { new, .. } = renaming;
     new.put(track);
     Ok(())

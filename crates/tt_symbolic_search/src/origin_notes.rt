@@ -52,7 +52,6 @@ pub(crate) struct Meeting {
 }
 
 /// What is noted of origins.
-#[derive(Drop)]
 pub(crate) struct Notes {
     /// The instructions that made symbols, by their numbers from `FIRST_MAKER` on.
     makers: Vec<Point>,
@@ -60,6 +59,20 @@ pub(crate) struct Notes {
     numbers: HashMap<Point, OriginNumber>,
     /// The first merge of each origin that names one.
     meetings: HashMap<OriginNumber, Meeting>,
+}
+
+// Written out, so that who holds notes proves in one step that their memory is given back.
+impl Drop for Notes {
+    fn drop(self) {
+        let Notes {
+            makers,
+            numbers,
+            meetings,
+        } = self;
+        drop(makers);
+        drop(numbers);
+        drop(meetings);
+    }
 }
 
 impl Notes {

@@ -7,7 +7,8 @@ use crate::origin_notes::{FIRST_MAKER, Meeting, Notes, Point};
 use crate::track::Track;
 use std::alloc::{AllocError, Global};
 use std::collections::HashMap;
-use tt_symbolic_check::{KnownState, SymbolOrigin};
+use tt_setting::Failed;
+use tt_symbolic_check::{KnownState, RefusedState, SymbolOrigin};
 use tt_symbolic_state::cell::Cell;
 
 /// The number of an origin; `NOWHERE` is that of symbols that no merge made. Those from
@@ -54,7 +55,6 @@ struct Origin {
 }
 
 /// All origins of the symbols of a run.
-#[derive(Drop)]
 pub(crate) struct Origins {
     /// The origins, by their numbers.
     list: Vec<Origin>,
@@ -62,6 +62,20 @@ pub(crate) struct Origins {
     numbers: HashMap<Origin, OriginNumber>,
     /// What is noted to explain a refusal; nothing where none is to be explained.
     pub notes: Option<Notes>,
+}
+
+// Written out, so that who holds origins proves in one step that their memory is given back.
+impl Drop for Origins {
+    fn drop(self) {
+        let Origins {
+            list,
+            numbers,
+            notes,
+        } = self;
+        drop(list);
+        drop(numbers);
+        drop(notes);
+    }
 }
 
 /// Which merges are looked for.
@@ -82,6 +96,30 @@ fn see(seen: &mut [bool], number: OriginNumber) -> bool {
             is_new
         }
         None => false,
+    }
+}
+
+/// How far it was looked for where a symbol comes from.
+#[derive(Drop)]
+struct Looks {
+    /// The cells that were found.
+    found: Vec<CellName>,
+    /// For each number whether its origin was looked at.
+    seen: Vec<bool>,
+    /// The origins to look at, in the order of their distance.
+    queue: Vec<OriginNumber>,
+}
+
+impl Looks {
+    /// Makes the first look, at one of so many origins.
+    fn new(alloc: Global, from: OriginNumber, count: usize) -> Result<Looks, AllocError> {
+        let seen = vec![in alloc; false; count.saturating_add(1)]?;
+        let queue = vec![in alloc; from]?;
+        Ok(Looks {
+            found: Vec::new(alloc),
+            seen,
+            queue,
+        })
     }
 }
 
@@ -108,18 +146,28 @@ impl Origins {
         self.list.get(place).copied()
     }
 
-    /// Returns the number of an origin, which it gets where it has none.
-    fn number_of(&mut self, origin: Origin) -> Result<OriginNumber, AllocError> {
-        if let Some(number) = self.numbers.get(&origin) {
-            return Ok(*number);
+    /// Returns the number of the latest origin.
+    fn latest(&self) -> Result<OriginNumber, AllocError> {
+        match u32::try_from(self.list.len()) {
+            Ok(number) if number < FIRST_MAKER => Ok(number),
+            _ => Err(AllocError),
         }
+    }
+
+    /// Adds an origin, and returns its number.
+    fn add(&mut self, origin: Origin) -> Result<OriginNumber, AllocError> {
         self.list.push(origin)?;
-        let number = u32::try_from(self.list.len()).map_err(|_| AllocError)?;
-        if number >= FIRST_MAKER {
-            return Err(AllocError);
-        }
+        let number = self.latest()?;
         self.numbers.insert(origin, number)?;
         Ok(number)
+    }
+
+    /// Returns the number of an origin, which it gets where it has none.
+    fn number_of(&mut self, origin: Origin) -> Result<OriginNumber, AllocError> {
+        match self.numbers.get(&origin) {
+            Some(number) => Ok(*number),
+            None => self.add(origin),
+        }
     }
 
     /// Returns the origin of a number that was computed from two others.
@@ -231,21 +279,58 @@ impl Origins {
         Ok(SymbolOrigin::Lost)
     }
 
+    /// Returns where symbols of these origins come from, as far as it was noted.
+    fn symbol_origins(
+        &self,
+        alloc: Global,
+        numbers: &[OriginNumber],
+    ) -> Result<Vec<SymbolOrigin>, AllocError> {
+        let mut origins = Vec::new(alloc);
+        for number in numbers {
+            origins.push(self.symbol_origin(alloc, *number)?)?;
+        }
+        Ok(origins)
+    }
+
     /// Returns the state of a track, with where the number of each of its symbols comes from.
     pub(crate) fn known_state(
         &self,
         alloc: Global,
         track: Track,
     ) -> Result<KnownState, AllocError> {
-        let Track { state, history } = track;
-        let mut origins = Vec::new(alloc);
-        for number in history.origins.as_slice() {
-            origins.push(self.symbol_origin(alloc, *number)?)?;
-        }
+        let origins = self.symbol_origins(alloc, track.history.origins.as_slice())?;
+        let Track { state, .. } = track;
         Ok(KnownState {
             state: Box::into_inner(state),
             origins,
         })
+    }
+
+    /// Returns likewise the state of a track that was refused by this test, if there is one.
+    pub(crate) fn refused_state(
+        &self,
+        alloc: Global,
+        track: Option<Track>,
+        failed: Failed,
+    ) -> Result<Option<RefusedState>, AllocError> {
+        let Some(track) = track else {
+            return Ok(None);
+        };
+        let known = self.known_state(alloc, track)?;
+        Ok(Some(RefusedState { known, failed }))
+    }
+
+    /// Returns the states of these tracks likewise.
+    pub(crate) fn known_states(
+        &self,
+        alloc: Global,
+        tracks: Vec<Track>,
+    ) -> Result<Vec<KnownState>, AllocError> {
+        let mut states = Vec::new(alloc);
+        for track in tracks {
+            states.push(self.known_state(alloc, track)?)?;
+        }
+        Ok(states)
     }
 
     /// Returns the cell that an origin names, if its merge is one that is looked for and the cell
@@ -271,31 +356,44 @@ impl Origins {
         wanted: Wanted,
         apart: &[CellName],
     ) -> Result<Vec<CellName>, AllocError> {
-        let mut found = Vec::new(alloc);
-        let mut seen = vec![in alloc; false; self.list.len().saturating_add(1)]?;
-        let mut queue = vec![in alloc; from]?;
-        let mut end = queue.len();
+        let mut looks = Looks::new(alloc, from, self.list.len())?;
+        let mut end = looks.queue.len();
         for index in 0..=self.list.len().saturating_mul(2) {
             if index == end {
-                if !found.is_empty() {
+                if !looks.found.is_empty() {
                     break;
                 }
-                end = queue.len();
+                end = looks.queue.len();
             }
-            let Some(number) = queue.get(index).copied() else {
+            let Some(number) = looks.queue.get(index).copied() else {
                 break;
             };
-            let Some(origin) = self.get(number) else {
-                continue;
-            };
-            if !see(seen.as_mut_slice(), number) {
-                continue;
-            }
-            match Origins::culprit(origin, wanted, apart) {
-                Some(name) => found.push(name)?,
-                None => queue.extend_from_slice(&[origin.first, origin.second])?,
-            }
+            self.look(&mut looks, number, wanted, apart)?;
         }
+        let Looks { found, .. } = looks;
         Ok(found)
+    }
+
+    /// Looks at the origin of this number.
+    fn look(
+        &self,
+        looks: &mut Looks,
+        number: OriginNumber,
+        wanted: Wanted,
+        apart: &[CellName],
+    ) -> Result<(), AllocError> {
+        let Some(origin) = self.get(number) else {
+            return Ok(());
+        };
+        if !see(looks.seen.as_mut_slice(), number) {
+            return Ok(());
+        }
+        match Origins::culprit(origin, wanted, apart) {
+            Some(name) => looks.found.push(name)?,
+            None => looks
+                .queue
+                .extend_from_slice(&[origin.first, origin.second])?,
+        }
+        Ok(())
     }
 }

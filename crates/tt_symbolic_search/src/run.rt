@@ -96,6 +96,22 @@ impl Way {
         }
     }
 
+    /// Notes that a symbol of the state is split.
+    fn note_split(&mut self, symbol: u32) -> Result<(), AllocError> {
+        let origin = self.history.origins.get(symbol as usize).copied();
+        self.history
+            .note_split(of_merges(origin.unwrap_or(NOWHERE)))?;
+        self.splits = self.splits.saturating_add(1);
+        Ok(())
+    }
+
+    /// Notes where a step has led.
+    fn note_step(&mut self, led: Led) {
+        self.led = Some(led);
+        self.splits = 0;
+        self.is_tidied = false;
+    }
+
     /// Lends the state that is carried on with its history.
     pub(crate) fn seen<'a>(&'a self, state: &'a State) -> Seen<'a> {
         Seen {
@@ -125,7 +141,6 @@ pub(crate) struct Stop {
 }
 
 /// A run of the search.
-#[derive(Drop)]
 pub(crate) struct Run<'t, 'm> {
     pub task: Task<'t, 'm>,
     pub merges: &'m mut Merges,
@@ -157,6 +172,40 @@ pub(crate) struct Run<'t, 'm> {
     has_more: bool,
 }
 
+// Written out, so that who holds a run proves in one step that its memory is given back.
+impl<'t, 'm> Drop for Run<'t, 'm> {
+    fn drop(self) {
+        let Run {
+            task: _,
+            merges: _,
+            writes: _,
+            way,
+            waiting,
+            heads,
+            came_back,
+            marks,
+            kept_cells: _,
+            before,
+            steps: _,
+            is_spent: _,
+            stop,
+            depth: _,
+            last,
+            seen,
+            has_more: _,
+        } = self;
+        drop(way);
+        drop(waiting);
+        drop(heads);
+        drop(came_back);
+        drop(marks);
+        drop(before);
+        drop(stop);
+        drop(last);
+        drop(seen);
+    }
+}
+
 /// Whether a state has many symbols that no cell has.
 fn is_untidy(state: &State) -> bool {
     let most = state.stack.len().saturating_mul(2);
@@ -174,10 +223,8 @@ impl<'t, 'm> Run<'t, 'm> {
         spare: &'m mut Vec<Box<History>>,
     ) -> Result<Run<'t, 'm>, AllocError> {
         let alloc = task.alloc;
-        let mut waiting = Waiting::new(alloc, spare);
-        for start in starts {
-            waiting.put_start(start.ranges.len())?;
-        }
+        let waiting = Waiting::of_starts(alloc, spare, starts)?;
+        let marks = Marks::new(alloc, task.setting)?;
         Ok(Run {
             task,
             merges,
@@ -186,7 +233,7 @@ impl<'t, 'm> Run<'t, 'm> {
             waiting,
             heads: HashMap::new(alloc),
             came_back: HashSet::new(alloc),
-            marks: Marks::new(alloc, task.setting)?,
+            marks,
             kept_cells: 0,
             before: Before::new(alloc),
             steps: 0,
@@ -254,13 +301,8 @@ impl<'t, 'm> Run<'t, 'm> {
         ensures fair { IfOk result (IsFair here.entry.walk.now here.entry.state.now) }
     {
         let mut way = way;
-        let origin = way.history.origins.get(split.symbol as usize).copied();
-        way.history
-            .note_split(of_merges(origin.unwrap_or(NOWHERE)))?;
-        way.splits = way.splits.saturating_add(1);
-        let upper = self.waiting.copied(&way.history)?;
-        let Here { walk, state } = here;
-        let index = self.waiting.put(walk, state, Purpose::Part, upper)?;
+        way.note_split(split.symbol)?;
+        let index = self.waiting.put_part(here.walk, way.seen(here.state))?;
         self.way = Some(way);
         Ok(Move::Split(split, index))
     }
@@ -271,9 +313,7 @@ impl<'t, 'm> Run<'t, 'm> {
     {
         let mut way = way;
         way.is_tidied = true;
-        let mut copy = self.copied(pool, way.seen(here.state))?;
-        rename(self.task.alloc, &mut copy, Sharing::Kept)?;
-        let Track { state, history } = copy;
+        let Track { state, history } = self.renamed(pool, way.seen(here.state))?;
         if !covers_by(&mut pool.assigned, here.state, &state)? {
             pool.keep(state)?;
             self.way = Some(way);
@@ -284,57 +324,100 @@ impl<'t, 'm> Run<'t, 'm> {
         Ok(Move::Widen(state, self.waiting.len()))
     }
 
+    /// Makes a copy of a state without the symbols that no cell has.
+    fn renamed(&mut self, pool: &mut Pool, track: Seen<'_>) -> Result<Track, AllocError> {
+        let mut copy = self.copied(pool, track)?;
+        rename(self.task.alloc, &mut copy, Sharing::Kept)?;
+        Ok(copy)
+    }
+
     /// Makes a step of the state, by the instruction of this code.
     fn step(&mut self, here: Here<'_>, pool: &mut Pool, way: Way, code: u8) -> Chosen
         ensures fair { IfOk result (IsFair here.entry.walk.now here.entry.state.now) }
     {
-        let track = way.seen(here.state);
-        self.keep(pool, track)?;
-        if let Some(kept) = self.task.noted {
-            let setting = self.task.setting;
-            self.writes.note(setting, here.state, &kept, code)?;
-        }
-        self.before.note(self.merges, track, code)?;
+        self.note(pool, way.seen(here.state), code)?;
         self.way = Some(way);
         Ok(Move::Go)
     }
 
+    /// Notes what is needed of a state before its step by the instruction of this code.
+    fn note(&mut self, pool: &mut Pool, track: Seen<'_>, code: u8) -> Result<(), AllocError> {
+        if let Some(question) = self.task.question {
+            self.keep(pool, track, question)?;
+        }
+        if let Some(kept) = self.task.noted {
+            let setting = self.task.setting;
+            self.writes.note(setting, track.state, &kept, code)?;
+        }
+        self.before.note(self.merges, track, code)
+    }
+
     /// Keeps the state before its step, as far as an explanation needs it.
-    fn keep(&mut self, pool: &mut Pool, track: Seen<'_>) -> Result<(), AllocError> {
-        let Some(question) = self.task.question else {
-            return Ok(());
-        };
+    fn keep(
+        &mut self,
+        pool: &mut Pool,
+        track: Seen<'_>,
+        question: Question,
+    ) -> Result<(), AllocError> {
         if question.is_on(self.task.setting.kind, Site::of(track.state)) {
-            if self.seen.len() < MOST_SEEN {
-                let copy = self.copied(pool, track)?;
-                self.seen.push(copy)?;
-            } else {
-                self.has_more = true;
-            }
+            self.keep_seen(pool, track)?;
         }
         let copy = self.copied(pool, track)?;
-        if let Some(last) = self.last.replace(copy) {
-            pool.keep(last.state)?;
+        match self.last.replace(copy) {
+            Some(last) => pool.keep(last.state),
+            None => Ok(()),
         }
+    }
+
+    /// Keeps a state that came to the site that is asked for, if it is one of the first.
+    fn keep_seen(&mut self, pool: &mut Pool, track: Seen<'_>) -> Result<(), AllocError> {
+        if self.seen.len() >= MOST_SEEN {
+            self.has_more = true;
+            return Ok(());
+        }
+        let copy = self.copied(pool, track)?;
+        self.seen.push(copy)?;
         Ok(())
+    }
+
+    /// Counts a step after which the stack has so many elements.
+    fn count_step(&mut self, depth: usize) {
+        self.depth = self.depth.max(depth);
+        if self.steps >= self.task.most_steps {
+            self.is_spent = true;
+        } else {
+            self.steps = self.steps.saturating_add(1);
+        }
+    }
+
+    /// Returns cells whose numbers are to be kept apart, after a refusal of the state in its step for
+    /// this reason.
+    fn culprits(&self, state: &State, reason: Reason) -> Result<Vec<CellName>, AllocError> {
+        let Task { alloc, apart, .. } = self.task;
+        let origins = &self.merges.origins;
+        match &self.way {
+            Some(way) => culprits(alloc, origins, way.seen(state), &self.before, reason, apart),
+            None => Ok(Vec::new(alloc)),
+        }
+    }
+
+    /// Takes out the last state, if that was refused and no writes are noted.
+    fn take_refused(&mut self) -> Result<Option<RefusedState>, AllocError> {
+        let alloc = self.task.alloc;
+        let origins = &self.merges.origins;
+        match (&self.stop, self.task.noted) {
+            (Some(stop), None) => origins.refused_state(alloc, self.last.take(), stop.failed),
+            _ => Ok(None),
+        }
     }
 
     /// Takes out what is told of the run to explain it: also of the last state, if that was refused
     /// and no writes are noted.
     pub(crate) fn insight(&mut self) -> Result<Insight, AllocError> {
         let alloc = self.task.alloc;
-        let origins = &self.merges.origins;
-        let mut seen = Vec::new(alloc);
-        for track in mem::replace(&mut self.seen, Vec::new(alloc)) {
-            seen.push(origins.known_state(alloc, track)?)?;
-        }
-        let refused = match (self.last.take(), &self.stop) {
-            (Some(track), Some(stop)) if self.task.noted.is_none() => Some(RefusedState {
-                known: origins.known_state(alloc, track)?,
-                failed: stop.failed,
-            }),
-            _ => None,
-        };
+        let tracks = mem::replace(&mut self.seen, Vec::new(alloc));
+        let seen = self.merges.origins.known_states(alloc, tracks)?;
+        let refused = self.take_refused()?;
         Ok(Insight {
             steps: self.steps,
             depth: self.depth,
@@ -372,16 +455,9 @@ impl Guide for Run<'_, '_> {
             let Task { alloc, setting, .. } = self.task;
             let before = &self.before;
             let led = before.follow(alloc, setting, self.merges, state, &mut way.history)?;
-            way.led = Some(led);
-            way.splits = 0;
-            way.is_tidied = false;
+            way.note_step(led);
         }
-        self.depth = self.depth.max(state.stack.len());
-        if self.steps >= self.task.most_steps {
-            self.is_spent = true;
-        } else {
-            self.steps = self.steps.saturating_add(1);
-        }
+        self.count_step(state.stack.len());
         Ok(())
     }
 
@@ -389,17 +465,7 @@ impl Guide for Run<'_, '_> {
         let StepFault::Refused(failed) = fault else {
             return Ok(());
         };
-        let apart = match &self.way {
-            Some(way) => culprits(
-                self.task.alloc,
-                &self.merges.origins,
-                way.seen(state),
-                &self.before,
-                failed.reason(),
-                self.task.apart,
-            )?,
-            None => Vec::new(self.task.alloc),
-        };
+        let apart = self.culprits(state, failed.reason())?;
         self.stop = Some(Stop {
             failed: *failed,
             apart,

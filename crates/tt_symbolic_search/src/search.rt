@@ -260,15 +260,12 @@ impl Search {
         };
         let (merges, writes) = (&mut self.merges, &mut self.writes);
         let mut run = Run::new(task, merges, writes, starts, &mut self.spare)?;
-        let moves = most_steps
-            .saturating_mul(MOVES_PER_STEP)
-            .saturating_add(MORE_MOVES);
+        let moves = moves_for(most_steps);
         let pool = &mut self.pool;
         let answer = check(self.alloc, pool, setting, kept, starts, &mut run, moves);
         self.steps = self.steps.saturating_add(run.steps);
-        let is_told = !matches!(&answer, Err(refusal) if is_beyond(refusal));
-        if self.question.is_some() && is_told {
-            self.insight = Some(run.insight()?);
+        if self.question.is_some() {
+            self.insight = insight_of(&mut run, &answer)?;
         }
         trial.stop = run.stop.take();
         answer
@@ -305,6 +302,24 @@ impl Search {
         }
         trial.effort.widest_compared = WIDEST;
         Ok(true)
+    }
+}
+
+/// Returns how many moves a walk of so many steps may have.
+fn moves_for(steps: u64) -> u64 {
+    steps
+        .saturating_mul(MOVES_PER_STEP)
+        .saturating_add(MORE_MOVES)
+}
+
+/// Takes out what is told of a run with this answer; nothing where that met the budget.
+fn insight_of(
+    run: &mut Run<'_, '_>,
+    answer: &Result<Vec<State>, Refusal>,
+) -> Result<Option<Insight>, AllocError> {
+    match answer {
+        Err(refusal) if is_beyond(refusal) => Ok(None),
+        _ => Ok(Some(run.insight()?)),
     }
 }
 

@@ -63,6 +63,27 @@ fn like(starts: &[Proposed], signature: u64) -> Option<usize> {
     starts.iter().position(|other| other.signature == signature)
 }
 
+/// Merges a start with another one.
+fn merge(
+    alloc: Global,
+    merges: &mut Merges,
+    other: &mut Track,
+    track: Track,
+) -> Result<(), AllocError> {
+    let mut track = track;
+    blend(alloc, merges, other.seen(), &mut track, BOXES)?;
+    *other = track;
+    Ok(())
+}
+
+/// Adds a start to the others.
+fn push(alloc: Global, starts: &mut Vec<Proposed>, start: Proposed) -> Result<(), AllocError> {
+    let mut start = start;
+    rename(alloc, &mut start.track, Sharing::Dropped)?;
+    starts.push(start)?;
+    Ok(())
+}
+
 /// Adds a start, or merges it with another one.
 fn add(
     alloc: Global,
@@ -70,20 +91,44 @@ fn add(
     starts: &mut Vec<Proposed>,
     start: Proposed,
 ) -> Result<(), AllocError> {
-    let mut start = start;
     let place = like(starts.as_slice(), start.signature);
     match place.and_then(|place| starts.get_mut(place)) {
-        Some(other) => {
-            blend(alloc, merges, other.track.seen(), &mut start.track, BOXES)?;
-            other.track = start.track;
-            Ok(())
-        }
-        None => {
-            rename(alloc, &mut start.track, Sharing::Dropped)?;
-            starts.push(start)?;
-            Ok(())
-        }
+        Some(other) => merge(alloc, merges, &mut other.track, start.track),
+        None => push(alloc, starts, start),
     }
+}
+
+/// Adds the start that follows an end in this state.
+fn add_state(
+    alloc: Global,
+    merges: &mut Merges,
+    starts: &mut Vec<Proposed>,
+    state: Box<State>,
+    apart: &[CellName],
+) -> Result<(), AllocError> {
+    let history = History::boxed_start(alloc, state.ranges.len())?;
+    let track = Track { state, history };
+    let signature = signature(track.seen(), &[], apart);
+    add(alloc, merges, starts, Proposed { track, signature })
+}
+
+/// Makes a state in which glyph programs start after an end, in memory of its own.
+fn boxed_state_after(
+    alloc: Global,
+    end: &State,
+    writes: &Writes,
+) -> Result<Box<State>, AllocError> {
+    let state = state_after(alloc, end, writes)?;
+    Ok(Box::new(alloc, state)?)
+}
+
+/// Lists what is known in each start.
+fn listed(alloc: Global, starts: &[Proposed]) -> Result<Vec<Start>, AllocError> {
+    let mut list = Vec::new(alloc);
+    for start in starts {
+        list.push(Start::after(alloc, &start.track.state)?)?;
+    }
+    Ok(list)
 }
 
 /// Makes the starts of glyph programs after the ends of the CVT program. Ends are merged whatever
@@ -97,18 +142,11 @@ pub(crate) fn starts_after(
 ) -> Result<Vec<Start>, AllocError> {
     let mut starts = Vec::new(alloc);
     for end in ends {
-        let state = Box::new(alloc, state_after(alloc, end, writes)?)?;
+        let state = boxed_state_after(alloc, end, writes)?;
         let covered = is_covered(alloc, starts.as_slice(), &state)?;
         if !covered {
-            let history = Box::new(alloc, History::start(alloc, state.ranges.len())?)?;
-            let track = Track { state, history };
-            let signature = signature(track.seen(), &[], apart);
-            add(alloc, merges, &mut starts, Proposed { track, signature })?;
+            add_state(alloc, merges, &mut starts, state, apart)?;
         }
     }
-    let mut list = Vec::new(alloc);
-    for start in starts {
-        list.push(Start::after(alloc, &start.track.state)?)?;
-    }
-    Ok(list)
+    listed(alloc, starts.as_slice())
 }

@@ -95,6 +95,21 @@ impl Before {
         }
     }
 
+    /// Notes the elements that an instruction may take.
+    fn note_taken(&mut self, state: &State, effect: &Effect) -> Result<(), AllocError> {
+        let count = match effect {
+            Effect::Plain(line) => taken_by(state, line),
+            _ => MOST_TAKEN,
+        };
+        let cells = state.stack.as_slice();
+        let first = cells.len().saturating_sub(count);
+        self.taken.clear();
+        match cells.get(first..) {
+            Some(taken) => self.taken.extend_from_slice(taken),
+            None => Ok(()),
+        }
+    }
+
     /// Notes what a state is before a step by the instruction of this code.
     pub(crate) fn note(
         &mut self,
@@ -104,16 +119,7 @@ impl Before {
     ) -> Result<(), AllocError> {
         let state = track.state;
         let effect = entry(code);
-        let count = match effect {
-            Effect::Plain(line) => taken_by(state, line),
-            _ => MOST_TAKEN,
-        };
-        let cells = state.stack.as_slice();
-        let first = cells.len().saturating_sub(count);
-        self.taken.clear();
-        if let Some(taken) = cells.get(first..) {
-            self.taken.extend_from_slice(taken)?;
-        }
+        self.note_taken(state, effect)?;
         self.graphics = state.graphics;
         self.left = state.calls.last().map(|call| call.left);
         self.effect = effect;
@@ -224,6 +230,25 @@ fn stored_origin(merges: &Merges, track: Seen<'_>, line: &Row) -> OriginNumber {
     }
 }
 
+/// Returns the origin of the symbols that the instruction of this code makes, which this line describes.
+fn origin_of_line(
+    merges: &mut Merges,
+    track: Seen<'_>,
+    code: u8,
+    line: &Row,
+) -> Result<OriginNumber, AllocError> {
+    match refinement(code) {
+        Refinement::Greatest | Refinement::Least | Refinement::Product | Refinement::Quotient =>
+            origin_of_two(merges, track),
+        Refinement::Floor | Refinement::Ceiling => Ok(element_origin(track, 0)),
+        Refinement::ReadsControl => Ok(read_origin(merges, track, Area::Controls)),
+        Refinement::WritesControl
+        | Refinement::ChangesControl
+        | Refinement::ChangesControls
+        | Refinement::Ordinary => Ok(stored_origin(merges, track, line)),
+    }
+}
+
 /// Returns the origin of the symbols that the instruction of this code makes.
 fn origin_of_result(
     merges: &mut Merges,
@@ -234,16 +259,7 @@ fn origin_of_result(
     match effect {
         Effect::Arithmetic(operation) if takes_one(*operation) => Ok(element_origin(track, 0)),
         Effect::Arithmetic(_) => origin_of_two(merges, track),
-        Effect::Plain(line) => match refinement(code) {
-            Refinement::Greatest | Refinement::Least | Refinement::Product | Refinement::Quotient =>
-                origin_of_two(merges, track),
-            Refinement::Floor | Refinement::Ceiling => Ok(element_origin(track, 0)),
-            Refinement::ReadsControl => Ok(read_origin(merges, track, Area::Controls)),
-            Refinement::WritesControl
-            | Refinement::ChangesControl
-            | Refinement::ChangesControls
-            | Refinement::Ordinary => Ok(stored_origin(merges, track, line)),
-        },
+        Effect::Plain(line) => origin_of_line(merges, track, code, line),
         _ => Ok(NOWHERE),
     }
 }

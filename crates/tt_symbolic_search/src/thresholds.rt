@@ -5,8 +5,8 @@ use std::alloc::{AllocError, Global};
 use tt_setting::{Kind, Setting};
 
 /// The thresholds of all fonts.
-const USUAL: [i64; 17] = [
-    LEAST, -1, 0, 1, 2, 4, 8, 16, 32, 63, 64, 128, 255, 256, 1024, 4096, 65535,
+const USUAL: [i64; 18] = [
+    LEAST, -1, 0, 1, 2, 4, 8, 16, 32, 63, 64, 128, 255, 256, 1024, 4096, 65535, GREATEST,
 ];
 
 /// The least number of the machine.
@@ -27,20 +27,40 @@ fn push_count(list: &mut Vec<i64>, count: i64) -> Result<(), AllocError> {
     list.extend_from_slice(&[count.saturating_sub(1), count])
 }
 
+/// Returns the counts that a font's limits and its control values give.
+fn counts(setting: &Setting<'_>) -> [i64; 5] {
+    let limits = &setting.limits;
+    [
+        i64::from(limits.storage),
+        i64::from(limits.functions),
+        i64::from(limits.twilight),
+        i64::from(limits.stack),
+        i64::from(setting.cvt),
+    ]
+}
+
+/// Puts the thresholds of so many points in a list.
+fn push_points(list: &mut Vec<i64>, points: i64) -> Result<(), AllocError> {
+    push_count(list, points.saturating_add(4))?;
+    list.push(points)?;
+    Ok(())
+}
+
+/// Puts the thresholds that a program's setting gives in a list.
+fn push_own(list: &mut Vec<i64>, setting: &Setting<'_>) -> Result<(), AllocError> {
+    for count in &counts(setting) {
+        push_count(list, *count)?;
+    }
+    match setting.kind {
+        Kind::Glyph { points, .. } => push_points(list, i64::from(points)),
+        Kind::Font | Kind::Cvt => Ok(()),
+    }
+}
+
 /// Makes the thresholds of a program.
 pub(crate) fn thresholds(alloc: Global, setting: &Setting<'_>) -> Result<Vec<i64>, AllocError> {
     let mut list = Vec::from_slice(alloc, &USUAL)?;
-    list.push(GREATEST)?;
-    let limits = &setting.limits;
-    push_count(&mut list, i64::from(limits.storage))?;
-    push_count(&mut list, i64::from(limits.functions))?;
-    push_count(&mut list, i64::from(limits.twilight))?;
-    push_count(&mut list, i64::from(limits.stack))?;
-    push_count(&mut list, i64::from(setting.cvt))?;
-    if let Kind::Glyph { points, .. } = setting.kind {
-        push_count(&mut list, i64::from(points).saturating_add(4))?;
-        list.push(i64::from(points))?;
-    }
+    push_own(&mut list, setting)?;
     Ok(list)
 }
 

@@ -22,7 +22,6 @@ pub(crate) struct Level {
 }
 
 /// The history of a state, as far as the search needs it.
-#[derive(Drop)]
 pub(crate) struct History {
     /// The origin of each symbol.
     pub origins: Vec<OriginNumber>,
@@ -34,6 +33,23 @@ pub(crate) struct History {
     hashes: Rc<Vec<u64>>,
     /// Up to which height these are right.
     hashed: usize,
+}
+
+// Written out, so that who holds a history proves in one step that its memory is given back.
+impl Drop for History {
+    fn drop(self) {
+        let History {
+            origins,
+            levels,
+            splits,
+            hashes,
+            hashed: _,
+        } = self;
+        drop(origins);
+        drop(levels);
+        drop(splits);
+        drop(hashes);
+    }
 }
 
 /// A state with its history.
@@ -62,7 +78,7 @@ pub(crate) fn copy_list<T: Copy>(list: &mut Vec<T>, other: &[T]) -> Result<(), A
 
 impl History {
     /// Makes the history of a state in which a program starts, and which has so many symbols.
-    pub(crate) fn start(alloc: Global, symbols: usize) -> Result<History, AllocError> {
+    fn start(alloc: Global, symbols: usize) -> Result<History, AllocError> {
         let level = Level { turn: 0, base: 0 };
         Ok(History {
             origins: vec![in alloc; NOWHERE; symbols]?,
@@ -73,8 +89,14 @@ impl History {
         })
     }
 
+    /// Makes the same in memory of its own.
+    pub(crate) fn boxed_start(alloc: Global, symbols: usize) -> Result<Box<History>, AllocError> {
+        let history = History::start(alloc, symbols)?;
+        Ok(Box::new(alloc, history)?)
+    }
+
     /// Makes a copy.
-    pub(crate) fn copied(&self, alloc: Global) -> Result<History, AllocError> {
+    fn copied(&self, alloc: Global) -> Result<History, AllocError> {
         Ok(History {
             origins: Vec::from_slice(alloc, self.origins.as_slice())?,
             levels: Vec::from_slice(alloc, self.levels.as_slice())?,
@@ -82,6 +104,12 @@ impl History {
             hashes: self.hashes.clone()?,
             hashed: self.hashed,
         })
+    }
+
+    /// Makes a copy in memory of its own.
+    pub(crate) fn boxed_copy(&self, alloc: Global) -> Result<Box<History>, AllocError> {
+        let copy = self.copied(alloc)?;
+        Ok(Box::new(alloc, copy)?)
     }
 
     /// Becomes a copy of others, in the memory that it has, where that is enough.

@@ -5,7 +5,7 @@ use crate::track::{History, Seen, weight};
 use std::alloc::{AllocError, Global};
 use std::cmp::Ordering;
 use std::mem;
-use tt_symbolic_check::Walk;
+use tt_symbolic_check::{Start, Walk};
 use tt_symbolic_state::State;
 
 /// How many histories are kept at most whose memory is used again.
@@ -55,13 +55,26 @@ pub(crate) struct Waiting<'m> {
 
 impl<'m> Waiting<'m> {
     /// Makes the list of no states, which uses the memory of these histories.
-    pub(crate) fn new(alloc: Global, histories: &'m mut Vec<Box<History>>) -> Waiting<'m> {
+    fn new(alloc: Global, histories: &'m mut Vec<Box<History>>) -> Waiting<'m> {
         Waiting {
             alloc,
             list: Vec::new(alloc),
             cells: 0,
             histories,
         }
+    }
+
+    /// Makes the list in which these starts wait.
+    pub(crate) fn of_starts(
+        alloc: Global,
+        histories: &'m mut Vec<Box<History>>,
+        starts: &[Start],
+    ) -> Result<Waiting<'m>, AllocError> {
+        let mut waiting = Waiting::new(alloc, histories);
+        for start in starts {
+            waiting.put_start(start.ranges.len())?;
+        }
+        Ok(waiting)
     }
 
     /// Returns how many wait.
@@ -100,7 +113,7 @@ impl<'m> Waiting<'m> {
                 copy.copy_from(history)?;
                 Ok(copy)
             }
-            None => Ok(Box::new(self.alloc, history.copied(self.alloc)?)?),
+            None => history.boxed_copy(self.alloc),
         }
     }
 
@@ -163,13 +176,19 @@ impl<'m> Waiting<'m> {
         Ok(index)
     }
 
+    /// Lets a part of a split state wait. Returns where in the list.
+    pub(crate) fn put_part(&mut self, walk: &Walk, track: Seen<'_>) -> Result<usize, AllocError> {
+        let history = self.copied(track.history)?;
+        self.put(walk, track.state, Purpose::Part, history)
+    }
+
     /// Lets a start wait that has so many symbols.
-    pub(crate) fn put_start(&mut self, symbols: usize) -> Result<(), AllocError> {
-        let history = History::start(self.alloc, symbols)?;
+    fn put_start(&mut self, symbols: usize) -> Result<(), AllocError> {
+        let history = History::boxed_start(self.alloc, symbols)?;
         self.list.push(Waiter {
             purpose: Purpose::Part,
             cells: 0,
-            history: Box::new(self.alloc, history)?,
+            history,
         })?;
         Ok(())
     }
@@ -191,14 +210,21 @@ impl<'m> Waiting<'m> {
         let purpose = Purpose::Meeting(signature);
         for index in (0..self.index_of(walk, track, purpose)).rev() {
             if self.order_for(walk, index, track, purpose) != Ordering::Equal {
-                return None;
+                break;
             }
-            let waiter = self.list.get(index)?;
-            if waiter.purpose == purpose {
+            if self.is_for(index, purpose) {
                 return Some(index);
             }
         }
         None
+    }
+
+    /// Whether the state at an index of the list waits for this.
+    fn is_for(&self, index: usize, purpose: Purpose) -> bool {
+        match self.list.get(index) {
+            Some(waiter) => waiter.purpose == purpose,
+            None => false,
+        }
     }
 
     /// Returns where in the list a state waits to become the head of this signature.
@@ -214,16 +240,19 @@ impl<'m> Waiting<'m> {
         self.list.get(index)
     }
 
-    /// Gives the state that waits at a place in the list another history.
+    /// Gives the state that waits at a place in the list another history. The memory of the one that
+    /// it had is kept, and that of a further one that is no longer needed.
     pub(crate) fn exchange(
         &mut self,
         index: usize,
         history: Box<History>,
+        further: Box<History>,
     ) -> Result<(), AllocError> {
         let old = match self.list.get_mut(index) {
             Some(waiter) => mem::replace(&mut waiter.history, history),
             None => history,
         };
-        self.spare(old)
+        self.spare(old)?;
+        self.spare(further)
     }
 }
