@@ -39,9 +39,9 @@ TIMES = TOP / "bench/build_times.txt"
 
 # Seconds between two looks at what is at work, between two lines of a log, and between two writings of a terminal's line.
 LOOK, PERIOD, ANEW = 0.5, 15.0, 2.0
-# The jobs of a crate beside which others are proved or could be, and of one that is alone: two take hardly more processor time together than one,
-# and more end sooner only where processors are idle otherwise.
-JOBS, JOBS_ALONE = 2, 4
+# The jobs of a crate at most: more take more processor time together, since each reads the libraries, and end hardly sooner. hintcheck took 366 seconds
+# by the clock with two and 363 with four, and 653 and 876 of the processor.
+JOBS = 2
 # How many times as fast a crate is proved with so many jobs as with one, and how many processors these keep at work, where they have them; and how
 # much more memory each further job takes. They are estimates, by which the plan is made.
 SPEED = {1: 1.0, 2: 1.7, 3: 2.0, 4: 2.2}
@@ -215,7 +215,7 @@ class Lanes:
             return None
         room = self.megabytes - sum(self.crates[name].holds(jobs) for name, jobs in at_work.items())
         first = self.crates[max(ready, key=self.behind.__getitem__)]
-        jobs = min(JOBS if at_work or len(ready) > 1 else JOBS_ALONE, self.lanes)
+        jobs = min(JOBS, self.lanes)
         while jobs > 1 and first.holds(jobs) > room:
             jobs -= 1
         return (first.name, jobs) if not at_work or first.holds(jobs) <= room else None
@@ -488,7 +488,7 @@ def confirm(crate: Crate, lanes: int) -> bool:
     log_file = crate.folder() / "out/build.log"
     with log_file.open("ab") as log:
         streams = {"stdin": subprocess.DEVNULL, "stdout": log, "stderr": subprocess.STDOUT}
-        process = subprocess.Popen(crate.command(min(lanes, JOBS_ALONE)), cwd=crate.folder(), **streams)
+        process = subprocess.Popen(crate.command(min(lanes, JOBS)), cwd=crate.folder(), **streams)
         status = waited_for(process, f"rt is at work on {crate.name}; {log_file} says how far")
     return crate.product().is_file() and (status == 0 or crate.kind is Kind.PROGRAM)
 
