@@ -48,7 +48,7 @@ int main(int count, char **words)
     fclose(file);
     if (hintcheck_version() != HINTCHECK_VERSION)
         return 8;
-    return (int)hintcheck_verdict(&request, NULL, 0, &answer);
+    return (int)hintcheck_verdict(&request, NULL, 0, NULL, 0, &answer);
 }
 """
 
